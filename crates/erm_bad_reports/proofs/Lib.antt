@@ -1,10 +1,12 @@
 pub mod OfCauses
 pub mod OfCutReports
+pub mod OfCutWaits
 pub mod OfDecided
 pub mod OfFlushed
 pub mod OfLaterCommits
 pub mod OfLines
 pub mod OfLog
+pub mod OfNearStamps
 pub mod OfOrder
 pub mod OfReach
 pub mod OfReaders

@@ -1,5 +1,5 @@
 -- Answers whose cause is a commit of a later line.
-use Rattle.std.proofs.Common.{◌≡◌, ◌≢◌, ℕ, ◌≤◌, List, [], ◌∷◌, Some, None, refl, inl, subst, arith}
+use Rattle.std.proofs.Common.{◌≡◌, ◌≢◌, ℕ, ◌≤◌, List, [], ◌∷◌, None, refl, inl, subst, arith}
 use Rattle.std.specs.Prelude.{IfSome}
 use Rattle.std.specs.FinMap.{empty}
 use Rattle.std.proofs.lemmas.List.Elements.{All-from_recursion}
@@ -7,7 +7,6 @@ use Rattle.erm_model.specs.Committed.{HasSnapshotReplies}
 use Rattle.erm_model.specs.Member.{◌∈◌}
 use Rattle.erm_report.specs.declared.answer.Answer.TheVariants as answer
 use Rattle.erm_report.specs.Printable.{FitsTypes}
-use Rattle.erm_script.specs.declared.script.Command.TheVariants as command
 use Rattle.erm_good_report.specs.Causes.{HasCauseOf, HasNoWindow, NamesTable}
 use Rattle.erm_good_report.specs.Stamps.{Told}
 use Rattle.erm_good_report.specs.Transactions.{Commits, Transaction, history_of, progress_of, said_of, stamp_of, stamp_of_ending, steps_of}

@@ -1,10 +1,9 @@
 -- Checkpoints that are told where none may be.
-use Rattle.std.proofs.Common.{◌≡◌, ◌≢◌, ℕ, ◌<◌, ◌≤◌, List, [], ◌∷◌, Some, refl, inl, inr, arith}
+use Rattle.std.proofs.Common.{◌≢◌, ◌≤◌, [], refl, inl, arith}
 use Rattle.std.specs.FinMap.{empty}
 use Rattle.std.proofs.lemmas.List.Elements.{All-from_recursion}
-use Rattle.erm_model.specs.Member.{◌∈◌}
 use Rattle.erm_report.specs.Printable.{FitsTypes}
-use Rattle.erm_good_report.specs.Transactions.{Transaction, history_of, said_of}
+use Rattle.erm_good_report.specs.Transactions.{history_of, said_of}
 use Rattle.erm_bad_reports.specs.Clauses.{BreaksAlone, Clause, Meets, lines_of, told_of, Fit, Answered, Closes, Phases, Stamps, Snapshots, Causes, Refusals, Serial, Ascending, Runs, LowEnds, HighEnds}
 use Rattle.erm_bad_reports.specs.LogCases.{checkpoint_beside_sealed, checkpoint_goes_back}
 use Rattle.erm_bad_reports.proofs.Reading.{owes_of}

@@ -1,5 +1,5 @@
 -- A begin, and a stamp, that are out of reach.
-use Rattle.std.proofs.Common.{◌≡◌, ◌≢◌, ◌≤◌, [], refl, inl, arith}
+use Rattle.std.proofs.Common.{◌≢◌, ◌≤◌, [], refl, inl, arith}
 use Rattle.std.specs.FinMap.{empty}
 use Rattle.std.proofs.lemmas.List.Elements.{All-from_recursion}
 use Rattle.erm_report.specs.Printable.{FitsTypes}

@@ -1,6 +1,6 @@
 -- Readers that are taken for causes.
 use Rattle.std.proofs.Common.{◌≡◌, ◌≢◌, ℕ, ◌<◌, ◌≤◌, true, false, List, [], ◌∷◌, Option, Some, None, refl, sym, ap, ◌∙◌, subst, inl, inr, arith}
-use Rattle.std.specs.Prelude.{◌⊎◌, IfSome}
+use Rattle.std.specs.Prelude.{IfSome}
 use Rattle.std.specs.FinMap.{empty}
 use Rattle.std.proofs.lemmas.List.Elements.{All-from_recursion}
 use Rattle.std.proofs.lemmas.List.Sorted.{IsPermutation-refl}
@@ -8,22 +8,22 @@ use Rattle.erm_model.specs.Committed.{HasSnapshotReplies, rank_of}
 use Rattle.erm_model.specs.Member.{◌∈◌}
 use Rattle.erm_model.specs.SerialOrder.{ComesBefore}
 use Rattle.erm_model.specs.declared.operation.Reply.TheVariants as reply
-use Rattle.erm_model.proofs.Keys.{value_at-empty}
+use Rattle.erm_model.proofs.Keys.{value_at-empty, value_at-insert}
 use Rattle.erm_report.specs.declared.answer.Answer.TheVariants as answer
 use Rattle.erm_report.specs.Printable.{FitsTypes}
 use Rattle.erm_script.specs.declared.script.Command.TheVariants as command
 use Rattle.erm_good_report.specs.Causes.{CommitsBeside, EitherWrites, HasCauseOf, WritesTable}
 use Rattle.erm_good_report.specs.Refusals.{Moment, WasOver, moment_at}
 use Rattle.erm_good_report.specs.Opening.{InTurn}
-use Rattle.erm_good_report.specs.Transactions.{Commits, Exchange, Unfinished, Transaction, history_of, is_writer, said_of, stamp_of, stamp_of_ending, steps_of}
+use Rattle.erm_good_report.specs.Transactions.{Commits, Excludes, Exchange, Unfinished, Transaction, history_of, is_writer, said_of, stamp_of, stamp_of_ending, steps_of}
 use Rattle.erm_good_report.specs.Stamps.{Told}
 use Rattle.erm_good_report.specs.Windows.{IsCommit}
 use Rattle.erm_good_report.proofs.Parts.{all_pairs_of_two, each_in}
-use Rattle.erm_good_report.proofs.Decided.{AreOverBelow, own_window, window_over}
-use Rattle.erm_bad_reports.specs.Clauses.{BreaksAlone, Case, Clause, Meets, lines_of, told_of, IsLowAt, IsHighAt, Fit, Answered, Closes, Phases, Stamps, Snapshots, Causes, Refusals, Serial, Ascending, Runs, LowEnds, HighEnds}
-use Rattle.erm_bad_reports.specs.ReaderCases.{reader_precedes, reader_waits}
+use Rattle.erm_good_report.proofs.Decided.{AreOverBelow, no_window_over, own_window, window_over}
+use Rattle.erm_bad_reports.specs.Clauses.{BreaksAlone, Clause, Meets, lines_of, told_of, IsLowAt, IsHighAt, Fit, Answered, Closes, Phases, Stamps, Snapshots, Causes, Refusals, Serial, Ascending, Runs, LowEnds, HighEnds}
+use Rattle.erm_bad_reports.specs.ReaderCases.{reader_excludes, reader_precedes, reader_waits}
 use Rattle.erm_bad_reports.proofs.Reading.{owes_of}
-use Rattle.erm_bad_reports.proofs.Tests.{first_snapshot, no_pair_ascends, phases_kept, refusals_kept, stamps_agree}
+use Rattle.erm_bad_reports.proofs.Tests.{byte, first_snapshot, no_pair_ascends, phases_kept, refusals_kept, stamps_agree}
 
 -- what the key is got by
 abbrev got : Exchange
@@ -165,3 +165,101 @@ waits_for_reader refusals =
 
 pub waits_breaks : BreaksAlone Refusals reader_waits
 waits_breaks = record { breaks = waits_for_reader; keeps = keeps_but_waits; refused = λ good. let owes = owes_of reader_waits refl refl good in waits_for_reader owes.refusals }
+
+-- ---- an exclusion whose predecessor stamp is another reader's
+abbrev excludes_told : List Transaction
+excludes_told = told_of reader_excludes
+
+excludes_from : (u : Transaction) → u ∈ excludes_told → (s p q : ℕ) → u.ending ≡ Commits s p q → 13 ≤ s
+excludes_from = each_in (λ u. (s p q : ℕ) → u.ending ≡ Commits s p q → 13 ≤ s) excludes_told
+    (λ s p q is. absurd (cc), (λ s p q is. let same : 13 ≡ s = cc in omega (arith, same), (λ s p q is. let same : 18 ≡ s = cc in omega (arith, same), tt)))
+
+-- both that committed were over before
+abbrev at_exclusion : Moment
+at_exclusion = moment_at InTurn reader_excludes.opening reader_excludes.script reader_excludes.report.answers excludes_told 8 (record { line = 9; session = 1; command = command.Commit })
+
+excludes_over : AreOverBelow at_exclusion 23
+excludes_over = each_in (λ u. (s p q : ℕ) → u.ending ≡ Commits s p q → s < 23 → WasOver at_exclusion u) excludes_told
+    (λ s p q is. absurd (cc), (λ s p q is less turn. (0, refl), (λ s p q is less turn. (0, refl), tt)))
+
+keeps_but_excludes : (other : Clause) → other ≢ Causes → Meets other reader_excludes
+keeps_but_excludes Fit not = All-from_recursion FitsTypes (lines_of reader_excludes) ((omega arith, omega arith), ((omega arith, omega arith), ((omega arith, omega arith), ((omega arith, omega arith), ((omega arith, tt), ((omega arith, tt), ((omega arith, tt), ((omega arith, (omega arith, omega arith, omega arith)), ((omega arith, (omega arith, omega arith, omega arith)), ((omega arith, (omega arith, omega arith, omega arith)), (omega arith, ((omega arith, omega arith, omega arith, omega arith), ((omega arith, omega arith, omega arith, omega arith), (omega arith, ((omega arith, omega arith, byte 1 (omega arith)), (tt, tt))))))))))))))))
+keeps_but_excludes Answered not = refl
+keeps_but_excludes Closes not = record { each = refl; fits = λ c (k, at). cc }
+keeps_but_excludes Phases not = phases_kept reader_excludes (tt, (tt, (tt, (tt, (tt, (tt, (tt, (tt, (tt, tt)))))))))
+keeps_but_excludes Stamps not = stamps_agree reader_excludes.opening excludes_told (said_of reader_excludes.script reader_excludes.report.answers) refl refl refl refl refl refl
+    (each_in (λ t. 13 ≤ t.begin) excludes_told (omega arith, (omega arith, (omega arith, tt))))
+    (each_in (λ t. IfSome (stamp_of t) (λ stamp. t.begin ≤ stamp)) excludes_told (omega arith, (omega arith, (omega arith, tt))))
+    (each_in (λ t. Told (λ a b. a ≡ b) t.sealed (stamp_of_ending t.ending)) excludes_told (tt, (tt, (tt, tt))))
+keeps_but_excludes Snapshots not = each_in (λ t. HasSnapshotReplies (history_of excludes_told) empty t.begin (steps_of t)) excludes_told (
+  first_snapshot (history_of excludes_told) empty 13 _ refl (ap reply.Value (sym (value_at-empty 0 1)), tt),
+  (
+    first_snapshot (history_of excludes_told) empty 13 _ refl (refl, tt),
+    (first_snapshot (history_of excludes_told) empty 13 _ refl (ap reply.Value (sym (value_at-empty 0 2)), tt), tt),
+  ),
+)
+keeps_but_excludes Causes not = absurd (not refl)
+keeps_but_excludes Refusals not = refusals_kept reader_excludes refl (
+  record { own = λ t is. tt; log = tt; unfilled = tt },
+  (
+    record { own = λ t is. tt; log = tt; unfilled = tt },
+    (
+      record { own = λ t is. tt; log = tt; unfilled = tt },
+      (
+        record { own = λ t is. tt; log = tt; unfilled = tt },
+        (
+          record { own = λ t is. tt; log = tt; unfilled = tt },
+          (
+            record { own = λ t is. tt; log = tt; unfilled = tt },
+            (
+              record { own = λ t is. own_window _ t _; log = tt; unfilled = tt },
+              (record { own = λ t is. own_window _ t _; log = tt; unfilled = tt }, (record { own = λ t is. no_window_over at_exclusion t 23 13 18 excludes_over; log = tt; unfilled = tt }, tt)),
+            ),
+          ),
+        ),
+      ),
+    ),
+  ),
+)
+keeps_but_excludes Serial not = record { same = IsPermutation-refl (history_of excludes_told); ascends = all_pairs_of_two (λ a b. ComesBefore (rank_of a) (rank_of b)) _ _ (inl (omega arith)) }
+keeps_but_excludes Ascending not = λ i j d less within. absurd (omega arith)
+keeps_but_excludes Runs not = record { run = ((refl, tt), ((ap reply.Value (sym (value_at-insert empty 0 1 (1 ∷ []) 0 2 ∙ value_at-empty 0 2)), tt), refl)) }
+keeps_but_excludes LowEnds not = each_in (λ t. IsLowAt t.ending excludes_told t) excludes_told (
+  λ table key stamp succ u touches commit less puts. absurd (late excludes_told excludes_from u stamp succ commit less),
+  (
+    λ table key stamp succ u touches commit less puts. absurd (late excludes_told excludes_from u stamp succ commit less),
+    (λ table key stamp succ u touches commit less puts. absurd (late excludes_told excludes_from u stamp succ commit less), tt),
+  ),
+)
+keeps_but_excludes HighEnds not = each_in (λ t. IsHighAt t.ending excludes_told t) excludes_told (
+  λ table key stamp succ v gets put next less. absurd (late excludes_told excludes_from put.by put.stamp put.succ put.commit put.below),
+  (
+    λ table key stamp succ v gets put next less. absurd (late excludes_told excludes_from put.by put.stamp put.succ put.commit put.below),
+    (λ table key stamp succ v gets put next less. absurd (late excludes_told excludes_from put.by put.stamp put.succ put.commit put.below), tt),
+  ),
+)
+
+-- the one that is excluded; and what the reader of the other key got that by
+abbrev excluded_reader : Transaction
+excluded_reader = record { session = 1; number = 1; begin = 13; lines = got ∷ []; sealed = None; ending = Excludes (Some 23) 13 18 }
+
+abbrev got_other : Exchange
+got_other = record { asked = command.Get 0 2; answer = answer.Replied (reply.Value None) }
+
+writer_stamp : (s p q : ℕ) → Commits 13 13 0 ≡ Commits s p q → 13 ≡ s
+writer_stamp s p q is = cc
+
+nobody_beside : (u : Transaction) → u ∈ excludes_told → CommitsBeside u excluded_reader 18 → ⊥
+nobody_beside = each_in (λ u. CommitsBeside u excluded_reader 18 → ⊥) excludes_told (
+  λ beside. let ending = beside.ending in cc ending,
+  (
+    λ beside. let same = writer_stamp 18 beside.succ beside.pred beside.ending in omega (arith, same),
+    (λ beside. either_reads _ excluded_reader (reads_only _ got_other refl refl) (reads_only excluded_reader got refl refl) beside.table beside.writes, tt),
+  ),
+)
+
+excluded_by_nobody : Meets Causes reader_excludes → ⊥
+excluded_by_nobody causes = let shut = causes excluded_reader (0, refl) in nobody_beside shut.before shut.before_in shut.pred_cause
+
+pub excludes_breaks : BreaksAlone Causes reader_excludes
+excludes_breaks = record { breaks = excluded_by_nobody; keeps = keeps_but_excludes; refused = λ good. let owes = owes_of reader_excludes refl refl good in excluded_by_nobody owes.causes }

@@ -1,12 +1,12 @@
 -- Answers that have no cause, one by one.
-use Rattle.std.proofs.Common.{◌≡◌, ◌≢◌, ◌+◌, ◌<◌, ◌≤◌, List, [], ◌∷◌, take, Some, None, refl, sym, subst, inl, arith}
+use Rattle.std.proofs.Common.{◌≡◌, ◌≢◌, ℕ, ◌+◌, ◌<◌, ◌≤◌, List, [], ◌∷◌, take, Some, None, refl, sym, subst, inl, arith}
 use Rattle.std.specs.List.{AllByRecursion}
 use Rattle.std.specs.Prelude.{IfSome}
 use Rattle.std.proofs.lemmas.List.Elements.{All-from_recursion}
 use Rattle.std.specs.FinMap.{empty}
 use Rattle.erm_model.specs.Committed.{HasSnapshotReplies, rank_of}
 use Rattle.erm_model.specs.Run.{RunsOne}
-use Rattle.erm_model.specs.declared.limits.TheConstants.{STOP}
+use Rattle.erm_model.specs.declared.limits.TheConstants.{MOST_CELLS, SESSIONS, STOP}
 use Rattle.erm_model.specs.Member.{◌∈◌}
 use Rattle.erm_model.specs.SerialOrder.{IsSerialOrder}
 use Rattle.erm_model.specs.declared.outcome.Phase.TheVariants.{Idle, Active}
@@ -21,7 +21,7 @@ use Rattle.erm_good_report.specs.Stamps.{StampsAgree, begin_told}
 use Rattle.erm_good_report.specs.Transactions.{Commits, Aborts, Exchange, Said, Transaction, history_of, said_of, steps_of}
 use Rattle.erm_good_report.proofs.Parts.{each_in}
 use Rattle.erm_bad_reports.specs.Clauses.{BreaksAlone, Clause, Meets, lines_of, told_of, IsLowAt, IsHighAt, Fit, Answered, Closes, Phases, Stamps, Snapshots, Causes, Refusals, Serial, Ascending, Runs, LowEnds, HighEnds}
-use Rattle.erm_bad_reports.specs.Refused.{alone, answers_alone, before_abort, answers_before_abort, before_settle, answers_before_settle, after_commit, answers_after_commit, newer_than_nothing, oids_beyond, reads_alone}
+use Rattle.erm_bad_reports.specs.Refused.{NoneTellsCells, alone, answers_alone, before_abort, answers_before_abort, before_settle, answers_before_settle, after_commit, answers_after_commit, newer_than_nothing, oids_beyond, reads_alone}
 use Rattle.erm_bad_reports.proofs.Reading.{owes_of}
 use Rattle.erm_bad_reports.proofs.Tests.{in_none, in_one, no_commit_ordered, one_commit_ordered, no_pair_ascends, stamps_agree, first_snapshot, phases_kept, low_ends, high_ends}
 
@@ -131,7 +131,10 @@ before_abort_break = (
       breaks_before_abort _ tt tt tt (record { each = refl; fits = λ c (k, at). cc }) (stamps_agree _ _ _ refl refl refl refl refl refl (in_one _ _ (omega arith)) (in_one _ _ tt) (in_one _ _ tt)) refl refl (λ refusals. let many : 128 < 26 = (refusals.each 1 _ _ refl refl).own _ (_, refl, refl) in omega (arith, many)),
       (
         breaks_before_abort _ (omega arith) tt tt (record { each = refl; fits = λ c (k, at). cc }) (stamps_agree _ _ _ refl refl refl refl refl refl (in_one _ _ (omega arith)) (in_one _ _ tt) (in_one _ _ tt)) refl refl (λ refusals. let many : ((65536 ≤ 65536) × (65536 ≤ 16777266)) × (65536 < 16410) = (refusals.each 1 _ _ refl refl).own _ (_, refl, refl) in omega (arith, many.1)),
-        (breaks_before_abort _ (omega arith) tt tt (record { each = refl; fits = λ c (k, at). cc }) (stamps_agree _ _ _ refl refl refl refl refl refl (in_one _ _ (omega arith)) (in_one _ _ tt) (in_one _ _ tt)) refl refl (λ refusals. let many : ((16384 ≤ 16384) × (16384 ≤ 16434)) × (16384 < 30) = (refusals.each 1 _ _ refl refl).own _ (_, refl, refl) in omega (arith, many.1)), tt),
+        (
+          breaks_before_abort _ (omega arith) tt tt (record { each = refl; fits = λ c (k, at). cc }) (stamps_agree _ _ _ refl refl refl refl refl refl (in_one _ _ (omega arith)) (in_one _ _ tt) (in_one _ _ tt)) refl refl (λ refusals. let many : ((65536 ≤ 20000000) × (20000000 ≤ 16777266)) × (65536 < 16410) = (refusals.each 1 _ _ refl refl).own _ (_, refl, refl) in omega (arith, many.0.1)),
+          (breaks_before_abort _ (omega arith) tt tt (record { each = refl; fits = λ c (k, at). cc }) (stamps_agree _ _ _ refl refl refl refl refl refl (in_one _ _ (omega arith)) (in_one _ _ tt) (in_one _ _ tt)) refl refl (λ refusals. let many : ((16384 ≤ 16384) × (16384 ≤ 16434)) × (16384 < 30) = (refusals.each 1 _ _ refl refl).own _ (_, refl, refl) in omega (arith, many.1)), tt),
+        ),
       ),
     ),
   ),
@@ -273,3 +276,11 @@ is_beyond refusals = let many : ((16384 ≤ 20000) × (20000 ≤ 16434)) × (163
 
 pub beyond_breaks : BreaksAlone Refusals oids_beyond
 beyond_breaks = record { breaks = is_beyond; keeps = keeps_but_counted; refused = λ good. let owes = owes_of oids_beyond refl refl good in is_beyond owes.refusals }
+
+-- ---- cells that are full far above what there may be
+pub none_tells_cells : (drawn : ℕ) → MOST_CELLS + SESSIONS + 2 < drawn → NoneTellsCells drawn
+none_tells_cells drawn beyond mode opening names script lines good i l own at current answered =
+    let owes = good.owes in
+    let many = (owes.refusals.each i l _ at answered).own _ (own, current, refl) in
+    let most : drawn ≤ MOST_CELLS + SESSIONS + 2 = many.0.1 in
+    omega (arith, beyond, most)

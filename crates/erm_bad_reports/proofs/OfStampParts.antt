@@ -22,7 +22,7 @@ use Rattle.erm_bad_reports.proofs.Reading.{owes_of}
 use Rattle.erm_bad_reports.proofs.Tests.{in_one, less_from, no_commit_ordered, one_commit_ordered, no_pair_ascends, first_snapshot, low_ends, high_ends, phases_kept, refusals_kept, flushed_begin, flushed_drawn, stamps_ascend, stamps_begin, stamps_differ, stamps_drawn, begins_ascend, begins_stop, untold_after, untold_before}
 
 -- a place of a report, where one is asked for
-any_place : Said
+pub any_place : Said
 any_place = record { session = 0; asked = None; answer = answer.Aborted }
 
 -- ---- a begin within the opening's block

@@ -23,7 +23,7 @@ use Rattle.erm_bad_reports.proofs.Reading.{owes_of}
 use Rattle.erm_bad_reports.proofs.Tests.{byte, first_snapshot, less_from, most_from, phases_kept, refusals_kept, begins_stop, untold_after, untold_before}
 
 -- what is so of each two lines of one session, by a test
-in_time : (P : ℕ → ℕ → Type 0) (test : ℕ → ℕ → Bool) → ((m n : ℕ) → test m n ≡ true → P m n) → (first later : Said → Option ℕ) → (said : List Said)
+pub in_time : (P : ℕ → ℕ → Type 0) (test : ℕ → ℕ → Bool) → ((m n : ℕ) → test m n ≡ true → P m n) → (first later : Said → Option ℕ) → (said : List Said)
     → pairs_pass (λ a b. if a.session == b.session then told_pass test (first a) (later b) else true) said ≡ true → AllInTime AtOnce (λ a b. Told P (first a) (later b)) said
 in_time P test sound first later said pass =
     all_pairs_from_test (λ a b. is_before AtOnce a.session b.session ≡ true → Told P (first a) (later b)) (λ a b. if a.session == b.session then told_pass test (first a) (later b) else true)

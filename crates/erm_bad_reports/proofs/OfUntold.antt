@@ -1,5 +1,5 @@
 -- A commit that waits: its stamp below its own begin, below a begin before it, and above a begin behind it.
-use Rattle.std.proofs.Common.{◌≡◌, ◌≢◌, ◌<◌, ◌≤◌, ℕ, zero, suc, List, [], ◌∷◌, Some, None, refl, sym, ap, ◌∙◌, inl, subst, arith}
+use Rattle.std.proofs.Common.{◌≡◌, ◌≢◌, ◌<◌, ◌≤◌, ℕ, zero, suc, List, [], ◌∷◌, Option, Some, None, refl, sym, ap, ◌∙◌, inl, subst, arith}
 use Rattle.std.specs.FinMap.{empty}
 use Rattle.std.specs.Prelude.{IfSome}
 use Rattle.std.proofs.lemmas.List.Elements.{All-from_recursion}
@@ -7,16 +7,14 @@ use Rattle.std.proofs.lemmas.List.Sorted.{IsPermutation-refl}
 use Rattle.erm_model.specs.Committed.{HasSnapshotReplies, below, rank_of}
 use Rattle.erm_model.specs.Member.{◌∈◌}
 use Rattle.erm_model.specs.SerialOrder.{ComesBefore, IsSerialOrder}
-use Rattle.erm_report.specs.declared.answer.Answer.{Answer}
 use Rattle.erm_report.specs.declared.answer.Answer.TheVariants as answer
 use Rattle.erm_report.specs.Printable.{FitsTypes}
-use Rattle.erm_script.specs.declared.script.Command.{Command}
 use Rattle.erm_script.specs.declared.script.Command.TheVariants as command
 use Rattle.erm_good_report.specs.Causes.{HasCauseOf, NamesTable}
 use Rattle.erm_good_report.specs.Opening.{InTurn}
-use Rattle.erm_good_report.specs.Refusals.{HasCause, IsOwn, IsSealedWith, MayHaveStamp, Moment, current_of}
+use Rattle.erm_good_report.specs.Refusals.{HasCause, IsSealedWith, MayHaveStamp, Moment, current_of}
 use Rattle.erm_good_report.specs.Stamps.{DrawsUntold, Told}
-use Rattle.erm_good_report.specs.Transactions.{Commits, Exchange, Transaction, Unfinished, history_of, said_of, stamp_of, stamp_of_ending, steps_of, with_line}
+use Rattle.erm_good_report.specs.Transactions.{Exchange, Transaction, Unfinished, history_of, said_of, stamp_of, stamp_of_ending, steps_of, with_line}
 use Rattle.erm_good_report.specs.Windows.{HasLine, PutsKey}
 use Rattle.erm_good_report.proofs.Decided.{own_window}
 use Rattle.erm_good_report.proofs.Parts.{all_pairs_of_two, each_in}
@@ -39,9 +37,9 @@ no_put n table key e (suc k, at) puts = cc
 no_line : (e : Exchange) → e ∈ [] → ⊥
 no_line e (k, at) = cc
 
--- the second session waits for the first one
-abbrev pub sealed_first : Transaction
-sealed_first = record { session = 1; number = 1; begin = 13; lines = tidies 1; sealed = Some 13; ending = Unfinished }
+-- the second session waits for the first one, of whose seal a line told this stamp, or none did
+abbrev pub sealed_first : Option ℕ → Transaction
+sealed_first told = record { session = 1; number = 1; begin = 13; lines = tidies 1; sealed = told; ending = Unfinished }
 
 abbrev pub waits_now : ℕ → Transaction
 waits_now begin = record { session = 2; number = 1; begin = begin; lines = tidies 2; sealed = None; ending = Unfinished }
@@ -49,16 +47,16 @@ waits_now begin = record { session = 2; number = 1; begin = begin; lines = tidie
 its_own : (begin : ℕ) (u : Transaction) → Some (waits_now begin) ≡ Some u → waits_now begin ≡ u
 its_own begin u is = cc
 
-pub seat_wait : (m : Moment) (begin stamp : ℕ) → 13 < stamp → m.mode ≡ InTurn → m.session ≡ 2 → current_of m m.session ≡ Some (waits_now begin) → IsSealedWith m 1 13 sealed_first
+pub first_waited : (seal : Option ℕ) (m : Moment) (begin stamp : ℕ) → 13 < stamp → m.mode ≡ InTurn → m.session ≡ 2 → current_of m m.session ≡ Some (waits_now begin) → IsSealedWith m 1 13 (sealed_first seal)
     → ((t : Transaction) → t.session ≡ 2 → MayHaveStamp m t stamp) → HasCause m command.Commit (answer.WaitSeat 1 13)
-seat_wait m begin stamp above in_turn session current sealed told = record {
+first_waited seal m begin stamp above in_turn session current sealed told = record {
   own = λ t is.
       let own = its_own begin is.0 (sym current ∙ is.1) in
       let whole : with_line (Some command.Commit) (answer.WaitSeat 1 13) (waits_now begin) ≡ t = ap (λ u. with_line (Some command.Commit) (answer.WaitSeat 1 13) u) own ∙ sym is.2 in (
         in_turn,
         record {
           another = λ same. let no : 1 ≡ 2 = same ∙ session in omega (arith, no);
-          other = sealed_first;
+          other = sealed_first seal;
           sealed = sealed;
           own = stamp;
           own_is = told t (sym (ap (λ (u : Transaction). u.session) whole));
@@ -72,6 +70,11 @@ seat_wait m begin stamp above in_turn session current sealed told = record {
   log = tt;
   unfilled = tt;
 }
+
+-- where a line told it
+pub seat_wait : (m : Moment) (begin stamp : ℕ) → 13 < stamp → m.mode ≡ InTurn → m.session ≡ 2 → current_of m m.session ≡ Some (waits_now begin) → IsSealedWith m 1 13 (sealed_first (Some 13))
+    → ((t : Transaction) → t.session ≡ 2 → MayHaveStamp m t stamp) → HasCause m command.Commit (answer.WaitSeat 1 13)
+seat_wait = first_waited (Some 13)
 
 -- ---- its stamp below its begin
 both_ordered_begun : IsSerialOrder rank_of (history_of (told_of stamp_below_begin)) (history_of (told_of stamp_below_begin))

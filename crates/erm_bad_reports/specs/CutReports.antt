@@ -18,7 +18,9 @@ use Rattle.erm_good_report.specs.Phases.{Closed, PhasesAgree}
 use Rattle.erm_good_report.specs.Refusals.{HasCause, moment_at}
 use Rattle.erm_good_report.specs.Stamps.{StampsAgree}
 use Rattle.erm_good_report.specs.Transactions.{Transaction, history_of, said_of, steps_of, transactions_of}
-use Rattle.erm_bad_reports.specs.Cases.{a_line, asked_from, of_log, one_name, opening_at}
+use Rattle.erm_bad_reports.specs.Cases.{a_line, asked_from, b_line, of_log, one_name, opening_at}
+use Rattle.erm_bad_reports.specs.Clauses.{Case, Causes, Meets, Phases, Refusals, Snapshots}
+use Rattle.erm_bad_reports.specs.StampParts.{MeetsPart, Part, c_line, three_names}
 
 -- a script that was run in turn until the disk failed, the answers so far, the line at which it failed, if it was one, and the sessions closed
 -- unseen
@@ -67,6 +69,24 @@ pub record OwesAllBut (place : ℕ) (k : CutCase) : Type 0 where
   pub causes : (t : Transaction) → t ∈ told_of_cut k → HasCauseOf t.ending (told_of_cut k) t
   pub refusals : (i : ℕ) (l : ScriptLine) (a : Answer) → slice_get k.script i ≡ Some l → slice_get k.answers i ≡ Some a → i ≢ place
       → HasCause (moment_at InTurn k.opening k.script k.answers (told_of_cut k) i l) l.command a
+
+-- its parts, beside no order and no pairs, of which its lines tell nothing
+abbrev pub whole_of : CutCase → Case
+whole_of k = record {
+  mode = InTurn;
+  opening = k.opening;
+  names = k.names;
+  script = k.script;
+  report = record { answers = k.answers; closed = k.closed; order = []; pairs = [] };
+}
+
+-- it has all that it owes to its answers but this part of what it is that stamps agree
+pub record OwesAllButPart (part : Part) (k : CutCase) : Type 0 where
+  pub phases : Meets Phases (whole_of k)
+  pub parts : (other : Part) → other ≢ part → MeetsPart other (whole_of k)
+  pub snapshots : Meets Snapshots (whole_of k)
+  pub causes : Meets Causes (whole_of k)
+  pub refusals : Meets Refusals (whole_of k)
 
 -- its lines are no report that was cut off, whatever parts they are read as
 abbrev pub IsNoCutReport : CutCase → Type 0
@@ -136,5 +156,16 @@ unfilled_below = record {
   script = asked_from 1 (a_line command.Begin ∷ a_line command.Commit ∷ of_log command.Flush ∷ of_log command.Checkpoint ∷ of_log command.Flush ∷ []);
   answers = answer.Began 13 ∷ answer.WaitRing 13 ∷ answer.Flushed 18 ∷ answer.Unfilled 13 ∷ [];
   fault = Some (record { line = 5; session = 0; command = command.Flush });
+  closed = [];
+}
+
+-- A commit waits for the ring, and another one for its session, with its stamp, which no line decides. A third session begins at this stamp.
+abbrev pub begun_at_a_wait : CutCase
+begun_at_a_wait = record {
+  opening = opening_at 8;
+  names = three_names;
+  script = asked_from 1 (a_line command.Begin ∷ b_line command.Begin ∷ a_line (command.Tidy 0 1) ∷ b_line (command.Tidy 0 2) ∷ a_line command.Commit ∷ b_line command.Commit ∷ c_line command.Begin ∷ []);
+  answers = answer.Began 13 ∷ answer.Began 13 ∷ answer.Cut 0 ∷ answer.Cut 0 ∷ answer.WaitRing 13 ∷ answer.WaitSeat 1 13 ∷ answer.Began 13 ∷ [];
+  fault = None;
   closed = [];
 }

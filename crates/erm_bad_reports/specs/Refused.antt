@@ -1,12 +1,17 @@
 -- Small reports with an answer that has no cause: what surrounds the answer, and a list of the answers.
-use Rattle.std.specs.Prelude.{List, [], ◌∷◌}
+use Rattle.std.specs.Prelude.{◌≡◌, ℕ, List, [], ◌∷◌, take, Some}
+use Rattle.std.specs.List.{slice_get}
 use Rattle.erm_model.specs.Database.{at}
 use Rattle.erm_model.specs.declared.operation.Op.TheVariants as op
 use Rattle.erm_model.specs.declared.operation.Reply.TheVariants as reply
 use Rattle.erm_report.specs.declared.answer.Answer.{Answer}
 use Rattle.erm_report.specs.declared.answer.Answer.TheVariants as answer
+use Rattle.erm_report.specs.declared.line.Line.{Line}
 use Rattle.erm_script.specs.declared.script.Command.TheVariants as command
-use Rattle.erm_good_report.specs.Transactions.{Exchange}
+use Rattle.erm_script.specs.declared.script.ScriptLine.{ScriptLine}
+use Rattle.erm_good_report.specs.GoodReport.{IsGoodReport}
+use Rattle.erm_good_report.specs.Opening.{Mode, Opening}
+use Rattle.erm_good_report.specs.Transactions.{Exchange, Transaction, progress_of, said_of}
 use Rattle.erm_bad_reports.specs.Clauses.{Case}
 use Rattle.erm_bad_reports.specs.Cases.{a_line, b_line, case_of, commit_by, one_name, opening_at, two_names}
 
@@ -32,13 +37,14 @@ answers_alone =
 abbrev pub before_abort : Exchange → Case
 before_abort r = case_of one_name (a_line command.Begin ∷ a_line r.asked ∷ a_line command.Abort ∷ []) (answer.Began 13 ∷ r.answer ∷ answer.Aborted ∷ []) [] []
 
--- the second session is not sealed; one line reads, claims and makes fewer than the most
+-- the second session is not sealed; one line reads, claims and makes fewer than the most; and no world has so many cells
 abbrev pub answers_before_abort : List Exchange
 answers_before_abort =
     record { asked = command.Get 0 1; answer = answer.WaitSeat 2 5 }
     ∷ record { asked = command.Get 0 1; answer = answer.ReadsFull }
     ∷ record { asked = command.Put 0 1 (1 ∷ []); answer = answer.WritesFull }
     ∷ record { asked = command.Put 0 1 (1 ∷ []); answer = answer.CellsFull 65536 }
+    ∷ record { asked = command.Put 0 1 (1 ∷ []); answer = answer.CellsFull 20000000 }
     ∷ record { asked = command.Put 0 1 (1 ∷ []); answer = answer.OidsFull 16384 }
     ∷ []
 
@@ -83,3 +89,9 @@ reads_alone = record (before_abort (record { asked = command.Get 0 1; answer = a
 -- objects may be full, but not so far above their limit
 abbrev pub oids_beyond : Case
 oids_beyond = record (before_abort (record { asked = command.Put 0 1 (1 ∷ []); answer = answer.OidsFull 20000 })) { opening = record (opening_at 8) { first = 16380 } }
+
+-- No good report answers a line of a transaction that cells are full at this number, whatever its lines claim.
+abbrev pub NoneTellsCells : ℕ → Type 0
+NoneTellsCells drawn = (mode : Mode) (opening : Opening) (names : List (List ℕ)) (script : List ScriptLine) (lines : List Line) (good : IsGoodReport mode opening names script lines)
+    → (i : ℕ) (l : ScriptLine) (own : Transaction) → slice_get script i ≡ Some l → (progress_of l.session (take i (said_of script good.report.answers))).current ≡ Some own
+    → slice_get good.report.answers i ≡ Some (answer.CellsFull drawn) → ⊥

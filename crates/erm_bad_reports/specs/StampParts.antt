@@ -1,5 +1,5 @@
 -- What it is that stamps agree, part by part, and small reports of which each breaks one part alone.
-use Rattle.std.specs.Prelude.{◌≡◌, ◌≢◌, true, ℕ, ◌+◌, ◌*◌, ◌^◌, ◌<◌, ◌≤◌, List, [], ◌∷◌, ◌++◌, Some, None, IfSome, codes}
+use Rattle.std.specs.Prelude.{◌≡◌, ◌≢◌, true, ℕ, ◌+◌, ◌^◌, ◌<◌, ◌≤◌, List, [], ◌∷◌, ◌++◌, Some, None, IfSome, codes}
 use Rattle.std.specs.List.{AllPairs, slice_get}
 use Rattle.erm_model.specs.Database.{at}
 use Rattle.erm_model.specs.Member.{◌∈◌}
@@ -114,6 +114,12 @@ drawn_below = case_of two_names (a_line command.Begin ∷ a_line command.Commit 
     (answer.Began 13 ∷ answer.Committed 13 13 0 ∷ answer.Began 18 ∷ answer.Began 18 ∷ answer.Committed 23 23 0 ∷ answer.Committed 18 18 0 ∷ [])
     (commit_by 1 1 13 13 13 0 [] ∷ commit_by 1 2 18 18 18 0 [] ∷ commit_by 2 1 18 23 23 0 [] ∷ []) []
 
+-- the later of two commits has a greater stamp, but one within the block of the earlier one
+abbrev pub drawn_within : Case
+drawn_within = case_of two_names (a_line command.Begin ∷ b_line command.Begin ∷ a_line command.Commit ∷ b_line command.Commit ∷ [])
+    (answer.Began 13 ∷ answer.Began 13 ∷ answer.Committed 13 13 0 ∷ answer.Committed 15 15 0 ∷ [])
+    (commit_by 1 1 13 13 13 0 [] ∷ commit_by 2 1 13 15 15 0 [] ∷ []) []
+
 -- a checkpoint tells a place that is above the begin after it
 abbrev pub begun_below_the_flushed : Case
 begun_below_the_flushed = case_of one_name (of_log command.Checkpoint ∷ a_line command.Begin ∷ a_line command.Abort ∷ [])
@@ -132,4 +138,12 @@ stamp_of_two = record (case_of (codes "a" ∷ codes "b" ∷ codes "c" ∷ [])
     (answer.Began 13 ∷ answer.Replied reply.Done ∷ answer.Committed 13 13 0 ∷ answer.Began 13 ∷ answer.Replied (reply.Value None) ∷ answer.Excluded 18 13 13
     ∷ answer.Began 13 ∷ answer.Committed 18 18 0 ∷ [])
     (commit_by 1 1 13 13 13 0 (record { op = op.Put 0 1 (1 ∷ []); reply = reply.Done } ∷ []) ∷ commit_by 3 1 13 18 18 0 [] ∷ [])
+    (record { key = at 0 1; value = 1 ∷ [] } ∷ [])) { mode = AtOnce }
+
+-- of sessions that run beside one another, one is told the stamp of a newer commit of another one, and begins again at it
+abbrev pub begun_at_a_newer : Case
+begun_at_a_newer = record (case_of two_names
+    (a_line command.Begin ∷ a_line (command.Put 0 1 (1 ∷ [])) ∷ a_line command.Commit ∷ b_line command.Begin ∷ b_line (command.Put 0 1 (2 ∷ [])) ∷ b_line command.Begin ∷ b_line command.Abort ∷ [])
+    (answer.Began 13 ∷ answer.Replied reply.Done ∷ answer.Committed 13 13 0 ∷ answer.Began 13 ∷ answer.Newer 13 ∷ answer.Began 13 ∷ answer.Aborted ∷ [])
+    (commit_by 1 1 13 13 13 0 (record { op = op.Put 0 1 (1 ∷ []); reply = reply.Done } ∷ []) ∷ [])
     (record { key = at 0 1; value = 1 ∷ [] } ∷ [])) { mode = AtOnce }

@@ -2,7 +2,8 @@
 ghost use Rattle.erm_good_report.specs.GoodReport.{IsGoodReport};
 ghost use Rattle.erm_good_report.specs.Opening.{InTurn, Opening};
 ghost use Rattle.erm_report.specs.declared.answer.Answer.TheVariants as answer;
-ghost use Rattle.std.specs.Prelude.{[]};
+ghost use Rattle.std.specs.Prelude.{ℕ, [], ◌+◌, ◌<◌};
+ghost use Rattle.erm_model.specs.declared.limits.TheConstants.{MOST_CELLS, SESSIONS};
 ghost use Rattle.erm_bad_reports.specs.Clauses.{BreaksAlone, MeetsByLine, Fit, Answered, Closes, Phases, Stamps, Snapshots, Causes, Refusals, Serial, Ascending, Runs, LowEnds, HighEnds};
 ghost use Rattle.erm_bad_reports.specs.Cases.{commit_left_out, number_too_great, line_left_out, left_open, got_without_begin};
 ghost use Rattle.erm_bad_reports.specs.Cases.{begun_too_early, future_was_read, begun_out_of_reach, drawn_out_of_reach, waited_out_of_reach};
@@ -10,12 +11,12 @@ ghost use Rattle.erm_bad_reports.specs.Cases.{value_from_nowhere, predecessor_un
 ghost use Rattle.erm_bad_reports.specs.Cases.{order_turned_round, pairs_turned_round, pair_from_nowhere};
 ghost use Rattle.erm_bad_reports.specs.Cases.{predecessor_too_low, successor_too_high};
 ghost use Rattle.erm_bad_reports.specs.CauseCases.{decided_later, excluded_later, excluded_with, successor_unknown, window_closed};
-ghost use Rattle.erm_bad_reports.specs.CutReports.{AtLog, BreaksCutAlone, FaultAt, Fitting, IsNoCutReport, Once, OwesAllBut, Owing, Unseen};
-ghost use Rattle.erm_bad_reports.specs.CutReports.{closed_too_early, closed_twice, cut_number_too_great, cut_without_begin, fault_at_begin, fault_outside, unfilled_below};
+ghost use Rattle.erm_bad_reports.specs.CutReports.{AtLog, BreaksCutAlone, FaultAt, Fitting, IsNoCutReport, Once, OwesAllBut, OwesAllButPart, Owing, Unseen};
+ghost use Rattle.erm_bad_reports.specs.CutReports.{begun_at_a_wait, closed_too_early, closed_twice, cut_number_too_great, cut_without_begin, fault_at_begin, fault_outside, unfilled_below};
 ghost use Rattle.erm_bad_reports.specs.LogCases.{checkpoint_beside_sealed, checkpoint_goes_back};
-ghost use Rattle.erm_bad_reports.specs.ReaderCases.{reader_precedes, reader_waits};
-ghost use Rattle.erm_bad_reports.specs.Refused.{alone, answers_alone, before_abort, answers_before_abort, before_settle, answers_before_settle, after_commit, answers_after_commit, newer_than_nothing, oids_beyond, reads_alone, refused_first};
-ghost use Rattle.erm_bad_reports.specs.StampParts.{BreaksPartAlone, Differ, Least, Begun, Sealed, Begins, Draws, Ascends, Flushes, FlushesFirst, BeginsAscend, Stops, UntoldAfter, UntoldBefore, stamp_below_begin, sealed_with_another, begun_at_a_commit, drawn_below, begun_below_the_flushed, drawn_below_the_flushed, stamp_of_two, begins_fall, begun_at_the_stop, begun_above_untold, begun_below_untold};
+ghost use Rattle.erm_bad_reports.specs.ReaderCases.{reader_excludes, reader_precedes, reader_waits};
+ghost use Rattle.erm_bad_reports.specs.Refused.{NoneTellsCells, alone, answers_alone, before_abort, answers_before_abort, before_settle, answers_before_settle, after_commit, answers_after_commit, newer_than_nothing, oids_beyond, reads_alone, refused_first};
+ghost use Rattle.erm_bad_reports.specs.StampParts.{BreaksPartAlone, Differ, Least, Begun, Sealed, Begins, Draws, Ascends, Flushes, FlushesFirst, BeginsAscend, Stops, UntoldAfter, UntoldBefore, stamp_below_begin, sealed_with_another, begun_at_a_commit, begun_at_a_newer, drawn_below, drawn_within, begun_below_the_flushed, drawn_below_the_flushed, stamp_of_two, begins_fall, begun_at_the_stop, begun_above_untold, begun_below_untold};
 ghost use Rattle.std.specs.List.{AllByRecursion};
 
 /// Lines: a line is missing; a number doesn't fit its type; an answer is missing; a session that is active isn't closed; a get is answered
@@ -35,17 +36,19 @@ pub fn stamps_are_needed()
 {}
 
 /// Each part of stamps that agree: one stamp of two; a begin within the opening's block; a stamp below its begin; another stamp than the seal's; a begin at
-/// a commit told before; an aborted transaction that read the future; a stamp below one drawn before; a begin below a place told flushed before; and a
-/// stamp below it; a begin below an earlier one; a begin where the log stops; a begin above the stamp of a commit that waits, before its line; and one
-/// below it, behind.
+/// a commit told before, or, beside one another, at another session's that a refusal named; an aborted transaction that read the future; a stamp below one
+/// drawn before, or within its block; a begin below a place told flushed before; and a stamp below it; a begin below an earlier one; a begin where the log
+/// stops; a begin above the stamp of a commit that waits, before its line; and one below it, behind.
 pub fn parts_of_stamps_are_needed()
     ensures differ { BreaksPartAlone Differ stamp_of_two }
     ensures least { BreaksPartAlone Least begun_too_early }
     ensures begun { BreaksPartAlone Begun stamp_below_begin }
     ensures sealed { BreaksPartAlone Sealed sealed_with_another }
     ensures begins { BreaksPartAlone Begins begun_at_a_commit }
+    ensures begins_newer { BreaksPartAlone Begins begun_at_a_newer }
     ensures draws { BreaksPartAlone Draws future_was_read }
     ensures ascends { BreaksPartAlone Ascends drawn_below }
+    ensures ascends_near { BreaksPartAlone Ascends drawn_within }
     ensures flushes { BreaksPartAlone Flushes begun_below_the_flushed }
     ensures flushes_first { BreaksPartAlone FlushesFirst drawn_below_the_flushed }
     ensures begins_ascend { BreaksPartAlone BeginsAscend begins_fall }
@@ -72,18 +75,20 @@ pub fn replies_are_needed()
 
 /// Causes of windows: a commit's successor stamp is that of no commit; a window is closed, and its transaction commits; of an exclusion the
 /// predecessor stamp, and then the successor stamp, is that of no commit; and the predecessor stamp of a transaction that only reads is that of
-/// another one that only reads.
+/// another one that only reads, where it commits, and where it is excluded.
 pub fn causes_of_windows_are_needed()
     ensures successor { BreaksAlone Causes successor_unknown }
     ensures opens { BreaksAlone Causes window_closed }
     ensures excluded_predecessor { BreaksAlone Causes (excluded_with 13 14) }
     ensures excluded_successor { BreaksAlone Causes (excluded_with 9 13) }
     ensures read_beside { BreaksAlone Causes reader_precedes }
+    ensures excluded_beside { BreaksAlone Causes reader_excludes }
 {}
 
 /// Causes of refusals: each of these answers has none where it stands; that a newer version, or a closed window, is one of a commit of a
-/// later line is none; a commit, and an exclusion, has a cause that is decided at a later line; reads are full though the own lines read few; a counter of objects is told far above its limit; a transaction that only reads waits for another one that only reads; a checkpoint is told beside a transaction that is
-/// sealed, and below the place that an earlier one told.
+/// later line is none; a commit, and an exclusion, has a cause that is decided at a later line; reads are full though the own lines read few; a counter of
+/// objects is told far above its limit, and one of cells, however many the lines claim; a transaction that only reads waits for another one that only reads;
+/// a checkpoint is told beside a transaction that is sealed, and below the place that an earlier one told.
 pub fn causes_of_refusals_are_needed()
     ensures alone { AllByRecursion (λ r. BreaksAlone Refusals (alone r)) answers_alone }
     ensures active { AllByRecursion (λ r. BreaksAlone Refusals (before_abort r)) answers_before_abort }
@@ -96,6 +101,7 @@ pub fn causes_of_refusals_are_needed()
     ensures excluded_later { BreaksAlone Refusals excluded_later }
     ensures reads_alone { BreaksAlone Refusals reads_alone }
     ensures oids_beyond { BreaksAlone Refusals oids_beyond }
+    ensures cells_beyond { (drawn : ℕ) → MOST_CELLS + SESSIONS + 2 < drawn → NoneTellsCells drawn }
     ensures reader_waits { BreaksAlone Refusals reader_waits }
     ensures beside { BreaksAlone Refusals checkpoint_beside_sealed }
     ensures back { BreaksAlone Refusals checkpoint_goes_back }
@@ -114,14 +120,16 @@ pub fn windows_are_needed()
     ensures high { BreaksAlone HighEnds successor_too_high }
 {}
 
-/// Reports that the disk's fault cut off: the fault is told outside the lines, or at a line of a session; a number doesn't fit its type; a get is answered outside a
-/// transaction; a session is closed twice, or before its last line; a checkpoint tells a block that isn't decided below the place that a flush told. Of these
+/// Reports that the disk's fault cut off: the fault is told outside the lines, or at a line of a session; a number doesn't fit its type; a get is answered
+/// outside a transaction; a transaction begins at a stamp that a wait printed, of a session that no line decides, and all else is there that is owed to the
+/// answers; a session is closed twice, or before its last line; a checkpoint tells a block that isn't decided below the place that a flush told. Of these
 /// three the parts are shown to break it, not the lines; and of the last one that all other answers have what they owe.
 pub fn clauses_of_cut_reports_are_needed()
     ensures fault { BreaksCutAlone FaultAt fault_outside × IsNoCutReport fault_outside }
     ensures log { BreaksCutAlone AtLog fault_at_begin × IsNoCutReport fault_at_begin }
     ensures fit { BreaksCutAlone Fitting cut_number_too_great × IsNoCutReport cut_number_too_great }
     ensures owes { BreaksCutAlone Owing cut_without_begin × IsNoCutReport cut_without_begin }
+    ensures begins_wait { BreaksCutAlone Owing begun_at_a_wait × OwesAllButPart Begins begun_at_a_wait × IsNoCutReport begun_at_a_wait }
     ensures once { BreaksCutAlone Once closed_twice }
     ensures unseen { BreaksCutAlone Unseen closed_too_early }
     ensures unfilled { BreaksCutAlone Owing unfilled_below × OwesAllBut 3 unfilled_below }

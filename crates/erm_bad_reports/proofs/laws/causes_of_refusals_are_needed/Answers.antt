@@ -2,7 +2,7 @@ use Rattle.erm_bad_reports.proofs.OfDecided.{decided_later_breaks, excluded_late
 use Rattle.erm_bad_reports.proofs.OfLaterCommits.{newer_later_breaks, shut_later_breaks}
 use Rattle.erm_bad_reports.proofs.OfLog.{back_breaks, beside_breaks}
 use Rattle.erm_bad_reports.proofs.OfReaders.{waits_breaks}
-use Rattle.erm_bad_reports.proofs.OfRefusals.{after_commit_break, alone_break, before_abort_break, before_settle_break, beyond_breaks, newer_breaks, reads_alone_breaks}
+use Rattle.erm_bad_reports.proofs.OfRefusals.{after_commit_break, alone_break, before_abort_break, before_settle_break, beyond_breaks, newer_breaks, none_tells_cells, reads_alone_breaks}
 use Rattle.erm_bad_reports.proofs.laws.causes_of_refusals_are_needed.Goals as goal
 
 pub returns-clause-alone : goal.returns-clause-alone
@@ -46,3 +46,6 @@ returns-clause-reads_alone c = reads_alone_breaks
 
 pub returns-clause-oids_beyond : goal.returns-clause-oids_beyond
 returns-clause-oids_beyond c = beyond_breaks
+
+pub returns-clause-cells_beyond : goal.returns-clause-cells_beyond
+returns-clause-cells_beyond c = none_tells_cells

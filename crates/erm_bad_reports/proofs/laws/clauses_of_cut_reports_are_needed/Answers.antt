@@ -1,4 +1,5 @@
 use Rattle.erm_bad_reports.proofs.OfCutReports.{fault_breaks, fitting_breaks, log_breaks, once_breaks, owing_breaks, unfilled_breaks, unseen_breaks}
+use Rattle.erm_bad_reports.proofs.OfCutWaits.{wait_breaks}
 use Rattle.erm_bad_reports.proofs.laws.clauses_of_cut_reports_are_needed.Goals as goal
 
 pub returns-clause-fault : goal.returns-clause-fault
@@ -21,3 +22,6 @@ returns-clause-unseen c = unseen_breaks
 
 pub returns-clause-unfilled : goal.returns-clause-unfilled
 returns-clause-unfilled c = unfilled_breaks
+
+pub returns-clause-begins_wait : goal.returns-clause-begins_wait
+returns-clause-begins_wait c = wait_breaks

@@ -1,4 +1,5 @@
 use Rattle.erm_bad_reports.proofs.OfFlushed.{flushes_alone, flushes_first_alone}
+use Rattle.erm_bad_reports.proofs.OfNearStamps.{near_alone, newer_alone}
 use Rattle.erm_bad_reports.proofs.OfStampParts.{ascends_alone, begins_alone, draws_alone, fall_alone, least_alone, sealed_alone, stops_alone}
 use Rattle.erm_bad_reports.proofs.OfStampsOfTwo.{differ_alone}
 use Rattle.erm_bad_reports.proofs.OfUntold.{begun_alone, untold_after_alone, untold_before_alone}
@@ -42,3 +43,9 @@ returns-clause-untold_after c = untold_after_alone
 
 pub returns-clause-untold_before : goal.returns-clause-untold_before
 returns-clause-untold_before c = untold_before_alone
+
+pub returns-clause-begins_newer : goal.returns-clause-begins_newer
+returns-clause-begins_newer c = newer_alone
+
+pub returns-clause-ascends_near : goal.returns-clause-ascends_near
+returns-clause-ascends_near c = near_alone
