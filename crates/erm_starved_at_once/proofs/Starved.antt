@@ -17,7 +17,7 @@ use Rattle.erm_good_report.specs.Phases as report
 use Rattle.erm_good_report.specs.Transactions.{Aborts, Progress, Said, nothing}
 use Rattle.erm_good_at_once.specs.CutReports.{IsUnseen, answered_of}
 use Rattle.erm_lines.specs.Executions.{Move, line_moves}
-use Rattle.erm_lines.specs.Told.{Tells}
+use Rattle.erm_lines.specs.Told.{Continues, Tells}
 use Rattle.erm_lines_at_once.specs.CutRuns.{next_of}
 use Rattle.erm_lines_at_once.specs.Executions.{IsOwnRun, all_moves}
 use Rattle.erm_told.proofs.Executed.{still_session}
@@ -27,9 +27,6 @@ use Rattle.erm_told.proofs.Sessions.{aborted_told}
 use Rattle.erm_told.proofs.Turns.{now_active}
 use Rattle.erm_told_at_once.proofs.Runs.{close_of, first_known, is_closed, knows_own, own_split}
 use Rattle.erm_told_limits.proofs.Holds.{Laws}
-use Rattle.erm_told_crash.specs.Laws.{ToldTellStates}
-use Rattle.erm_told_crash.specs.Logged.{ToldLogCommits}
-use Rattle.erm_told_fronts.specs.Fronts.{ToldFrontsRun}
 use Rattle.erm_cut_at_once.proofs.Closing.{closed_progress}
 use Rattle.erm_cut_at_once.proofs.Parted.{all_answered, in_script}
 use Rattle.erm_cut_at_once.proofs.Stands.{stands_itself}
@@ -39,11 +36,9 @@ use Rattle.erm_told_log_at_once.proofs.Answered.{HasOwn, are_flushed, cuts_few}
 use Rattle.erm_told_log_at_once.proofs.Cuts.{rest_beyond}
 use Rattle.erm_told_log_at_once.proofs.Leaving.{Leaving, leaving_by, told_active}
 use Rattle.erm_told_log_at_once.proofs.Left.{known, left_world, told_of}
-use Rattle.erm_told_log_at_once.proofs.Logs.{apart_there, commits_here, is_there, log_in, log_there}
-use Rattle.erm_told_log_at_once.proofs.Told.{fronts, logged, states}
 use Rattle.erm_worker.specs.Work.{WasGivenUp, aborted, stayed}
 use Rattle.erm_works.specs.Starved.{IsStarvedPart, IsStarvedRunAtOnce}
-use Rattle.erm_starved_at_once.specs.Laws.{StarvedRunsTell}
+use Rattle.erm_starved_at_once.proofs.Going.{goes_rest, goes_short}
 
 -- what was answered on a work stays so on one that has gone on
 abbrev pub AnswersStay : Type 0
@@ -95,11 +90,12 @@ closes_sealed Sealed a fits sealed = refl
 closes_sealed Pending a fits sealed = absurd fits
 closes_sealed Safe a fits sealed = absurd fits
 
--- EACH SESSION has an own run of its moves that are told, and was flushed no further there.
-record Ran (f : View) (seat : ℕ) (v : View) (moves : List Move) : Type 0 where
-  last : View
-  run : IsOwnRun f seat v moves last
-  flushed : last.flushed ≤ f.flushed
+-- EACH SESSION has an own run of its moves that are told, was flushed no further there, and went on from there.
+pub record Ran (f : View) (seat : ℕ) (v : View) (moves : List Move) : Type 0 where
+  pub last : View
+  pub run : IsOwnRun f seat v moves last
+  pub flushed : last.flushed ≤ f.flushed
+  pub goes : Continues (last.session seat) (f.session seat)
 
 module _ (v f : View) (script : List ScriptLine) (counts : ℕ → ℕ) (answers : List Answer) (closed : List Closed) (run : IsStarvedRunAtOnce v script counts answers closed f) where
   abbrev part : List ScriptLine
@@ -109,16 +105,21 @@ module _ (v f : View) (script : List ScriptLine) (counts : ℕ → ℕ) (answers
   moves = all_moves part answers closed
 
   ran_of : (seat : ℕ) → IsStarvedPart f seat (next_of seat counts script) v moves → Ran f seat v moves
-  ran_of seat (inl its) = record { last = its.last; run = its.run; flushed = omega (arith, (rest_beyond f seat (next_of seat counts script) its.last its.end its.rest).flushed, its.within.1) }
-  ran_of seat (inr its) = record { last = its.last; run = its.run; flushed = its.within.1 }
+  ran_of seat (inl its) = record {
+    last = its.last;
+    run = its.run;
+    flushed = omega (arith, (rest_beyond f seat (next_of seat counts script) its.last its.end its.rest).flushed, its.within.1);
+    goes = subst (λ (s : Session). Continues (its.last.session seat) s) its.ends (goes_rest f seat (next_of seat counts script) its.last its.end its.rest);
+  }
+  ran_of seat (inr its) = record { last = its.last; run = its.run; flushed = its.within.1; goes = goes_short (its.last.session seat) (f.session seat) its.gave_up }
 
-  ran : (seat : ℕ) → IsSession v seat → Ran f seat v moves
+  pub ran : (seat : ℕ) → IsSession v seat → Ran f seat v moves
   ran seat session = ran_of seat (run.own seat session)
 
   has_own : (seat : ℕ) → IsSession v seat → HasOwn f seat v part answers closed
   has_own seat session = let its = ran seat session in record { last = its.last; run = its.run; flushed = its.flushed }
 
-  named : (l : ScriptLine) → l ∈ part → IsSession v l.session
+  pub named : (l : ScriptLine) → l ∈ part → IsSession v l.session
   named l m = run.named l (in_script counts script l m)
 
   -- what the answers tell of the log
@@ -155,23 +156,3 @@ module _ (v f : View) (script : List ScriptLine) (counts : ℕ → ℕ) (answers
 
       pub leaves : LeavesWorld v f script counts answers closed
       leaves = left_world v f script counts answers closed run.opening run.ends (λ seat session. leaving_of seat session (run.own seat session))
-
--- THE LAWS
-pub tell : Laws → BegunAreRuns → AnswersStay → ToldTellStates → ToldLogCommits → ToldFrontsRun → StarvedRunsTell
-tell laws runs stay tell_states log_commits run_fronts = record {
-  states = λ v f script counts answers closed opening run of apart log of_log is.
-      let left = leaves v f script counts answers closed run runs stay laws in
-      states v left.left (left.log.opening ∙ run.opening) left.said left.told _ left.commits (apart_there f left.left left.log apart) (log_in left.left log)
-      (log_there f left.left left.log log of_log is) (is_there f left.left left.log log of_log is) tell_states opening of;
-  commits = λ v f script counts answers closed opening run of apart log of_log is.
-      let left = leaves v f script counts answers closed run runs stay laws in
-      commits_here f left.left left.log log of_log is _
-      (logged v left.left (left.log.opening ∙ run.opening) left.said left.told _ left.commits (apart_there f left.left left.log apart) (log_in left.left log)
-      (log_there f left.left left.log log of_log is) (is_there f left.left left.log log of_log is) log_commits opening);
-  fronts = λ v f script counts answers closed opening run of.
-      let left = leaves v f script counts answers closed run runs stay laws in
-      fronts v left.left (left.log.opening ∙ run.opening) left.said left.told _ left.commits run_fronts opening of;
-  flushed = tells_flushed;
-  few = tells_few;
-  unseen = λ v f script counts answers closed run. closes_unseen v f script counts answers closed run runs stay;
-}

@@ -17,6 +17,7 @@ use Rattle.erm_lines.specs.Executions.{IsOpeningOf}
 use Rattle.erm_told_crash.specs.Laws.{StandApart}
 use Rattle.erm_told_log_at_once.specs.Laws.{AreCutsFew, AreFlushed, Fact, LogsCommits, TellsStates}
 use Rattle.erm_works.specs.Starved.{IsStarvedRunAtOnce}
+use Rattle.erm_starved_at_once.specs.Owes.{OwesWhenStarved}
 
 -- it is so of each such execution whose ranges of the log stand apart, whose lines answered are what it tells
 abbrev pub OfLoggedStarvedRuns : Fact → Type 0
@@ -24,15 +25,19 @@ OfLoggedStarvedRuns Holds = (v f : View) (script : List ScriptLine) (counts : �
     → IsStarvedRunAtOnce v script counts answers closed f → IsOpeningOf v opening → StandApart f → (log : Log) → IsLogOf f log → IsLog sound_law.meets log
     → Holds opening (history_of (transactions_of v.opening.sessions (places_of (answered_of counts script) answers closed))) log
 
--- The log tells the states that the lines answered tell, and has their commits; those below any stamp give their replies in the serial order. Only answers
--- that a session's last commit is on the disk tell a place below which all is flushed, no tidy cuts off more versions than a call does at most, and a session that was decided behind
--- the last answers had all its lines answered, and they leave it sealed.
+-- The log tells the states that the lines answered tell, and has their commits; those below any stamp give their replies in the serial order. Each answer is
+-- one to its line, and what is told of replies is right on its snapshot. Only answers that a session's last commit is on the disk tell a place below which
+-- all is flushed, no tidy cuts off more versions than a call does at most, and a session that was decided behind the last answers had all its lines
+-- answered, and they leave it sealed.
 pub record StarvedRunsTell : Type 0 where
   pub states : OfLoggedStarvedRuns TellsStates
   pub commits : OfLoggedStarvedRuns LogsCommits
   pub fronts : (v f : View) (script : List ScriptLine) (counts : ℕ → ℕ) (answers : List Answer) (closed : List Closed) (opening : Opening)
       → IsStarvedRunAtOnce v script counts answers closed f → IsOpeningOf v opening
       → EachFrontRuns (history_of (transactions_of v.opening.sessions (places_of (answered_of counts script) answers closed))) opening.map
+  pub owes : (v f : View) (script : List ScriptLine) (counts : ℕ → ℕ) (answers : List Answer) (closed : List Closed) (opening : Opening)
+      → IsStarvedRunAtOnce v script counts answers closed f → IsOpeningOf v opening
+      → OwesWhenStarved opening script (answered_of counts script) answers (transactions_of v.opening.sessions (places_of (answered_of counts script) answers closed))
   pub flushed : (v f : View) (script : List ScriptLine) (counts : ℕ → ℕ) (answers : List Answer) (closed : List Closed)
       → IsStarvedRunAtOnce v script counts answers closed f → AreFlushed f answers
   pub few : (v f : View) (script : List ScriptLine) (counts : ℕ → ℕ) (answers : List Answer) (closed : List Closed)

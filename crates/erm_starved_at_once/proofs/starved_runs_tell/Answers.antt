@@ -1,5 +1,5 @@
 use Rattle.erm_told_limits.proofs.Given.{HistoryLaws, given}
-use Rattle.erm_starved_at_once.proofs.Starved.{tell}
+use Rattle.erm_starved_at_once.proofs.Told.{tell}
 use Rattle.erm_starved_at_once.proofs.starved_runs_tell.Goals as goal
 
 pub returns : goal.returns
@@ -17,3 +17,4 @@ returns c =
     let ways = c.calls_stay_in_their_table.ensures in
     let laws = given histories (record { way = ways.way; met = ways.met; next = ways.next }) c.begun_transactions_are_runs.ensures in
     tell laws c.begun_transactions_are_runs.ensures c.answers_stay.ensures c.told_logs_tell_states.ensures.states c.told_logs_tell_states.ensures.commits c.told_fronts_run.ensures
+    c.told_worlds_have_snapshots.ensures

@@ -1,0 +1,37 @@
+-- How a session goes on behind its last answer, to how it stands in the world in which all end.
+use Rattle.std.proofs.Common.{◌≡◌, ℕ, [], ◌∷◌, Option, Some, None, refl, ap, ◌∙◌, inr}
+use Rattle.erm_model.specs.declared.outcome.Phase.TheVariants.{Active}
+use Rattle.erm_script.specs.declared.script.Command.TheVariants as command
+use Rattle.erm_script.specs.declared.script.ScriptLine.{ScriptLine}
+use Rattle.erm_world.specs.World.{Finished, Session, View, phase_at, phase_of}
+use Rattle.erm_world.specs.World as world
+use Rattle.erm_lines.specs.Told.{Continues}
+use Rattle.erm_lines_at_once.specs.CutRuns.{IsRest, Waited}
+use Rattle.erm_lines_at_once.specs.CutRuns as rest
+use Rattle.erm_told.proofs.Going.{continues_from, continues_itself, continues_then}
+use Rattle.erm_told.proofs.Turns.{turn_aborted, turn_sealed}
+use Rattle.erm_told_at_once.proofs.Operated.{Holds, holds_passes, holds_tried}
+use Rattle.erm_worker.specs.Work.{WasGivenUp}
+use Rattle.erm_worker.specs.Work as work
+
+waited_holds : (f : View) (seat : ℕ) (next : Option ScriptLine) (v t : View) → phase_at v seat ≡ Active → Waited f seat next v t → Holds seat v t
+waited_holds f seat None v t active passes = holds_passes seat v t passes
+waited_holds f seat (Some l) v t active (n, tried) = holds_tried f seat l.command n v t active tried
+
+-- what no line tells
+pub goes_rest : (f : View) (seat : ℕ) (next : Option ScriptLine) (v t : View) → IsRest f seat next v t → Continues (v.session seat) (t.session seat)
+goes_rest f seat next v t (rest.stood passes) = continues_itself (v.session seat) (t.session seat) passes.own
+goes_rest f seat next v t (rest.aborted u active waited did) =
+    let held = waited_holds f seat next v u active waited in
+    continues_then (v.session seat) (u.session seat) (t.session seat) held.goes (turn_aborted u seat None t (held.phase ∙ active) did).goes
+goes_rest f seat next v t (rest.drew l stamp active is commits (u, passes, did)) =
+    continues_then (v.session seat) (u.session seat) (t.session seat) (continues_itself (v.session seat) (u.session seat) passes.own)
+    (turn_sealed u seat stamp (Some command.Commit) t (ap (λ (s : Session). phase_of s.stand) passes.own ∙ active) did).goes
+
+-- a line in which memory ran out
+pub goes_short : (s t : Session) → WasGivenUp s t → Continues s t
+goes_short s t (work.stayed is) = continues_itself s t is
+goes_short s t (work.aborted w u at more is) =
+    let gone : Finished = record { work = u; fate = world.aborts } in
+    let over = ap (λ (r : Session). r.over) is in
+    continues_from s t (world.active w) at (gone ∷ []) over (u, more, inr (inr (gone, [], s.over, over, refl)))

@@ -1,0 +1,121 @@
+-- What the answers of an execution at once owe for some of whose sessions memory ran out: of each answer what its session's own run says, and of
+-- replies what the world that is left says.
+use Rattle.std.proofs.Common.{◌≡◌, ℕ, ◌<◌, List, map, take, slice_get, Some, refl, sym, ap, ◌∙◌, subst, arith}
+use Rattle.erm_model.specs.declared.limits.TheConstants.{READ_LIMIT, WRITE_LIMIT}
+use Rattle.erm_model.specs.declared.outcome.Phase.{Phase}
+use Rattle.erm_model.specs.declared.outcome.Phase.TheVariants.{Idle}
+use Rattle.erm_model.specs.Committed.{Committed, HasSnapshotReplies}
+use Rattle.erm_model.specs.Member.{◌∈◌}
+use Rattle.erm_model.specs.Run.{Step}
+use Rattle.erm_node.specs.TreeMap.{map_of_rows}
+use Rattle.erm_report.specs.declared.answer.Answer.{Answer}
+use Rattle.erm_report.specs.declared.answer.Answer.TheVariants as answer
+use Rattle.erm_script.specs.declared.script.Command.{Command}
+use Rattle.erm_script.specs.declared.script.Command.TheVariants as command
+use Rattle.erm_script.specs.declared.script.ScriptLine.{ScriptLine}
+use Rattle.erm_world.specs.World.{IsSession, View, phase_at}
+use Rattle.erm_world.specs.World as world
+use Rattle.erm_good_report.specs.GoodReport.{places_of}
+use Rattle.erm_good_report.specs.Opening.{Opening}
+use Rattle.erm_good_report.specs.Phases.{Closed, FitsPhase, phase_of}
+use Rattle.erm_good_report.specs.Refusals.{HasCause, HasUnfilledCause, IsOwn, Moment}
+use Rattle.erm_good_report.specs.Transactions.{Said, Transaction, history_of, nothing, said_of, steps_of, transactions_of}
+use Rattle.erm_good_at_once.specs.CutReports.{answered_of, moment_in}
+use Rattle.erm_lines.specs.Executions.{IsOpeningOf, line_moves}
+use Rattle.erm_told.proofs.Executed.{still_session}
+use Rattle.erm_told.proofs.Runs.{said_first}
+use Rattle.erm_told_at_once.proofs.Runs.{OwnAt, close_of, first_known, knows_own, own_at, own_split}
+use Rattle.erm_told_limits.proofs.Heard.{may_claim, may_read}
+use Rattle.erm_told_limits.proofs.Holds.{Laws}
+use Rattle.erm_told_order.specs.Told.{ToldHaveSnapshots, told_in}
+use Rattle.erm_cut_at_once.proofs.Parted.{in_script}
+use Rattle.erm_works.specs.Starved.{IsStarvedRunAtOnce}
+use Rattle.erm_starved_at_once.specs.Owes.{IsOwnRefusal, OwesWhenStarved}
+use Rattle.erm_starved_at_once.proofs.Full.{own_claims, own_reads}
+use Rattle.erm_starved_at_once.proofs.Starved.{AnswersStay, BegunAreRuns, leaves, named, ran}
+use Rattle.erm_starved_at_once.proofs.Waits.{never_waits}
+
+-- no refusal of the kinds below tells of a flush
+none_unfilled : (m : Moment) (c : Command) → HasUnfilledCause m c answer.WritesFull
+none_unfilled m command.Flush = tt
+none_unfilled m command.Checkpoint = tt
+none_unfilled m c = tt
+
+module _ (v f : View) (script : List ScriptLine) (counts : ℕ → ℕ) (answers : List Answer) (closed : List Closed) (run : IsStarvedRunAtOnce v script counts answers closed f) (laws : Laws) (runs : BegunAreRuns)
+    (stay : AnswersStay) where
+  abbrev part : List ScriptLine
+  part = answered_of counts script
+
+  abbrev told : List Transaction
+  told = transactions_of v.opening.sessions (places_of part answers closed)
+
+  -- EACH LINE answered, in its session's own run
+  module _ (i : ℕ) (l : ScriptLine) (a : Answer) (at : slice_get part i ≡ Some l) (answered : slice_get answers i ≡ Some a) where
+    session : IsSession v l.session
+    session = named v f script counts answers closed run l (i, at)
+
+    there : (u : View) × OwnAt f l.session v part answers u i l a
+    there =
+        let its = ran v f script counts answers closed run l.session session in
+        let (u, lines, rest) = own_split f l.session (line_moves part answers) (map close_of closed) v its.last its.run in
+        (u, own_at f l.session part answers v u i l a refl lines at answered)
+
+    line_fits : FitsPhase (phase_of l.session (take i (said_of part answers))) l.command a
+    line_fits =
+        let its = there.1 in
+        let known = knows_own runs stay f l.session (line_moves (take i part) (take i answers)) nothing Idle v its.before its.start (first_known l.session v (run.opened.idle l.session session)) in
+        let phase : phase_of l.session (take i (said_of part answers)) ≡ phase_at its.before l.session =
+        subst (λ (said : List Said). phase_of l.session said ≡ phase_at its.before l.session) (said_first i part answers) known.phase_is
+        in
+        subst (λ (p : Phase). FitsPhase p l.command a) (sym phase) its.did.fits
+
+  -- a line that was refused for want of what only its own transaction takes
+  module _ (opening : Opening) (i : ℕ) (l : ScriptLine) (t : Transaction) where
+    claims_full : (at : slice_get part i ≡ Some l) (answered : slice_get answers i ≡ Some answer.WritesFull) → IsOwn (moment_in opening script part answers told i l) l.command answer.WritesFull t
+        → WRITE_LIMIT < may_claim t
+    claims_full at answered own =
+        let there = session i l answer.WritesFull at answered in
+        let its = ran v f script counts answers closed run l.session there in
+        let most = own_claims laws runs stay v f part answers closed (λ k m. run.ranges k (in_script counts script k m)) run.ends.serializable i l answer.WritesFull at answered
+        (still_session v f l.session run.opening there) (run.opened.idle l.session there) its.last its.run its.goes tt refl own.0 own.1 in
+        omega (arith, most, ap may_claim own.2)
+
+    reads_full : (at : slice_get part i ≡ Some l) (answered : slice_get answers i ≡ Some answer.ReadsFull) → IsOwn (moment_in opening script part answers told i l) l.command answer.ReadsFull t
+        → READ_LIMIT < may_read t
+    reads_full at answered own =
+        let there = session i l answer.ReadsFull at answered in
+        let its = ran v f script counts answers closed run l.session there in
+        let most = own_reads laws runs stay v f part answers closed (λ k m. run.ranges k (in_script counts script k m)) run.ends.serializable i l answer.ReadsFull at answered
+        (still_session v f l.session run.opening there) (run.opened.idle l.session there) its.last its.run its.goes tt refl own.0 own.1 in
+        omega (arith, most, ap may_read own.2)
+
+  refused : (opening : Opening) (i : ℕ) (l : ScriptLine) (a : Answer) → slice_get part i ≡ Some l → slice_get answers i ≡ Some a → IsOwnRefusal a
+      → HasCause (moment_in opening script part answers told i l) l.command a
+  refused opening i l (answer.WaitSeat seat seen) at answered own = absurd (never_waits f l (answer.WaitSeat seat seen) _ _ (there i l (answer.WaitSeat seat seen) at answered).1.did tt)
+  refused opening i l (answer.WaitRing flushed) at answered own = absurd (never_waits f l (answer.WaitRing flushed) _ _ (there i l (answer.WaitRing flushed) at answered).1.did tt)
+  refused opening i l answer.WritesFull at answered own = record {
+    own = λ t is. claims_full opening i l t at answered is;
+    log = tt;
+    unfilled = none_unfilled (moment_in opening script part answers told i l) l.command;
+  }
+  refused opening i l a at answered own = absurd own
+
+  -- THE REPLIES, as the world that is left tells them
+  replied : ToldHaveSnapshots → (opening : Opening) → IsOpeningOf v opening → (t : Transaction) → t ∈ told → HasSnapshotReplies (history_of told) opening.map t.begin (steps_of t)
+  replied law opening of t m =
+      let world_left = leaves v f script counts answers closed run runs stay laws in
+      let here = history_of (told_in world_left.left world_left.said) in
+      let map_is : opening.map ≡ map_of_rows world_left.left.opening.rows = of.map ∙ ap (λ (o : world.Opening). map_of_rows o.rows) (sym (world_left.log.opening ∙ run.opening)) in
+      let (u, in_it, begin, same) = world_left.each t m in
+      subst (λ (h : List Committed). HasSnapshotReplies h opening.map t.begin (steps_of t)) world_left.commits
+      (subst (λ (n : ℕ). HasSnapshotReplies here opening.map n (steps_of t)) begin
+      (subst (λ (steps : List Step). HasSnapshotReplies here opening.map u.begin steps) same (law world_left.left world_left.said world_left.told opening.map map_is u in_it)))
+
+  pub owes : ToldHaveSnapshots → (opening : Opening) → IsOpeningOf v opening
+      → OwesWhenStarved opening script (answered_of counts script) answers (transactions_of v.opening.sessions (places_of (answered_of counts script) answers closed))
+  owes law opening of = record {
+    phases = record { fits = line_fits };
+    snapshots = replied law opening of;
+    refusals = refused opening;
+    reads = λ i l at answered t own. reads_full opening i l t at answered own;
+  }

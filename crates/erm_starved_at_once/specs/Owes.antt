@@ -1,0 +1,33 @@
+-- What the answers of an execution at once owe for some of whose sessions memory ran out.
+use Rattle.std.specs.Prelude.{◌≡◌, ◌<◌, ℕ, List, Some, sum_by}
+use Rattle.std.specs.List.{slice_get}
+use Rattle.erm_model.specs.declared.limits.TheConstants.{READ_LIMIT}
+use Rattle.erm_model.specs.Committed.{HasSnapshotReplies}
+use Rattle.erm_model.specs.Member.{◌∈◌}
+use Rattle.erm_report.specs.declared.answer.Answer.{Answer}
+use Rattle.erm_report.specs.declared.answer.Answer.TheVariants as answer
+use Rattle.erm_script.specs.declared.script.ScriptLine.{ScriptLine}
+use Rattle.erm_good_report.specs.Opening.{Opening}
+use Rattle.erm_good_report.specs.Phases.{PhasesAgree}
+use Rattle.erm_good_report.specs.Refusals.{HasCause, IsOwn, reads_of}
+use Rattle.erm_good_report.specs.Transactions.{Transaction, history_of, steps_of}
+use Rattle.erm_good_at_once.specs.CutReports.{moment_in}
+
+-- a refusal that leaves its transaction in progress, and that the session's own lines cause alone: no line at once is answered by a wait
+abbrev pub IsOwnRefusal : Answer → Type 0
+IsOwnRefusal (answer.WaitSeat seat seen) = Unit {0}
+IsOwnRefusal (answer.WaitRing flushed) = Unit {0}
+IsOwnRefusal answer.WritesFull = Unit {0}
+IsOwnRefusal a = ⊥
+
+-- Of the answers to a part of a script, and of the transactions that they tell: each answer is one to its command, in the phase that the session's earlier
+-- ones leave; what was replied to a transaction, also to one that doesn't commit, is right on its snapshot; each refusal that the session's own lines cause
+-- alone has its cause; and where reads are full the lines of the transaction may have read so many. What a line in which memory ran out claimed and made
+-- counts in no line, so the causes of the other refusals aren't told.
+pub record OwesWhenStarved (opening : Opening) (whole part : List ScriptLine) (answers : List Answer) (told : List Transaction) : Type 0 where
+  pub phases : PhasesAgree part answers
+  pub snapshots : (t : Transaction) → t ∈ told → HasSnapshotReplies (history_of told) opening.map t.begin (steps_of t)
+  pub refusals : (i : ℕ) (l : ScriptLine) (a : Answer) → slice_get part i ≡ Some l → slice_get answers i ≡ Some a → IsOwnRefusal a
+      → HasCause (moment_in opening whole part answers told i l) l.command a
+  pub reads : (i : ℕ) (l : ScriptLine) → slice_get part i ≡ Some l → slice_get answers i ≡ Some answer.ReadsFull
+      → (t : Transaction) → IsOwn (moment_in opening whole part answers told i l) l.command answer.ReadsFull t → READ_LIMIT < sum_by (λ e. reads_of e.asked) t.lines
