@@ -25,9 +25,10 @@ use Rattle.erm_world.specs.World.{View}
 use Rattle.erm_told_crash.specs.Logged.{HasCommits}
 use Rattle.erm_good_at_once.specs.CutReports.{IsCutAtOnce, IsUnseen, answered_of}
 use Rattle.erm_good_at_once.specs.GoodAtOnce.{IsGoodAtOnce}
-use Rattle.erm_good_report.specs.GoodReport.{answer_lines}
+use Rattle.erm_good_report.specs.GoodReport.{answer_lines, places_of}
 use Rattle.erm_good_report.specs.Opening.{Opening}
 use Rattle.erm_good_report.specs.Phases.{Closed}
+use Rattle.erm_good_report.specs.Transactions.{transactions_of}
 use Rattle.erm_invariant.specs.Commits.{EachFrontRuns}
 use Rattle.erm_log_run.proofs.Held.{tells_both, tells_join, tells_weaker}
 use Rattle.erm_log_run.proofs.Lasting.{TellsFor, cut_tells, report_tells}
@@ -49,12 +50,13 @@ use Rattle.erm_disk_run.proofs.Logged.{opening_told}
 use Rattle.erm_disk_run.proofs.Opened.{MayOpenAll, opening_commits}
 use Rattle.erm_disk_run.proofs.Outlived.{OpensAt}
 use Rattle.erm_disk_at_once.specs.Desks.{AreAcknowledged, DiskTells, HasLogged, OpensTable, StandFor}
-use Rattle.erm_disk_at_once.specs.Runs.{KeepsSegments, LeavesAll, WasCutAtOnce, WasRunAtOnce, WasStarvedAtOnce}
+use Rattle.erm_disk_at_once.specs.Runs.{KeepsSegments, KeepsSlots, LeavesAll, WasCutAtOnce, WasRunAtOnce, WasStarvedAtOnce}
 use Rattle.erm_disk_at_once.proofs.Files.{KeepsFiles, desk_keeps, keeps_then, opened_keeps, told_of}
 use Rattle.erm_disk_at_once.proofs.Left.{leaves_all}
 use Rattle.erm_disk_at_once.proofs.Outlived.{outlives}
 use Rattle.erm_disk_at_once.proofs.Standing.{TellFronts, stand_for}
-use Rattle.erm_disk_at_once.proofs.Starved.{answers_tell, no_commits, none_answered, none_counted, none_runs}
+use Rattle.erm_disk_at_once.proofs.Starved.{answers_tell, no_commits, none_answered, none_counted, none_owe, none_runs}
+use Rattle.erm_starved_at_once.specs.Owes.{OwesWhenStarved}
 
 -- what the opening did to the disk
 abbrev pub OpensDisk : State → List Step → List Step → Type 0
@@ -125,6 +127,7 @@ was_unrun may state o slots before mid t opens opening starts names script =
       closed = [];
       once = λ i j d less within. absurd (omega (arith, within));
       unseen = λ c m. absurd (none_in_nil c m);
+      owes = none_owe opening names script;
       fronts = subst (λ (cs : List Committed). EachFrontRuns cs opening.map) (sym none) (none_runs opening.map);
       outlives =
           subst (λ (ls : List ScriptLine). Tells (Outlives (commits_told names (answered_of none_counted script) [] []) state (answer_lines ls [])) before mid) (sym no_line)
@@ -137,6 +140,8 @@ was_unrun may state o slots before mid t opens opening starts names script =
                 (λ first keeps. opening_told [] state is.pair first b refl refl keeps) is.keeps;
             acknowledged = λ place is. absurd (none_in_nil _ is.told);
           }) told));
+      slots = tells_weaker (OpensLog state (flushed_log o []) slots) KeepsSlots before mid
+          (λ a b is. let keeps = opened_keeps state (flushed_log o []) slots a b is in (keeps.slot0, keeps.slot1)) told;
       segments = tells_weaker (OpensLog state (flushed_log o []) slots) (KeepsSegments state) before mid
           (λ a b is. (opened_keeps state (flushed_log o []) slots a b is).segments) told;
     }
@@ -164,7 +169,11 @@ module _ (may : MayOpenAll) (state : State) (o : Start) (blocks tried : List Blo
   files : (a b c : List Step) → OpensDisk state a b → DeskDid o blocks tried b c → KeepsFiles state.at a c
   files a b c opening desk = keeps_then state.at a b c opening.1 (desk_keeps state.at o (blocks ++ tried) b c low desk.writes)
 
-  -- the older segments are as they were
+  -- the slots are as they were
+  pub both_slots : Tells KeepsSlots before after
+  both_slots = tells_join (OpensDisk state) (DeskDid o blocks tried) KeepsSlots before mid after (λ a b c opening desk. let keeps = files a b c opening desk in (keeps.slot0, keeps.slot1)) opens did
+
+  -- and so are the older segments
   pub segments : Tells (KeepsSegments state) before after
   segments = tells_join (OpensDisk state) (DeskDid o blocks tried) (KeepsSegments state) before mid after (λ a b c opening desk. (files a b c opening desk).segments) opens did
 
@@ -191,10 +200,11 @@ module _ (may : MayOpenAll) (state : State) (o : Start) (blocks tried : List Blo
   pub was_starved : (names : List (List ℕ)) (script : List ScriptLine) (opening : Opening) → StartsFrom state opening → (counts : ℕ → ℕ) (answers : List Answer) (closed : List Closed)
       → length answers ≡ length (answered_of counts script) → CutFew in_table answers → AllPairs (λ c d. c.session ≢ d.session) closed
       → ((c : Closed) → c ∈ closed → IsUnseen script (answered_of counts script) answers c)
+      → OwesWhenStarved opening script (answered_of counts script) answers (transactions_of (length names) (places_of (answered_of counts script) answers closed))
       → EachFrontRuns (commits_told names (answered_of counts script) answers closed) opening.map
       → StandFor (commits_told names (answered_of counts script) answers closed) state (state_at (flushed_log o (blocks ++ tried)) []) (blocks ++ tried)
       → AreAcknowledged (place_behind o.tail blocks) answers → WasStarvedAtOnce before after state names script
-  was_starved names script opening starts counts answers closed each few once unseen fronts stand tells = record {
+  was_starved names script opening starts counts answers closed each few once unseen owes fronts stand tells = record {
     low = t.low;
     run_low = t.run_low;
     opening = opening;
@@ -206,9 +216,11 @@ module _ (may : MayOpenAll) (state : State) (o : Start) (blocks tried : List Blo
     closed = closed;
     once = once;
     unseen = unseen;
+    owes = owes;
     fronts = fronts;
     outlives = outlived (commits_told names (answered_of counts script) answers closed) stand (answer_lines (answered_of counts script) answers) answers
         (answers_tell (answered_of counts script) answers) tells;
+    slots = both_slots;
     segments = segments;
   }
 
@@ -255,5 +267,6 @@ module _ (may : MayOpenAll) (state : State) (o : Start) (blocks tried : List Blo
     fronts = fronts;
     outlives = outlived (commits_told names (answered_of cut.counts script) cut.answers cut.closed) stand lines cut.answers
         (cut_tells lines opening.stamp opening.run (answered_of cut.counts script) cut.answers None cut.lines_ok) tells;
+    slots = both_slots;
     segments = segments;
   }

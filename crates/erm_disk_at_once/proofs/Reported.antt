@@ -35,6 +35,7 @@ use Rattle.erm_tight_at_once.specs.Laws.{RunsAtOnceHaveTightWindows}
 use Rattle.erm_spare_names.specs.Spare.{NamesOnlyFirst, SpareNamesTellNothing}
 use Rattle.erm_spare_names.proofs.Spare.{unseen_no_more}
 use Rattle.erm_starved_at_once.specs.Laws.{StarvedRunsTell}
+use Rattle.erm_starved_at_once.specs.Owes.{OwesWhenStarved}
 use Rattle.erm_works.specs.Starved.{IsStarvedRunAtOnce}
 use Rattle.erm_told_log_at_once.specs.Laws.{AreCutsFew, AreFlushed, CutRunsCutFew, CutRunsLogCommits, CutRunsRunInFronts, CutRunsTellFlushed, CutRunsTellStates, RunsAtOnceCutFew, RunsAtOnceLogCommits, RunsAtOnceRunInFronts, RunsAtOnceTellFlushed, RunsAtOnceTellStates}
 use Rattle.erm_told_crash.specs.Logged.{HasCommits}
@@ -249,10 +250,11 @@ module _ (may : MayOpenAll) (state : State) (o : Start) (blocks tried : List Blo
   starved_at_once tell counts answers closed run has =
       let part = answered_of counts script in
       let unseen = tell.unseen v f script counts answers closed run in
-      let same : commits_told names part answers closed ≡ all_told v part answers closed =
-      told_with (length names) (length (names ++ spare)) (places_of part answers closed) (unseen_no_more names spare script counts answers closed first unseen)
-      ∙ ap (λ (n : ℕ). history_of (transactions_of n (places_of part answers closed))) (sym many)
+      let told : transactions_of (length names) (places_of part answers closed) ≡ transactions_of v.opening.sessions (places_of part answers closed) =
+      unseen_no_more names spare script counts answers closed first unseen
+      ∙ ap (λ (n : ℕ). transactions_of n (places_of part answers closed)) (sym many)
       in
+      let same : commits_told names part answers closed ≡ all_told v part answers closed = ap (λ (ts : List Transaction). history_of ts) told in
       let stand : StandFor (all_told v part answers closed) state (state_at (flushed_log o (blocks ++ tried)) []) (blocks ++ tried) =
       logged_stand (all_told v part answers closed) state o (blocks ++ tried) f t has opening.map starts.map
       (tell.states v f script counts answers closed opening run of has.apart has.log has.of_view has.is)
@@ -261,6 +263,7 @@ module _ (may : MayOpenAll) (state : State) (o : Start) (blocks tried : List Blo
       was_starved may state o blocks tried before mid after t opens did names script opening starts counts answers closed run.each
       (few_cuts v answers answers cuts refl (tell.few v f script counts answers closed run))
       (λ i j d less within is. let ascend = run.ascend i j d less within in omega (arith, is, ascend)) unseen
+      (subst (λ (ts : List Transaction). OwesWhenStarved opening script part answers ts) (sym told) (tell.owes v f script counts answers closed opening run of))
       (subst (λ (cs : List Committed). EachFrontRuns cs opening.map) (sym same) (tell.fronts v f script counts answers closed opening run of))
       (subst (λ (cs : List Committed). StandFor cs state (state_at (flushed_log o (blocks ++ tried)) []) (blocks ++ tried)) (sym same) stand)
       (flushed_answers f (place_behind o.tail blocks) answers answers flushed refl (tell.flushed v f script counts answers closed run))

@@ -4,6 +4,7 @@ use Rattle.std.specs.List.Sorted.{IsPermutation}
 use Rattle.std.proofs.lemmas.List.Sorted.{IsPermutation-sym}
 use Rattle.erm_model.specs.Committed.{Committed, RunsInOrder, state_after}
 use Rattle.erm_model.specs.Database.{Database}
+use Rattle.erm_model.specs.Member.{◌∈◌}
 use Rattle.erm_model.proofs.Members.{none_in_nil, ∈-behind}
 use Rattle.erm_machine.proofs.Listed.{∈-first}
 use Rattle.erm_core_ssn.proofs.Members.{∈-permutation}
@@ -11,13 +12,15 @@ use Rattle.erm_report.specs.declared.answer.Answer.{Answer}
 use Rattle.erm_report.specs.declared.line.Line.{Line}
 use Rattle.erm_report.specs.declared.line.Line.TheVariants as line
 use Rattle.erm_script.specs.declared.script.ScriptLine.{ScriptLine}
-use Rattle.erm_good_report.specs.GoodReport.{answer_lines}
+use Rattle.erm_good_report.specs.GoodReport.{answer_lines, places_of}
+use Rattle.erm_good_report.specs.Opening.{Opening}
 use Rattle.erm_good_report.specs.Transactions.{Transaction, history_of, transactions_of}
 use Rattle.erm_good_at_once.specs.CutReports.{answered_of}
 use Rattle.erm_invariant.specs.Commits.{EachFrontRuns}
 use Rattle.erm_log_run.proofs.Lasting.{TellsFor, cut_tells}
 use Rattle.erm_spare_names.proofs.Seats.{told_without_spare}
 use Rattle.erm_disk_run.specs.Runs.{commits_told}
+use Rattle.erm_starved_at_once.specs.Owes.{OwesWhenStarved}
 use Rattle.std.specs.Prelude.{None}
 
 -- each place that the lines of answers acknowledge one of these tells
@@ -45,6 +48,21 @@ no_transactions sessions = let same : sessions ≡ 0 + sessions = omega arith in
 pub no_commits : (names : List (List ℕ)) (script : List ScriptLine) → commits_told names (answered_of none_counted script) [] [] ≡ []
 no_commits names script =
     ap (λ (ls : List ScriptLine). commits_told names ls [] []) (none_answered script) ∙ ap (λ (ts : List Transaction). history_of ts) (no_transactions (length names))
+
+-- and nothing is owed
+nothing_owed : (opening : Opening) (whole : List ScriptLine) (told : List Transaction) → told ≡ [] → OwesWhenStarved opening whole [] [] told
+nothing_owed opening whole told none = record {
+  phases = record { fits = λ i l a at answered. absurd (cc) };
+  snapshots = λ t m. absurd (none_in_nil t (subst (λ (ts : List Transaction). t ∈ ts) none m));
+  refusals = λ i l a at answered own. absurd (cc);
+  reads = λ i l at answered t own. absurd (cc);
+}
+
+pub none_owe : (opening : Opening) (names : List (List ℕ)) (script : List ScriptLine)
+    → OwesWhenStarved opening script (answered_of none_counted script) [] (transactions_of (length names) (places_of (answered_of none_counted script) [] []))
+none_owe opening names script =
+    subst (λ (ls : List ScriptLine). OwesWhenStarved opening script ls [] (transactions_of (length names) (places_of ls [] []))) (sym (none_answered script))
+    (nothing_owed opening script (transactions_of (length names) []) (no_transactions (length names)))
 
 -- and no commits are a serial run
 none_order : (order : List Committed) → IsPermutation [] order → order ≡ []

@@ -13,6 +13,7 @@ use Rattle.erm_ckpt.specs.Recovered.{Pair, Recovers, State, base, slots_of}
 use Rattle.erm_ckpt.specs.States.{RecoversTo}
 use Rattle.erm_node.specs.Sound.{sound_law}
 use Rattle.erm_node.specs.TreeMap.{map_of_rows}
+use Rattle.erm_outside.specs.declared.disk.File.TheVariants.{Slot0, Slot1}
 use Rattle.erm_outside.specs.Disk.{IsSettled, Step, Tells, contents}
 use Rattle.erm_outside.specs.Faults.{Rose}
 use Rattle.erm_recover.specs.Opening.{open_block}
@@ -25,10 +26,12 @@ use Rattle.erm_script.specs.declared.script.ScriptLine.{ScriptLine}
 use Rattle.erm_worker.specs.Work.{MayBeAsked}
 use Rattle.erm_good_at_once.specs.CutReports.{IsCutAtOnce, IsUnseen, answered_of}
 use Rattle.erm_good_at_once.specs.GoodAtOnce.{IsGoodAtOnce}
-use Rattle.erm_good_report.specs.GoodReport.{answer_lines}
+use Rattle.erm_good_report.specs.GoodReport.{answer_lines, places_of}
 use Rattle.erm_good_report.specs.Opening.{Opening}
 use Rattle.erm_good_report.specs.Phases.{Closed}
+use Rattle.erm_good_report.specs.Transactions.{transactions_of}
 use Rattle.erm_invariant.specs.Commits.{EachFrontRuns}
+use Rattle.erm_starved_at_once.specs.Owes.{OwesWhenStarved}
 use Rattle.erm_log_run.specs.Saving.{SparesOlder}
 use Rattle.erm_disk_run.specs.Crashes.{Outlives}
 use Rattle.erm_disk_run.specs.Found.{IsFound, StartsFrom}
@@ -53,6 +56,10 @@ pub record IsScriptAtOnce (names : List (List ℕ)) (script : List ScriptLine) :
 -- the log's segments below that of the place found are as they were
 abbrev pub KeepsSegments : State → List Step → List Step → Type 0
 KeepsSegments from old new = SparesOlder from.at old new
+
+-- both slots read as they did
+abbrev pub KeepsSlots : List Step → List Step → Type 0
+KeepsSlots old new = (contents new Slot0 ≡ contents old Slot0) × (contents new Slot1 ≡ contents old Slot1)
 
 -- At the end nothing is pending on a disk, so that a crash leaves what it reads: it recovers to this map, in the next run, behind all commits. Of the
 -- commits in the blocks that recovery meets those from the place found on are just these. The slots and the segments below that of the place found are
@@ -91,7 +98,8 @@ pub record WasRunAtOnce (before after : Option (List Step)) (state : State) (nam
   pub leaves : Tells (LeavesAll (commits_told names script good.good.report.answers good.good.report.closed) state (from_entries (entries_of good.good.report.pairs))) before after
 
 -- The disk failed while they ran: these lines are the report up to then, of each session's first lines. The commits that their answers and the
--- sessions closed tell outlive a crash at any moment, and those below any stamp are a serial run.
+-- sessions closed tell outlive a crash at any moment, and those below any stamp are a serial run. The slots and the segments below that of the place found
+-- are as they were.
 pub record WasCutAtOnce (before after : Option (List Step)) (state : State) (names : List (List ℕ)) (script : List ScriptLine) (lines : List Line) : Type 0 where
   pub low : state.at < STOP
   pub run_low : state.run < LAST_RUN
@@ -102,12 +110,13 @@ pub record WasCutAtOnce (before after : Option (List Step)) (state : State) (nam
   pub celled : HaveManyCells in_table script cut.answers
   pub fronts : EachFrontRuns (commits_told names (answered_of cut.counts script) cut.answers cut.closed) opening.map
   pub outlives : Tells (Outlives (commits_told names (answered_of cut.counts script) cut.answers cut.closed) state lines) before after
+  pub slots : Tells KeepsSlots before after
   pub segments : Tells (KeepsSegments state) before after
 
 -- Memory ran out before a script's sessions ran, while they ran, or what they did was told. Of each session so many lines were answered so, the first
--- ones, and no line tells of them. Behind them sessions were closed that had no line more, each once, as the answers leave them. The commits that the answers
--- and these sessions tell outlive a crash at any moment, with all that an answer acknowledged, and those below any stamp are a serial run; of the run's own
--- the log's blocks tell just these.
+-- ones, and no line tells of them. Behind them sessions were closed that had no line more, each once, as the answers leave them. Each answer is one to its
+-- line, with the replies of its transaction's snapshot. The commits that the answers and these sessions tell outlive a crash at any moment, and those below
+-- any stamp are a serial run; of the run's own the log's blocks tell just these. The slots and the segments below that of the place found are as they were.
 pub record WasStarvedAtOnce (before after : Option (List Step)) (state : State) (names : List (List ℕ)) (script : List ScriptLine) : Type 0 where
   pub low : state.at < STOP
   pub run_low : state.run < LAST_RUN
@@ -120,8 +129,10 @@ pub record WasStarvedAtOnce (before after : Option (List Step)) (state : State) 
   pub closed : List Closed
   pub once : AllPairs (λ c d. c.session ≢ d.session) closed
   pub unseen : (c : Closed) → c ∈ closed → IsUnseen script (answered_of counts script) answers c
+  pub owes : OwesWhenStarved opening script (answered_of counts script) answers (transactions_of (length names) (places_of (answered_of counts script) answers closed))
   pub fronts : EachFrontRuns (commits_told names (answered_of counts script) answers closed) opening.map
   pub outlives : Tells (Outlives (commits_told names (answered_of counts script) answers closed) state (answer_lines (answered_of counts script) answers)) before after
+  pub slots : Tells KeepsSlots before after
   pub segments : Tells (KeepsSegments state) before after
 
 -- how a script at once ends on a disk before and after

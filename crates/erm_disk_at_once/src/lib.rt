@@ -69,7 +69,8 @@ pub fn cut_runs_at_once_end_on_disk()
     erm_told_log_at_once::cut_runs_cut_few();
 }
 
-/// What the lines answered tell where memory ran out for some sessions, or for the report, outlives a crash, with all that an answer acknowledged.
+/// What the lines answered tell where memory ran out for some sessions, or for the report, outlives a crash. Each of them was answered as its command may
+/// be, with the replies of its transaction's snapshot.
 pub fn starved_runs_at_once_end_on_disk()
     ensures { StarvedRunsAtOnceEndOnDisk }
 {
