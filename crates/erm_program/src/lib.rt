@@ -5,6 +5,7 @@ ghost use Rattle.std.specs.Prelude.{IfSome};
 ghost use Rattle.std.specs.Process.{exit_status};
 ghost use Rattle.erm_disk_run.specs.Found.{IsKept};
 ghost use Rattle.erm_top.specs.Outcomes.{Ends};
+ghost use Rattle.erm_program.specs.Streams.{EndsOnStreams};
 
 use erm_command_line::{Command, command_of};
 use erm_outside::{Disk, OpenGate, Sink, Source};
@@ -25,6 +26,7 @@ pub fn program<
     D: Disk + Drop + Send,
 >(rt: &R, words: &[String], disk: D) -> ExitCode
     requires kept { IfSome (D.told disk) IsKept }
+    ensures { EndsOnStreams words.now (exit_status result) (D.told disk) (D.faults disk) }
 {
     let mut source = ReaderSource::new(Patient::new(rt.reader(), rt));
     let mut sink = WriterSink::new(Patient::new(io::writer(rt), rt));
