@@ -1,19 +1,13 @@
 //! Calls of three sessions in turn, and the answers that they get.
-ghost use Rattle.std.specs.Prelude.{◌≡◌, ◌<◌, IfOk};
-ghost use Rattle.erm_model.specs.RowTransaction.{any_law};
+ghost use Rattle.std.specs.Prelude.{◌≡◌, ◌<◌};
 ghost use Rattle.erm_model.specs.declared.limits.TheConstants.{OID_LIMIT};
 ghost use Rattle.erm_model.specs.declared.outcome.Phase.TheVariants.{Active, Idle, Sealed};
-ghost use Rattle.erm_plain.specs.Stands.{IsWorld, plain_view};
 ghost use Rattle.erm_world.specs.Laws.{IsLawfulWork};
 ghost use Rattle.erm_world.specs.World.{IsSession, Work, phase_at};
 
 use crate::snapshots::ask_snapshot;
-use erm_model::{
-    AnyRows, OID_LIMIT, Oid, Outcome, Phase, ROW_WORDS, Receipt, RowStop, STOP, Seat, Stamp,
-};
-use erm_plain::Plain;
+use erm_model::{OID_LIMIT, Oid, Outcome, Phase, ROW_WORDS, Receipt, Row, RowStop, Seat, Stamp};
 use erm_world::{BeginStop, NotFlushed, RowWorld, SafeStop, SafeWorld, Wait};
-use std::alloc::{AllocError, Global};
 
 // A call of a session; a row that is written has this first word, and zeros behind it. A receipt has this end.
 #[derive(Clone, Copy)]
@@ -22,6 +16,7 @@ pub(crate) enum Call {
     Read(Oid),
     Claim(Oid),
     Write(Oid, u64),
+    Tidy(Oid),
     Fresh,
     Seal,
     Settle,
@@ -33,8 +28,9 @@ pub(crate) enum Call {
     EndSafe,
 }
 
-// Its answer: of a begin or a seal, the stamp; of an object made, its number; of a row, the first word; of a commit, its number, stamp,
-// end, successor and predecessor stamp; of an exclusion, the three stamps.
+// Its answer: of a begin or a seal, the stamp; of an object made, its number; of a row, the first word, where zeros stand behind it; of a
+// tidy, how many versions were cut off; of a commit, its number, stamp, end, successor and predecessor stamp; of an exclusion, the three
+// stamps.
 #[derive(Clone, Copy, PartialEq, Eq)]
 pub(crate) enum Reply {
     OutOfPhase,
@@ -42,6 +38,8 @@ pub(crate) enum Reply {
     At(Stamp),
     Made(Oid),
     First(u64),
+    OtherRow,
+    Cut(u32),
     NotBegun(BeginStop),
     Stopped(RowStop),
     Commits([u64; 5]),
@@ -54,16 +52,6 @@ pub(crate) enum Reply {
 // A call of a seat, and the answer that it is to get.
 #[derive(Clone, Copy)]
 pub(crate) struct Turn(pub(crate) Seat, pub(crate) Call, pub(crate) Reply);
-
-// Three sessions on rows of zeros, without a law of rows, whose log goes on at this place.
-pub(crate) fn world(alloc: Global, at_end: bool) -> Result<Plain<AnyRows>, AllocError>
-    ensures stands { IfOk result (IsWorld any_law) }
-    ensures sessions { IfOk result (λ p. (plain_view p).opening.sessions ≡ 3) }
-{
-    let rows = Vec::from_elem(alloc, [0; ROW_WORDS], OID_LIMIT as usize)?;
-    let tail = if at_end { STOP } else { 13 };
-    Plain::open(alloc, &rows, tail, 1, 16, 3)
-}
 
 // What an idle session that begins is answered.
 fn begin<W: RowWorld>(world: &mut W, seat: Seat) -> Reply
@@ -80,6 +68,16 @@ fn begin<W: RowWorld>(world: &mut W, seat: Seat) -> Reply
     }
 }
 
+// A row as an answer.
+pub(crate) fn told_row(row: &Row) -> Reply {
+    let mut want = [0; ROW_WORDS];
+    want[0] = row[0];
+    if *row != want {
+        return Reply::OtherRow;
+    }
+    Reply::First(row[0])
+}
+
 // What a read is answered.
 fn read<W: RowWorld>(world: &mut W, seat: Seat, oid: Oid) -> Reply
     requires stands { W.stands world.old }
@@ -91,7 +89,7 @@ fn read<W: RowWorld>(world: &mut W, seat: Seat, oid: Oid) -> Reply
     ensures sessions { (W.view world.new).opening.sessions ≡ 3 }
 {
     match world.read(seat, oid) {
-        Ok(row) => Reply::First(row[0]),
+        Ok(row) => told_row(&row),
         Err(stop) => Reply::Stopped(stop),
     }
 }
@@ -130,6 +128,22 @@ fn write<W: RowWorld>(world: &mut W, seat: Seat, oid: Oid, first: u64) -> Reply
     }
 }
 
+// What a tidy is answered.
+fn tidy<W: RowWorld>(world: &mut W, seat: Seat, oid: Oid) -> Reply
+    requires stands { W.stands world.old }
+    requires sessions { (W.view world.old).opening.sessions ≡ 3 }
+    requires session { IsSession (W.view world.old) seat }
+    requires phase { phase_at (W.view world.old) seat ≡ Active }
+    requires object { oid < OID_LIMIT }
+    ensures stands { W.stands world.new }
+    ensures sessions { (W.view world.new).opening.sessions ≡ 3 }
+{
+    match world.tidy(seat, oid) {
+        Ok(cut) => Reply::Cut(cut),
+        Err(stop) => Reply::Stopped(stop),
+    }
+}
+
 // What a session that makes an object is answered.
 fn fresh<W: RowWorld>(world: &mut W, seat: Seat) -> Reply
     requires stands { W.stands world.old }
@@ -159,6 +173,7 @@ fn ask_active<W: RowWorld>(world: &mut W, seat: Seat, call: Call) -> Reply
         Call::Read(oid) if oid < OID_LIMIT => read(world, seat, oid),
         Call::Claim(oid) if oid < OID_LIMIT => claim(world, seat, oid),
         Call::Write(oid, first) if oid < OID_LIMIT => write(world, seat, oid, first),
+        Call::Tidy(oid) if oid < OID_LIMIT => tidy(world, seat, oid),
         Call::Fresh => fresh(world, seat),
         Call::Seal => Reply::At(world.seal(seat)),
         Call::Abort => {

@@ -3,10 +3,11 @@ ghost use Rattle.std.specs.Prelude.{◌≡◌};
 ghost use Rattle.erm_world.specs.Laws.{IsLawfulWork};
 ghost use Rattle.erm_world.specs.World.{Work};
 
-use crate::calls::{Call, Reply, Turn, is_answered, world};
+use crate::calls::{Call, Reply, Turn, is_answered};
+use crate::worlds::in_lists;
 use erm_model::RowStop;
 use erm_world::SafeWorld;
-use std::test::Fail;
+use std::alloc::AllocError;
 
 // A call of the first session, on one object after another from 16 on.
 #[derive(Clone, Copy)]
@@ -50,6 +51,12 @@ const OBJECTS: [Turn; 4] = [
     Turn(1, Call::Settle, Reply::Commits([1, 13, 20, 13, 0])),
 ];
 
+const LIMITS: [Limit<'static>; 3] = [
+    Limit(Each::Claims, 128, &CLAIMS),
+    Limit(Each::Reads, 512, &READS),
+    Limit(Each::Makes, 16_368, &OBJECTS),
+];
+
 // The call on the object at a place, and its answer.
 fn turn_at(each: Each, place: u16) -> Turn {
     let oid = 16 + place as u32;
@@ -90,15 +97,10 @@ fn is_kept<W: SafeWorld>(world: &mut W, limit: &Limit<'_>) -> bool
 }
 
 #[test]
-fn limits_are_kept(rt: HostRuntime) -> Result<(), Fail> {
-    let limits = [
-        Limit(Each::Claims, 128, &CLAIMS),
-        Limit(Each::Reads, 512, &READS),
-        Limit(Each::Makes, 16_368, &OBJECTS),
-    ];
-    for limit in &limits {
-        let mut world = world(rt.alloc(), false)?;
-        assert!(rt; is_kept(&mut world, limit));
+fn limits_are_kept(rt: HostRuntime) -> Result<(), AllocError> {
+    for (place, limit) in LIMITS.iter().enumerate() {
+        let mut world = in_lists(rt.alloc(), false)?;
+        assert!(rt; is_kept(&mut world, limit), "limit {place}");
     }
     Ok(())
 }

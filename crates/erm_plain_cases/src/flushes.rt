@@ -6,12 +6,13 @@ ghost use Rattle.erm_plain.specs.Stands.{IsWorld, plain_view};
 ghost use Rattle.erm_world.specs.Laws.{IsLawfulWork};
 ghost use Rattle.erm_world.specs.World.{Work};
 
-use crate::calls::{Call, Reply, Turn, is_answered, world};
+use crate::calls::{Call, Reply, Turn, is_answered};
 use crate::rows::WRITE_SKEW;
-use erm_model::{AnyRows, OID_LIMIT, Oid, RING_WORDS, Row, Stamp};
+use crate::worlds::in_lists;
+use erm_model::{AnyRows, OID_LIMIT, Oid, RING_WORDS, Stamp};
 use erm_plain::Plain;
 use erm_world::{Gathered, LogWorld, NotFlushed, RowWorld, SafeWorld, SeatWait, Wait};
-use std::test::Fail;
+use std::alloc::{AllocError, Global};
 
 // The block behind the last that the ring has room for.
 const FULL: [Turn; 4] = [
@@ -80,6 +81,92 @@ const MORE: [Turn; 12] = [
     Turn(3, Call::Settle, Reply::Commits([1, 34, 41, 34, 27])),
 ];
 
+// A step, with what it is to answer.
+#[derive(Clone, Copy)]
+enum Step {
+    // Calls of sessions.
+    Turns(&'static [Turn]),
+    // So many transactions without a row, one after another, from 13 on.
+    Commits(u16),
+    // A flush turn.
+    Flush(Gathered),
+    // The log's end is pinned, unless it is.
+    Pin(Option<Stamp>),
+    // The pin ends, where there is one.
+    Unpin(Option<Stamp>),
+    // The first word of an object's row as of the pin, or who is waited for, where there is one.
+    First(Oid, Option<Result<u64, SeatWait>>),
+}
+
+// Transactions fill the ring, and the next one waits until all of them are flushed.
+const FILLED: [Step; 4] = [
+    Step::Commits(6_553),
+    Step::Turns(&FULL),
+    Step::Flush(Gathered::Words {
+        at: 13,
+        count: 32_765,
+    }),
+    Step::Turns(&FREE),
+];
+
+// Nothing is pinned at first. The pin stays while transactions are decided and flushed, and the next one is at the log's end.
+const BETWEEN: [Step; 11] = [
+    Step::Flush(Gathered::Empty { at: 13 }),
+    Step::Unpin(None),
+    Step::Pin(Some(13)),
+    Step::Turns(&SEALED),
+    Step::Flush(Gathered::Unfilled { at: 13 }),
+    Step::Turns(&DECIDED),
+    Step::Pin(None),
+    Step::Flush(Gathered::Words { at: 13, count: 12 }),
+    Step::Flush(Gathered::Empty { at: 25 }),
+    Step::Unpin(Some(13)),
+    Step::Pin(Some(25)),
+];
+
+// A row as of the pin stays, whatever is committed behind it; one that nobody wrote is the opening's. As of the next pin it is the last one.
+const KEPT: [Step; 10] = [
+    Step::Turns(&FIRST),
+    Step::First(16, None),
+    Step::Pin(Some(20)),
+    Step::First(16, Some(Ok(7))),
+    Step::Turns(&MORE),
+    Step::First(16, Some(Ok(7))),
+    Step::First(17, Some(Ok(0))),
+    Step::Unpin(Some(20)),
+    Step::Pin(Some(41)),
+    Step::First(16, Some(Ok(10))),
+];
+
+// Who is sealed at the pin isn't waited for. Who is sealed below it may commit, and is waited for where it writes.
+const WAITED: [Step; 9] = [
+    Step::Pin(Some(13)),
+    Step::Turns(&SEALED),
+    Step::First(16, Some(Ok(0))),
+    Step::Unpin(Some(13)),
+    Step::Pin(Some(25)),
+    Step::First(16, Some(Err(SeatWait { seat: 1, seen: 13 }))),
+    Step::First(17, Some(Ok(0))),
+    Step::Turns(&DECIDED),
+    Step::First(16, Some(Ok(7))),
+];
+
+// The block of an excluded transaction is gathered too, and leaves the row before it.
+const EXCLUDED: [Step; 4] = [
+    Step::Turns(&WRITE_SKEW),
+    Step::Flush(Gathered::Words { at: 13, count: 23 }),
+    Step::Pin(Some(36)),
+    Step::First(17, Some(Ok(2))),
+];
+
+const CASES: [(&str, &[Step]); 5] = [
+    ("a full ring waits for a flush", &FILLED),
+    ("flush turns and a pin stand between commits", &BETWEEN),
+    ("a pin keeps the rows of its place", &KEPT),
+    ("a row waits for who is sealed below the pin", &WAITED),
+    ("an excluded block is gathered too", &EXCLUDED),
+];
+
 // One flush turn: what was gathered, which is then said to be synced.
 fn flush(world: &mut Plain<AnyRows>, words: &mut [u64]) -> Gathered
     requires stands { IsWorld any_law world.old }
@@ -123,8 +210,8 @@ fn unpin(world: &mut Plain<AnyRows>) -> Option<Stamp>
     Some(place)
 }
 
-// The row of an object as of the pin, where there is one.
-fn row(world: &mut Plain<AnyRows>, oid: Oid) -> Option<Result<Row, SeatWait>>
+// The first word of an object's row as of the pin, or who is waited for, where there is a pin.
+fn first(world: &mut Plain<AnyRows>, oid: Oid) -> Option<Result<u64, SeatWait>>
     requires stands { IsWorld any_law world.old }
     requires sessions { (plain_view world.old).opening.sessions ≡ 3 }
     ensures stands { IsWorld any_law world.new }
@@ -133,32 +220,9 @@ fn row(world: &mut Plain<AnyRows>, oid: Oid) -> Option<Result<Row, SeatWait>>
     if oid >= OID_LIMIT || world.pinned().is_none() {
         return None;
     }
-    Some(LogWorld::row_at(world, oid))
-}
-
-// Its first word, where it is known.
-fn first(world: &mut Plain<AnyRows>, oid: Oid) -> Option<u64>
-    requires stands { IsWorld any_law world.old }
-    requires sessions { (plain_view world.old).opening.sessions ≡ 3 }
-    ensures stands { IsWorld any_law world.new }
-    ensures sessions { (plain_view world.new).opening.sessions ≡ 3 }
-{
-    match row(world, oid) {
-        Some(Ok(row)) => Some(row[0]),
-        _ => None,
-    }
-}
-
-// Who is waited for.
-fn waits(world: &mut Plain<AnyRows>, oid: Oid) -> Option<SeatWait>
-    requires stands { IsWorld any_law world.old }
-    requires sessions { (plain_view world.old).opening.sessions ≡ 3 }
-    ensures stands { IsWorld any_law world.new }
-    ensures sessions { (plain_view world.new).opening.sessions ≡ 3 }
-{
-    match row(world, oid) {
-        Some(Err(wait)) => Some(wait),
-        _ => None,
+    match LogWorld::row_at(world, oid) {
+        Ok(row) => Some(Ok(row[0])),
+        Err(wait) => Some(Err(wait)),
     }
 }
 
@@ -189,81 +253,50 @@ fn are_committed<W: SafeWorld>(world: &mut W, count: u16) -> bool
     true
 }
 
-#[test]
-fn a_full_ring_waits_for_a_flush(rt: HostRuntime) -> Result<(), Fail> {
-    let mut world = world(rt.alloc(), false)?;
-    let mut words = Vec::from_elem(rt.alloc(), 0, RING_WORDS as usize)?;
-    assert!(rt; are_committed(&mut world, 6_553), "they fill the ring");
-    assert!(rt; is_answered(&mut world, &FULL), "the next one waits");
-    let gathered = Gathered::Words {
-        at: 13,
-        count: 32_765,
-    };
-    assert!(rt; flush(&mut world, &mut words) == gathered, "all of them");
-    assert!(rt; is_answered(&mut world, &FREE), "it commits");
-    Ok(())
+// Whether a step is answered so.
+fn does(world: &mut Plain<AnyRows>, words: &mut [u64], step: Step) -> bool
+    requires stands { IsWorld any_law world.old }
+    requires sessions { (plain_view world.old).opening.sessions ≡ 3 }
+    requires room { length words.old ≡ RING_WORDS }
+    ensures stands { IsWorld any_law world.new }
+    ensures sessions { (plain_view world.new).opening.sessions ≡ 3 }
+    ensures room { length words.new ≡ RING_WORDS }
+{
+    match step {
+        Step::Turns(turns) => is_answered(world, turns),
+        Step::Commits(count) => are_committed(world, count),
+        Step::Flush(want) => flush(world, words) == want,
+        Step::Pin(want) => pin(world) == want,
+        Step::Unpin(want) => unpin(world) == want,
+        Step::First(oid, want) => first(world, oid) == want,
+    }
+}
+
+// Takes steps up to one that is answered otherwise: its place.
+fn first_other(world: &mut Plain<AnyRows>, words: &mut [u64], steps: &[Step]) -> Option<usize>
+    requires stands { IsWorld any_law world.old }
+    requires sessions { (plain_view world.old).opening.sessions ≡ 3 }
+    requires room { length words.old ≡ RING_WORDS }
+{
+    for place in 0..steps.len() {
+        if !does(world, words, steps[place]) {
+            return Some(place);
+        }
+    }
+    None
+}
+
+// The same of a world of its own.
+fn first_of(alloc: Global, steps: &[Step]) -> Result<Option<usize>, AllocError> {
+    let mut world = in_lists(alloc, false)?;
+    let mut words = Vec::from_elem(alloc, 0, RING_WORDS as usize)?;
+    Ok(first_other(&mut world, &mut words, steps))
 }
 
 #[test]
-fn flush_turns_and_a_pin_stand_between_commits(rt: HostRuntime) -> Result<(), Fail> {
-    let mut world = world(rt.alloc(), false)?;
-    let mut words = Vec::from_elem(rt.alloc(), 0, RING_WORDS as usize)?;
-    assert!(rt; flush(&mut world, &mut words) == Gathered::Empty { at: 13 });
-    assert!(rt; unpin(&mut world).is_none(), "it isn't pinned");
-    assert!(rt; pin(&mut world) == Some(13), "the log's end");
-    assert!(rt; is_answered(&mut world, &SEALED), "sealed");
-    assert!(rt; flush(&mut world, &mut words) == Gathered::Unfilled { at: 13 });
-    assert!(rt; is_answered(&mut world, &DECIDED), "decided");
-    assert!(rt; pin(&mut world).is_none(), "it is pinned");
-    assert!(rt; flush(&mut world, &mut words) == Gathered::Words { at: 13, count: 12 });
-    assert!(rt; flush(&mut world, &mut words) == Gathered::Empty { at: 25 });
-    assert!(rt; unpin(&mut world) == Some(13), "the pin stays");
-    assert!(rt; pin(&mut world) == Some(25), "the log's end");
-    Ok(())
-}
-
-#[test]
-fn a_pin_keeps_the_rows_of_its_place(rt: HostRuntime) -> Result<(), Fail> {
-    let mut world = world(rt.alloc(), false)?;
-    assert!(rt; is_answered(&mut world, &FIRST), "one commit");
-    assert!(rt; first(&mut world, 16).is_none(), "it isn't pinned");
-    assert!(rt; pin(&mut world) == Some(20), "behind it");
-    assert!(rt; first(&mut world, 16) == Some(7), "its row");
-    assert!(rt; is_answered(&mut world, &MORE), "three commits more");
-    assert!(rt; first(&mut world, 16) == Some(7), "the row as of the pin");
-    assert!(rt; first(&mut world, 17) == Some(0), "the opening's row");
-    assert!(rt; unpin(&mut world) == Some(20));
-    assert!(rt; pin(&mut world) == Some(41), "the log's end");
-    assert!(rt; first(&mut world, 16) == Some(10), "the last row");
-    Ok(())
-}
-
-#[test]
-fn a_row_waits_for_who_is_sealed_below_the_pin(rt: HostRuntime) -> Result<(), Fail> {
-    let mut world = world(rt.alloc(), false)?;
-    assert!(rt; pin(&mut world) == Some(13), "the log's end");
-    assert!(rt; is_answered(&mut world, &SEALED), "sealed at the pin");
-    assert!(rt; first(&mut world, 16) == Some(0), "as of the pin");
-    assert!(rt; unpin(&mut world) == Some(13));
-    assert!(rt; pin(&mut world) == Some(25), "behind both");
-    let wait = SeatWait { seat: 1, seen: 13 };
-    assert!(rt; waits(&mut world, 16) == Some(wait), "it may commit");
-    assert!(rt; first(&mut world, 17) == Some(0), "nobody writes it");
-    assert!(rt; is_answered(&mut world, &DECIDED), "decided");
-    assert!(rt; first(&mut world, 16) == Some(7), "its row");
-    Ok(())
-}
-
-#[test]
-fn an_excluded_block_is_gathered_too(rt: HostRuntime) -> Result<(), Fail> {
-    let mut world = world(rt.alloc(), false)?;
-    let mut words = Vec::from_elem(rt.alloc(), 0, RING_WORDS as usize)?;
-    assert!(rt;
-        is_answered(&mut world, &WRITE_SKEW),
-        "the last is excluded"
-    );
-    assert!(rt; flush(&mut world, &mut words) == Gathered::Words { at: 13, count: 23 });
-    assert!(rt; pin(&mut world) == Some(36), "behind its block");
-    assert!(rt; first(&mut world, 17) == Some(2), "the row before it");
+fn flush_turns_and_pins_are_answered(rt: HostRuntime) -> Result<(), AllocError> {
+    for (name, steps) in CASES {
+        assert_eq!(rt; first_of(rt.alloc(), steps)?, None, "{name}");
+    }
     Ok(())
 }

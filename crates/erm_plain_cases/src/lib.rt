@@ -1,5 +1,6 @@
-//! Cases of the world in lists: calls of three sessions in turn, snapshots that only read, the limits of a transaction, of the objects and of
-//! the ring, and flush turns and pins between commits. They stand apart, so that no crate is proved a second time with its tests.
+//! Cases of worlds: calls of three sessions in turn, of the world in lists and of the world over the word table; and of the world in lists
+//! snapshots that only read, the limits of a transaction, of the objects and of the ring, and flush turns and pins between commits. They stand
+//! apart, so that no crate is proved a second time with its tests.
 #![tactic(auto)]
 
 #[cfg(test)]
@@ -12,3 +13,5 @@ mod flushes;
 mod rows;
 #[cfg(test)]
 mod snapshots;
+#[cfg(test)]
+mod worlds;

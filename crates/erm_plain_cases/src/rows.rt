@@ -1,11 +1,14 @@
-//! Calls of several sessions in turn, worked out by hand.
-use crate::calls::{Call, Reply, Turn, is_answered, world};
+//! Calls of several sessions in turn, worked out by hand: of the world in lists and of the world over the word table. But for how many
+//! versions a tidy cuts off, both answer them so.
+use crate::calls::{Call, Reply, Turn, is_answered};
+use crate::worlds::{in_lists, over_words};
 use erm_model::{RowStop, STOP};
 use erm_world::BeginStop;
-use std::test::Fail;
+use std::alloc::{AllocError, Global};
 
-// A seal moves the log's end on by five words, and an abort leaves it. A settle commits what read nothing. No object is made twice.
-const SESSIONS: [Turn; 13] = [
+// A seal moves the log's end on by five words, and an abort leaves it. A settle commits what read nothing. No object is made twice. A session
+// that settled is idle again, and reads the opening's row.
+const SESSIONS: [Turn; 14] = [
     Turn(1, Call::Begin, Reply::At(13)),
     Turn(2, Call::Begin, Reply::At(13)),
     Turn(1, Call::Fresh, Reply::Made(16)),
@@ -19,6 +22,7 @@ const SESSIONS: [Turn; 13] = [
     Turn(2, Call::Fresh, Reply::Made(17)),
     Turn(1, Call::Settle, Reply::Commits([1, 13, 18, 13, 0])),
     Turn(1, Call::Begin, Reply::At(18)),
+    Turn(1, Call::Read(5), Reply::First(0)),
 ];
 
 // Two sessions want one object: the first owns it; the second waits for its row, and the third comes too late.
@@ -135,42 +139,82 @@ const LOG_END: [Turn; 2] = [
     Turn(1, Call::Seal, Reply::OutOfPhase),
 ];
 
+// An old version is cut off once nobody may read it; the world in lists has none to cut off.
+const TIDY: [Turn; 17] = [
+    Turn(1, Call::Begin, Reply::At(13)),
+    Turn(1, Call::Write(16, 1), Reply::Done),
+    Turn(1, Call::Seal, Reply::At(13)),
+    Turn(1, Call::Settle, Reply::Commits([1, 13, 20, 13, 0])),
+    Turn(2, Call::Begin, Reply::At(20)),
+    Turn(1, Call::Begin, Reply::At(20)),
+    Turn(1, Call::Tidy(16), Reply::Cut(1)),
+    Turn(1, Call::Tidy(16), Reply::Cut(0)),
+    Turn(1, Call::Write(16, 2), Reply::Done),
+    Turn(1, Call::Seal, Reply::At(20)),
+    Turn(1, Call::Settle, Reply::Commits([2, 20, 27, 20, 13])),
+    Turn(1, Call::Begin, Reply::At(27)),
+    Turn(1, Call::Tidy(16), Reply::Cut(0)),
+    Turn(2, Call::Read(16), Reply::First(1)),
+    Turn(2, Call::Seal, Reply::At(27)),
+    Turn(2, Call::Settle, Reply::Commits([1, 27, 32, 20, 13])),
+    Turn(1, Call::Tidy(16), Reply::Cut(1)),
+];
+
+// Calls in turn that both worlds answer so, and what they show.
+const CASES: [(&str, &[Turn]); 5] = [
+    ("begin, seal, settle and abort", &SESSIONS),
+    ("one object", &ONE_OBJECT),
+    ("write skew", &WRITE_SKEW),
+    ("read only", &READ_ONLY),
+    ("early exclusion", &EARLY),
+];
+
+// The name of the first case that the world in lists answers otherwise.
+fn first_in_lists(alloc: Global) -> Result<Option<&'static str>, AllocError> {
+    for (name, turns) in CASES {
+        if !is_answered(&mut in_lists(alloc, false)?, turns) {
+            return Ok(Some(name));
+        }
+    }
+    Ok(None)
+}
+
+// And that over the word table.
+fn first_over_words(alloc: Global) -> Result<Option<&'static str>, AllocError> {
+    for (name, turns) in CASES {
+        if !is_answered(&mut over_words(alloc)?, turns) {
+            return Ok(Some(name));
+        }
+    }
+    Ok(None)
+}
+
 #[test]
-fn calls_in_turn_are_answered(rt: HostRuntime) -> Result<(), Fail> {
-    assert!(rt;
-        is_answered(&mut world(rt.alloc(), false)?, &SESSIONS),
-        "begin, seal, settle and abort"
-    );
-    assert!(rt;
-        is_answered(&mut world(rt.alloc(), false)?, &ONE_OBJECT),
-        "one object"
-    );
-    assert!(rt;
-        is_answered(&mut world(rt.alloc(), false)?, &WRITE_SKEW),
-        "write skew"
-    );
-    assert!(rt;
-        is_answered(&mut world(rt.alloc(), false)?, &READ_ONLY),
-        "read only"
-    );
-    assert!(rt;
-        is_answered(&mut world(rt.alloc(), false)?, &EARLY),
-        "early exclusion"
-    );
-    assert!(rt;
-        is_answered(&mut world(rt.alloc(), true)?, &LOG_END),
-        "the log's end"
-    );
+fn calls_in_turn_are_answered_in_lists(rt: HostRuntime) -> Result<(), AllocError> {
+    assert_eq!(rt; first_in_lists(rt.alloc())?, None);
+    assert!(rt; is_answered(&mut in_lists(rt.alloc(), true)?, &LOG_END));
     Ok(())
+}
+
+#[test]
+fn calls_in_turn_are_answered_over_words(rt: HostRuntime) -> Result<(), AllocError> {
+    assert_eq!(rt; first_over_words(rt.alloc())?, None);
+    assert!(rt; is_answered(&mut over_words(rt.alloc())?, &TIDY));
+    Ok(())
+}
+
+// The first words of the rows that the world in lists has of three objects once the commits of a write skew are answered.
+fn rows_behind(alloc: Global) -> Result<Option<[u64; 3]>, AllocError> {
+    let mut world = in_lists(alloc, false)?;
+    if !is_answered(&mut world, &WRITE_SKEW) {
+        return Ok(None);
+    }
+    Ok(Some([world.row(16)[0], world.row(17)[0], world.row(18)[0]]))
 }
 
 // The last commit's row of an object, one on which an excluded transaction left nothing, and one that nobody has written.
 #[test]
-fn commits_leave_the_final_rows(rt: HostRuntime) -> Result<(), Fail> {
-    let mut world = world(rt.alloc(), false)?;
-    assert!(rt; is_answered(&mut world, &WRITE_SKEW));
-    assert!(rt; world.row(16)[0] == 3, "the last commit's");
-    assert!(rt; world.row(17)[0] == 2, "not the excluded one's");
-    assert!(rt; world.row(18)[0] == 0, "the opening's");
+fn commits_leave_the_final_rows(rt: HostRuntime) -> Result<(), AllocError> {
+    assert!(rt; rows_behind(rt.alloc())? == Some([3, 2, 0]));
     Ok(())
 }

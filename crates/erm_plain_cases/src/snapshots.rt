@@ -3,12 +3,14 @@ ghost use Rattle.std.specs.Prelude.{◌≡◌, ◌<◌};
 ghost use Rattle.erm_model.specs.declared.limits.TheConstants.{OID_LIMIT};
 ghost use Rattle.erm_model.specs.declared.outcome.Phase.TheVariants.{Idle, Pending, Safe};
 ghost use Rattle.erm_world.specs.Safe.{HasSnapshot};
-ghost use Rattle.erm_world.specs.World.{IsSession, phase_at};
+ghost use Rattle.erm_world.specs.Laws.{IsLawfulWork};
+ghost use Rattle.erm_world.specs.World.{IsSession, Work, phase_at};
 
-use crate::calls::{Call, Reply, Turn, is_answered, world};
+use crate::calls::{Call, Reply, Turn, is_answered, told_row};
+use crate::worlds::in_lists;
 use erm_model::{OID_LIMIT, Oid, Phase, Seat};
 use erm_world::{RowWorld, SafeStop, SafeWorld};
-use std::test::Fail;
+use std::alloc::{AllocError, Global};
 
 // What an idle session that begins a snapshot is answered.
 fn begin<W: SafeWorld>(world: &mut W, seat: Seat) -> Reply
@@ -50,7 +52,7 @@ fn read<W: SafeWorld>(world: &mut W, seat: Seat, oid: Oid) -> Reply
     ensures stands { W.stands world.new }
     ensures sessions { (W.view world.new).opening.sessions ≡ 3 }
 {
-    Reply::First(world.safe_read(seat, oid)[0])
+    told_row(&world.safe_read(seat, oid))
 }
 
 // What the end of a snapshot is answered.
@@ -213,24 +215,43 @@ const SEALED: [Turn; 12] = [
     Turn(3, Call::BeginSafe, Reply::OutOfPhase),
 ];
 
+// Calls in turn, of which each list goes on where the one before it ends, and what they show.
+const CASES: [(&str, &[&[Turn]]); 4] = [
+    (
+        "wait, unsafe, the next one, and unsafe again",
+        &[&SKEWED, &UNSAFE, &NEXT, &AGAIN],
+    ),
+    ("reads beside a commit", &[&READS]),
+    ("two at one stamp", &[&AT_ONE_STAMP]),
+    ("a session sealed below", &[&SEALED]),
+];
+
+// Whether each call of some lists gets its answer.
+fn are_answered<W: SafeWorld>(world: &mut W, lists: &[&[Turn]]) -> bool
+    requires stands { W.stands world.old }
+    requires sessions { (W.view world.old).opening.sessions ≡ 3 }
+    requires lawful { (work : Work) → IsLawfulWork W.law work }
+{
+    for turns in lists {
+        if !is_answered(world, *turns) {
+            return false;
+        }
+    }
+    true
+}
+
+// The name of the first case that isn't answered so.
+fn first_other(alloc: Global) -> Result<Option<&'static str>, AllocError> {
+    for (name, lists) in CASES {
+        if !are_answered(&mut in_lists(alloc, false)?, lists) {
+            return Ok(Some(name));
+        }
+    }
+    Ok(None)
+}
+
 #[test]
-fn snapshots_are_answered(rt: HostRuntime) -> Result<(), Fail> {
-    let mut skewed = world(rt.alloc(), false)?;
-    assert!(rt; is_answered(&mut skewed, &SKEWED));
-    assert!(rt; is_answered(&mut skewed, &UNSAFE), "wait, and unsafe");
-    assert!(rt; is_answered(&mut skewed, &NEXT), "the next one");
-    assert!(rt; is_answered(&mut skewed, &AGAIN), "unsafe again");
-    assert!(rt;
-        is_answered(&mut world(rt.alloc(), false)?, &READS),
-        "reads beside a commit"
-    );
-    assert!(rt;
-        is_answered(&mut world(rt.alloc(), false)?, &AT_ONE_STAMP),
-        "two at one stamp"
-    );
-    assert!(rt;
-        is_answered(&mut world(rt.alloc(), false)?, &SEALED),
-        "a session sealed below"
-    );
+fn snapshots_are_answered(rt: HostRuntime) -> Result<(), AllocError> {
+    assert_eq!(rt; first_other(rt.alloc())?, None);
     Ok(())
 }
