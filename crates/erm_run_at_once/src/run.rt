@@ -106,7 +106,8 @@ fn run_opened_log<D: Disk + Drop + Send, G: Gate + Sync, R: Threads + Wait + Syn
 /// can be made, over the word table. It gives the lines of the report, which is good and whose windows are tight, whatever the interleaving. A crash
 /// at any moment leaves the commits below one stamp: all that a line acknowledged, once it has, and all at the end. Where the disk fails,
 /// these are the lines of each session's first answers. Where no memory is left for a session, or for the report, there are such answers too, of which
-/// no line tells: a crash leaves the commits that they tell below one stamp, and all that one of them acknowledged, once it has.
+/// no line tells: each is one to its line, with the replies of its transaction's snapshot, and a crash leaves the commits that they tell below one
+/// stamp.
 ///
 /// It waits for threads: its clauses are of what it returns, if it returns.
 pub fn run_at_once_on_disk<D: Disk + Drop + Send, G: Gate + Sync, R: Threads + Wait + Sync>(
