@@ -81,7 +81,7 @@ import subprocess
 import sys
 
 PROGRAM, ROOM, DATA, *NAMES = sys.argv[1:]
-NAMES = NAMES or "two_puts tidy_cuts_a_version excluded_is_passed_over checkpoint_by_line at_once_two_puts at_once_durable made".split()
+NAMES = NAMES or "two_puts tidy_cuts_a_version excluded_is_passed_over checkpoint_by_line at_once_two_puts at_once_durable at_once_two_sessions made".split()
 NONE, ALL = 0, 2**62
 EACH = int(os.environ.get("EACH", 1))
 USAGE = subprocess.run([PROGRAM], stdin=subprocess.DEVNULL, stdout=subprocess.PIPE).stdout
