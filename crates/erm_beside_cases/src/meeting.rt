@@ -34,8 +34,8 @@ impl Meeting {
         self.expired.load(Ordering::SeqCst) != 0
     }
 
-    // Comes, and waits until the other session has come, or for 1,000,000 turns.
-    fn come(&self) {
+    /// Comes, and waits until the other session has come, or for 1,000,000 turns.
+    pub fn come(&self) {
         self.came.fetch_add(1, Ordering::SeqCst);
         let backoff = Backoff::new();
         for _ in 0..MOST_TURNS {

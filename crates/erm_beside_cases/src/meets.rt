@@ -91,18 +91,30 @@ struct Part {
     answers: Vec<Answer>,
 }
 
-// The transaction of a session, which puts in a table of its own: the first one in table 0.
+// The lines of a session, which puts in a table of its own: the first one in table 0. The second one then begins and commits once more.
+fn lines_of(alloc: Global, seat: Seat) -> Result<Vec<ScriptLine>, AllocError>
+    requires seat { 0 < seat }
+{
+    let mut lines = vec![in alloc;
+        line(seat, Command::Begin),
+        line(seat, put(seat - 1)),
+        line(seat, Command::Commit),
+    ]?;
+    if seat == 2 {
+        lines.push(line(seat, Command::Begin))?;
+        lines.push(line(seat, Command::Commit))?;
+    }
+    Ok(lines)
+}
+
+// A session's lines, with room for their answers.
 fn part_of(alloc: Global, seat: Seat) -> Result<Part, Fail>
     requires seat { 0 < seat }
     ensures lines { IfOk result (λ p. AreOf seat p.lines.items) }
     ensures none { IfOk result (λ p. p.answers.items ≡ []) }
     ensures room { IfOk result (λ p. length p.lines.items ≤ vec_capacity p.answers) }
 {
-    let lines = vec![in alloc;
-        line(seat, Command::Begin),
-        line(seat, put(seat - 1)),
-        line(seat, Command::Commit),
-    ]?;
+    let lines = lines_of(alloc, seat)?;
     if !are_of(&lines, seat) {
         return Err(Fail::new("these are no lines of a session"));
     }
