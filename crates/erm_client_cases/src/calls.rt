@@ -23,7 +23,7 @@ pub enum Ask {
 }
 
 /// What it is answered.
-#[derive(Clone, Copy, Debug, PartialEq, Eq)]
+#[derive(Clone, Copy, PartialEq, Eq)]
 pub enum Told {
     Done,
     Value(Option<u64>),
@@ -174,13 +174,13 @@ fn call_of<'a, R: Wait>(
     call(rt, second, ask)
 }
 
-/// Makes the calls of two clients up to one that is answered otherwise: its place, and that answer.
+/// Makes the calls of two clients up to one that is answered otherwise: its place.
 pub fn first_other<'a, R: Wait>(
     rt: &R,
     first: &mut TableClient<'a>,
     second: &mut TableClient<'a>,
     steps: &[Step],
-) -> Option<(usize, Option<Told>)>
+) -> Option<usize>
     requires first { IsClient (λ x s. Stands sound_law x s) seat_of own_of first.old }
     requires second { IsClient (λ x s. Stands sound_law x s) seat_of own_of second.old }
     ensures first { IsClient (λ x s. Stands sound_law x s) seat_of own_of first.new }
@@ -188,9 +188,8 @@ pub fn first_other<'a, R: Wait>(
 {
     for place in 0..steps.len() {
         let (seat, ask, want) = steps[place];
-        let told = call_of(rt, first, second, seat, ask);
-        if told != Some(want) {
-            return Some((place, told));
+        if call_of(rt, first, second, seat, ask) != Some(want) {
+            return Some(place);
         }
     }
     None

@@ -118,8 +118,27 @@ pub fn two<'a>(
     (first, second)
 }
 
-/// Closes a client and gives its session up, which is idle then: its transcript, and the answer of its closing.
-pub fn finish<'a, R: Wait + Abort>(rt: &R, client: TableClient<'a>) -> (Transcript, Option<Answer>)
+/// How a client ends: how many lines its transcript has, how many answers, and whether its closing aborted a transaction, or told nothing.
+#[derive(Clone, Copy, PartialEq, Eq)]
+pub enum End {
+    Closed(usize, usize),
+    Aborted(usize, usize),
+    /// Its closing told something else.
+    Other,
+}
+
+// How a client with this transcript ends, whose closing is answered so.
+fn end_of(transcript: &Transcript, closed: &Option<Answer>) -> End {
+    let (lines, answers) = (transcript.lines.len(), transcript.answers.len());
+    match closed {
+        None => End::Closed(lines, answers),
+        Some(Answer::Aborted) => End::Aborted(lines, answers),
+        Some(_) => End::Other,
+    }
+}
+
+/// Closes a client and gives its session up, which is idle then.
+pub fn finish<'a, R: Wait + Abort>(rt: &R, client: TableClient<'a>) -> End
     requires client { IsClient (λ x s. Stands sound_law x s) seat_of own_of client }
 {
     let table = client.shared;
@@ -133,5 +152,5 @@ pub fn finish<'a, R: Wait + Abort>(rt: &R, client: TableClient<'a>) -> (Transcri
         panic!(rt; "a session that was closed isn't idle");
     };
     session.into_pass();
-    (transcript, closed)
+    end_of(&transcript, &closed)
 }

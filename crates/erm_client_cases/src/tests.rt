@@ -1,10 +1,11 @@
 //! What two clients are answered whose calls come one between another.
 use crate::calls::{Ask, Step, Told, first_other};
-use crate::clients::{finish, opened, two};
-use erm_client::{Refusal, Transcript};
+use crate::clients::{End, finish, opened, two};
+use erm_client::Refusal;
 use erm_engine::Opened;
-use erm_report::Answer;
-use std::test::Fail;
+use std::alloc::{AllocError, Global};
+use std::process::Abort;
+use std::sync::Wait;
 
 // The first client commits two keys. The second one, which began before, sees neither, and may set neither; then it sees both and no more, takes one
 // away and gives that up.
@@ -76,67 +77,52 @@ const CLAIMED: [Step; 12] = [
     (1, Ask::Get(0, 10), Told::Refused(Refusal::Stopped)),
 ];
 
-// Whether a transcript has so many lines, and an answer for each.
-fn has_lines(transcript: &Transcript, many: usize) -> bool {
-    transcript.lines.len() == many && transcript.answers.len() == many
+// What the calls show, the calls, and how both clients end. The second one of the skewed withdrawals is closed while its next transaction isn't over.
+// The line at which a client was told to stop has no answer.
+const CASES: [(&str, &[Step], [End; 2]); 3] = [
+    (
+        "a client sees what the other committed",
+        &SEEN,
+        [End::Closed(7, 7), End::Closed(13, 13)],
+    ),
+    (
+        "of two skewed withdrawals one commits",
+        &SKEWED,
+        [End::Closed(9, 9), End::Aborted(7, 7)],
+    ),
+    (
+        "of two that set a key one begins again",
+        &CLAIMED,
+        [End::Closed(4, 3), End::Closed(6, 6)],
+    ),
+];
+
+// Makes the calls of two clients over empty tables, up to one that is answered otherwise: its place, and how both end.
+fn run<R: Wait + Abort>(
+    rt: &R,
+    alloc: Global,
+    steps: &[Step],
+) -> Result<(Option<usize>, [End; 2]), AllocError> {
+    let Opened {
+        table,
+        sessions,
+        idle: _,
+        flush: _,
+    } = opened(rt, alloc)?;
+    let (mut first, mut second) = two(alloc, &table, sessions);
+    let other = first_other(rt, &mut first, &mut second, steps);
+    let first = finish(rt, first);
+    let second = finish(rt, second);
+    Ok((other, [first, second]))
 }
 
 // Each call has its line and its answer in its client's transcript.
 #[test]
-fn a_client_sees_what_the_other_committed(rt: HostRuntime) -> Result<(), Fail> {
-    let alloc = rt.alloc();
-    let Opened {
-        table,
-        sessions,
-        idle: _,
-        flush: _,
-    } = opened(&rt, alloc)?;
-    let (mut first, mut second) = two(alloc, &table, sessions);
-    let other = first_other(&rt, &mut first, &mut second, &SEEN);
-    assert!(rt; other.is_none(), "{other:?}");
-    let (lines, _) = finish(&rt, first);
-    assert!(rt; has_lines(&lines, 7));
-    let (lines, _) = finish(&rt, second);
-    assert!(rt; has_lines(&lines, 13));
-    Ok(())
-}
-
-// The second client, whose next transaction isn't over, is closed.
-#[test]
-fn of_two_skewed_withdrawals_one_commits(rt: HostRuntime) -> Result<(), Fail> {
-    let alloc = rt.alloc();
-    let Opened {
-        table,
-        sessions,
-        idle: _,
-        flush: _,
-    } = opened(&rt, alloc)?;
-    let (mut first, mut second) = two(alloc, &table, sessions);
-    let other = first_other(&rt, &mut first, &mut second, &SKEWED);
-    assert!(rt; other.is_none(), "{other:?}");
-    finish(&rt, first);
-    let (_, closed) = finish(&rt, second);
-    assert!(rt; matches!(closed, Some(Answer::Aborted)));
-    Ok(())
-}
-
-// The line at which a client was told to stop has no answer.
-#[test]
-fn of_two_that_set_a_key_one_begins_again(rt: HostRuntime) -> Result<(), Fail> {
-    let alloc = rt.alloc();
-    let Opened {
-        table,
-        sessions,
-        idle: _,
-        flush: _,
-    } = opened(&rt, alloc)?;
-    let (mut first, mut second) = two(alloc, &table, sessions);
-    let other = first_other(&rt, &mut first, &mut second, &CLAIMED);
-    assert!(rt; other.is_none(), "{other:?}");
-    let (lines, _) = finish(&rt, second);
-    assert!(rt; has_lines(&lines, 6));
-    let (lines, closed) = finish(&rt, first);
-    assert!(rt; lines.lines.len() == 4 && lines.answers.len() == 3);
-    assert!(rt; closed.is_none());
+fn calls_of_two_clients_are_answered(rt: HostRuntime) -> Result<(), AllocError> {
+    for (name, steps, want) in CASES {
+        let (other, ends) = run(&rt, rt.alloc(), steps)?;
+        assert_eq!(rt; other, None, "{name}");
+        assert!(rt; ends == want, "{name}: how both end");
+    }
     Ok(())
 }
