@@ -1,5 +1,6 @@
 -- What executions owe: the laws, as statements.
 use Rattle.std.specs.Prelude.{◌≡◌, ℕ, ◌≤◌, List, []}
+use Rattle.erm_model.specs.declared.limits.TheConstants.{SESSIONS}
 use Rattle.erm_model.specs.Committed.{HasSnapshotReplies, RunsInOrder, Committed, rank_of, state_after}
 use Rattle.erm_model.specs.Member.{◌∈◌}
 use Rattle.erm_model.specs.SerialOrder.{IsSerialOrder}
@@ -96,10 +97,11 @@ RunsHaveSafeSnapshots = OfRuns (λ opening script answers closed told. Snapshots
 abbrev pub PartsHaveSafeSnapshots : Type 0
 PartsHaveSafeSnapshots = OfParts (λ opening script answers closed told. SnapshotsAgree (moment_at InTurn opening script answers told) opening script answers told)
 
--- run in the serial order of all, the commits told and the safe snapshots that ended give their replies, and end in the map of the commits alone
+-- Run in the serial order of all, the commits told and the safe snapshots that ended give their replies, and end in the map of the commits alone:
+-- where there are no more sessions than there may be.
 abbrev pub RunsAreSerialWithSnapshots : Type 0
 RunsAreSerialWithSnapshots = (v t : View) (script : List ScriptLine) (answers : List Answer) (run : IsRun v script answers t) (closed : List Closed) (opening : Opening)
-    → AreClosed run.closing closed → IsOpeningOf v opening → (commits order : List Committed)
+    → AreClosed run.closing closed → IsOpeningOf v opening → v.opening.sessions ≤ SESSIONS → (commits order : List Committed)
     → IsSerialOrder rank_of (history_of (transactions_of v.opening.sessions (places_of script answers closed))) commits
     → IsSerialOrder rank_of (serial_of v.opening.sessions (places_of script answers closed)) order
     → RunsInOrder order opening.map (state_after commits opening.map)
