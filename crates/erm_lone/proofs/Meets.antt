@@ -83,7 +83,7 @@ module _ (tells : (u : View) → TellsCommits u) (v f : View) (later : IsLaterWo
         is = one.is;
       })
 
-  stamp_below : (law : Law) (r : TransactionRecord) → IsSerializable law v → r ∈ history_of v → r.stamp < v.tail
+  pub stamp_below : (law : Law) (r : TransactionRecord) → IsSerializable law v → r ∈ history_of v → r.stamp < v.tail
   stamp_below law r lawful m =
       let one : IsCommitOf v r = (tells v).only r m in
       let g : Finished = record { work = one.work; fate = world.commits one.stamp one.succ one.pred } in
