@@ -6,15 +6,16 @@ use Rattle.erm_report.specs.declared.answer.Answer.{Answer}
 use Rattle.erm_report.specs.declared.answer.Answer.TheVariants as answer
 use Rattle.erm_script.specs.declared.script.Command.{Command}
 use Rattle.erm_script.specs.declared.script.Command.TheVariants as command
+use Rattle.erm_script.specs.declared.script.ScriptLine.{ScriptLine}
 use Rattle.erm_world.specs.declared.stops.SafeStop.TheVariants as stop
 use Rattle.erm_world.specs.Safe.{IsSafeIn, WentBack}
 use Rattle.erm_world.specs.World.{Session, View, phase_at, phase_of, work_at, work_of}
-use Rattle.erm_good_report.specs.Phases.{HasNoSnapshot}
+use Rattle.erm_good_report.specs.Phases.{FitsRefusal, HasNoSnapshot, refusal_of}
 use Rattle.erm_lines.specs.Whole.{is_snapshot}
 use Rattle.erm_beside.specs.Calls.{After, Passes}
 use Rattle.erm_beside.specs.Safe.{DidBeginSafeBeside, DidSafeBeside, NotSafeBeside}
-use Rattle.erm_beside.specs.Onward.{passes_then}
-use Rattle.erm_lines_at_once.specs.Answers.{DidAskSafeBeside, DidAskSnapshotBeside, DidCommandBeside, DidInBeside, DidOfSnapshotBeside, TriedSafe, TriedSnapshot}
+use Rattle.erm_beside.specs.Onward.{passes_itself, passes_then}
+use Rattle.erm_lines_at_once.specs.Answers.{DidAskSafeBeside, DidAskSnapshotBeside, DidAskedBeside, DidCommandBeside, DidInBeside, DidLineBeside, DidOfSnapshotBeside, TriedSafe, TriedSnapshot, WasAnsweredBeside, WasWatchedBeside}
 
 -- ASKED. Others went on where it waits.
 pub waits_pass : (seat other seen : ℕ) (v t : View) → After seat (NotSafeBeside seat (stop.NotYet other seen)) v t → Passes seat v t
@@ -78,3 +79,24 @@ in_snapshot f seat c a v t Active is did = absurd (cc)
 in_snapshot f seat c a v t Sealed is did = absurd (cc)
 in_snapshot f seat c a v t Pending is did = did
 in_snapshot f seat c a v t Safe is did = did
+
+-- The phase refused it; or it allowed it, of a session without a snapshot, or with one.
+pub refused_line : (f : View) (l : ScriptLine) (a : Answer) (v : View) → refusal_of (phase_at v l.session) l.command ≡ Some a → DidLineBeside f l a v v
+refused_line f l a v refuses = record {
+  fits = subst (λ (o : Option Answer). FitsRefusal o l.command a) (sym refuses) refl;
+  did = subst (λ (o : Option Answer). DidAskedBeside o f l.session l.command a v v) (sym refuses) (passes_itself l.session v);
+}
+
+pub plain_line : (f : View) (l : ScriptLine) (a : Answer) (v t : View) → HasNoSnapshot (phase_at v l.session) → refusal_of (phase_at v l.session) l.command ≡ None
+    → WasAnsweredBeside f l.session l.command a v t → DidLineBeside f l a v t
+plain_line f l a v t plain allows it = record {
+  fits = subst (λ (o : Option Answer). FitsRefusal o l.command a) (sym allows) it.fits;
+  did = subst (λ (o : Option Answer). DidAskedBeside o f l.session l.command a v t) (sym allows) (in_plain f l.session l.command a v t (phase_at v l.session) plain it.did);
+}
+
+pub snapshot_line : (f : View) (l : ScriptLine) (a : Answer) (v t : View) → is_snapshot (phase_at v l.session) ≡ true → refusal_of (phase_at v l.session) l.command ≡ None
+    → WasWatchedBeside f l.session l.command a v t → DidLineBeside f l a v t
+snapshot_line f l a v t has allows it = record {
+  fits = subst (λ (o : Option Answer). FitsRefusal o l.command a) (sym allows) it.fits;
+  did = subst (λ (o : Option Answer). DidAskedBeside o f l.session l.command a v t) (sym allows) (in_snapshot f l.session l.command a v t (phase_at v l.session) has it.did);
+}

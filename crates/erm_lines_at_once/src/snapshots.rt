@@ -3,14 +3,29 @@ ghost use Rattle.std.specs.Prelude.{◌≡◌, IfOk};
 ghost use Rattle.erm_model.specs.declared.outcome.Phase.TheVariants.{Idle, Pending};
 ghost use Rattle.erm_world.specs.Safe.{HasSnapshot};
 ghost use Rattle.erm_world.specs.World.{View, phase_at};
+ghost use Rattle.erm_lines.specs.Whole.{is_snapshot};
 ghost use Rattle.erm_beside.specs.Laws.{GoesOnward};
 ghost use Rattle.erm_lines_at_once.specs.Answers.{TriedSafe, TriedSnapshot, WasWatchedBeside};
 
 use erm_beside::SafeSession;
+use erm_model::Phase;
 use erm_report::Answer;
 use erm_script::Command;
 use erm_world::{BeginStop, SafeStop};
 use std::alloc::AllocError;
+
+/// Whether a session in this phase has a snapshot.
+pub fn has_snapshot(phase: Phase) -> bool
+    ensures { result ≡ is_snapshot phase }
+{
+    match phase {
+        Phase::Idle => false,
+        Phase::Active => false,
+        Phase::Sealed => false,
+        Phase::Pending => true,
+        Phase::Safe => true,
+    }
+}
 
 /// Asks whether the session's snapshot is safe: an answer, or `None` where it isn't known yet.
 pub fn try_safe<S: SafeSession>(session: &mut S, shared: &S::Shared) -> Option<Answer>

@@ -7,16 +7,16 @@ use Rattle.erm_script.specs.declared.script.Command.TheVariants as command
 use Rattle.erm_script.specs.declared.script.ScriptLine.{ScriptLine}
 use Rattle.erm_world.specs.Face.{Grows, same}
 use Rattle.erm_world.specs.World.{Session, View, phase_at}
-use Rattle.erm_good_report.specs.Phases.{FitsRefusal, HasNoSnapshot, refusal_of}
+use Rattle.erm_good_report.specs.Phases.{HasNoSnapshot, refusal_of}
 use Rattle.erm_lines.specs.Answers.{KeepsReceipt}
 use Rattle.erm_lines.specs.Whole.{is_snapshot}
 use Rattle.erm_lines.proofs.Watched.{snapshot_rests}
-use Rattle.erm_lines_at_once.specs.Answers.{DidAskedBeside, WasAnsweredBeside, WasWatchedBeside}
-use Rattle.erm_lines_at_once.proofs.Watched.{in_plain, in_snapshot}
+use Rattle.erm_lines_at_once.specs.Answers.{WasAnsweredBeside}
+use Rattle.erm_lines_at_once.proofs.Watched.{plain_line, refused_line as refused_one, snapshot_line}
 use Rattle.erm_worker.specs.Work.{GaveUp, IsReady, IsRunNow, RanLine, WasAsked, WasSettled, WasWatched}
 use Rattle.erm_worker.proofs.Kept.{begun_snapshot_ready, decided_runs, grown_receipt, watched_ready}
 use Rattle.erm_worker.proofs.Left.{left_waiting, stood_left}
-use Rattle.erm_worker.proofs.Waits.{passes_itself, passes_phase}
+use Rattle.erm_worker.proofs.Waits.{passes_phase}
 
 pub settled_ready : (seat : ℕ) (answered : Option Answer) (v t : View) (r x : Option Receipt) → WasSettled seat answered v t → KeepsReceipt v seat r t x → IsReady (v.session seat) r
     → IfSome answered (λ _. IsReady (t.session seat) x)
@@ -54,34 +54,19 @@ same_grown (Err e) s t is = same is
 
 -- LINES. The phase refused it.
 pub refused_line : (f : View) (l : ScriptLine) (a : Answer) (seat : ℕ) (v : View) → l.session ≡ seat → refusal_of (phase_at v seat) l.command ≡ Some a → RanLine f l (Some a) v v
-refused_line f l a seat v is refuses =
-    let so : refusal_of (phase_at v l.session) l.command ≡ Some a = ap (λ (n : ℕ). refusal_of (phase_at v n) l.command) is ∙ refuses in record {
-      fits = subst (λ (o : Option Answer). FitsRefusal o l.command a) (sym so) refl;
-      did = subst (λ (o : Option Answer). DidAskedBeside o f l.session l.command a v v) (sym so) (passes_itself l.session v);
-    }
+refused_line f l a seat v is refuses = refused_one f l a v (ap (λ (n : ℕ). refusal_of (phase_at v n) l.command) is ∙ refuses)
 
 -- the phase allowed it, and it was answered: in a session without a snapshot, and in one with a snapshot
 pub answered_line : (f : View) (l : ScriptLine) (a : Answer) (seat : ℕ) (v t : View) → l.session ≡ seat → HasNoSnapshot (phase_at v seat) → refusal_of (phase_at v seat) l.command ≡ None
     → WasAsked f seat l.command (Some a) v t → RanLine f l (Some a) v t
 answered_line f l a seat v t is plain allows asked =
-    let so : refusal_of (phase_at v l.session) l.command ≡ None = ap (λ (n : ℕ). refusal_of (phase_at v n) l.command) is ∙ allows in
-    let none : HasNoSnapshot (phase_at v l.session) = subst (λ (n : ℕ). HasNoSnapshot (phase_at v n)) (sym is) plain in
-    let it : WasAnsweredBeside f l.session l.command a v t = subst (λ (n : ℕ). WasAnsweredBeside f n l.command a v t) (sym is) asked in record {
-      fits = subst (λ (o : Option Answer). FitsRefusal o l.command a) (sym so) it.fits;
-      did = subst (λ (o : Option Answer). DidAskedBeside o f l.session l.command a v t) (sym so) (in_plain f l.session l.command a v t (phase_at v l.session) none it.did);
-    }
-
-looked_line : (f : View) (l : ScriptLine) (a : Answer) (v t : View) → is_snapshot (phase_at v l.session) ≡ true → refusal_of (phase_at v l.session) l.command ≡ None
-    → WasWatchedBeside f l.session l.command a v t → RanLine f l (Some a) v t
-looked_line f l a v t has so it = record {
-  fits = subst (λ (o : Option Answer). FitsRefusal o l.command a) (sym so) it.fits;
-  did = subst (λ (o : Option Answer). DidAskedBeside o f l.session l.command a v t) (sym so) (in_snapshot f l.session l.command a v t (phase_at v l.session) has it.did);
-}
+    plain_line f l a v t (subst (λ (n : ℕ). HasNoSnapshot (phase_at v n)) (sym is) plain) (ap (λ (n : ℕ). refusal_of (phase_at v n) l.command) is ∙ allows)
+    (subst (λ (n : ℕ). WasAnsweredBeside f n l.command a v t) (sym is) asked)
 
 -- so it was, or it waits, and the session was left
 watched_so : (f : View) (l : ScriptLine) (answered : Option Answer) (v t : View) → is_snapshot (phase_at v l.session) ≡ true → refusal_of (phase_at v l.session) l.command ≡ None
     → WasWatched f l.session l.command answered v t → RanLine f l answered v t
-watched_so f l (Some a) v t has so it = looked_line f l a v t has so it
+watched_so f l (Some a) v t has so it = snapshot_line f l a v t has so it
 watched_so f l None v t has so passes =
     stood_left f l.session (Some l) v t t passes (λ active. snapshot_rests v l.session has (sym (passes_phase l.session v t passes) ∙ active)) refl
 

@@ -4,7 +4,6 @@ ghost use Rattle.erm_model.specs.declared.outcome.Phase.TheVariants.{Idle};
 ghost use Rattle.erm_model.specs.RowTransaction.{SameLaw};
 ghost use Rattle.erm_node.specs.Sound.{sound_law};
 ghost use Rattle.erm_good_report.specs.Phases.{HasNoSnapshot, refusal_of};
-ghost use Rattle.erm_lines.specs.Whole.{is_snapshot};
 ghost use Rattle.erm_world.specs.Face.{Grows};
 ghost use Rattle.erm_world.specs.World.{View, phase_at};
 ghost use Rattle.erm_beside.specs.Laws.{GoesOnward};
@@ -17,8 +16,8 @@ use crate::operations::operate;
 use crate::snapshots::{begin_snapshot, watch};
 use erm_beside::{SafeSession, SharedSession};
 use erm_lines::refusal_of;
-use erm_lines_at_once::{abort, seal};
-use erm_model::{Phase, Receipt};
+use erm_lines_at_once::{abort, has_snapshot, seal};
+use erm_model::Receipt;
 use erm_outside::Place;
 use erm_report::Answer;
 use erm_script::{Command, ScriptLine};
@@ -86,19 +85,6 @@ fn run<S: SafeSession, T: Turns, R: Wait>(
         Command::Abort => Ok(Some(abort(session, shared))),
         Command::Durable => Ok(durable(rt, session, shared, turns, receipt.as_ref())),
         _ => operate(rt, alloc, session, shared, turns, command),
-    }
-}
-
-// Whether a session in this phase has a snapshot.
-fn has_snapshot(phase: Phase) -> bool
-    ensures { result ≡ is_snapshot phase }
-{
-    match phase {
-        Phase::Idle => false,
-        Phase::Active => false,
-        Phase::Sealed => false,
-        Phase::Pending => true,
-        Phase::Safe => true,
     }
 }
 
