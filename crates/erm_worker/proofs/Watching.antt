@@ -1,17 +1,14 @@
 -- A snapshot that was asked after waits, and what a line of a session with a snapshot did.
-use Rattle.std.proofs.Common.{◌≡◌, ◌≢◌, ℕ, true, Option, Some, None, IsSome, refl, sym, ap, ◌∙◌, subst}
-use Rattle.erm_model.specs.declared.outcome.Phase.{Phase}
-use Rattle.erm_model.specs.declared.outcome.Phase.TheVariants.{Active, Idle, Sealed, Pending, Safe}
+use Rattle.std.proofs.Common.{◌≡◌, ◌≢◌, ℕ, Option, Some, None, IsSome, refl, subst}
+use Rattle.erm_model.specs.declared.outcome.Phase.TheVariants.{Active, Idle}
 use Rattle.erm_report.specs.declared.answer.Answer.{Answer}
 use Rattle.erm_report.specs.declared.answer.Answer.TheVariants as answer
 use Rattle.erm_script.specs.declared.script.Command.{Command}
 use Rattle.erm_script.specs.declared.script.Command.TheVariants as command
 use Rattle.erm_world.specs.Safe.{HasSnapshot}
 use Rattle.erm_world.specs.World.{View, phase_at}
-use Rattle.erm_good_report.specs.Phases.{refusal_of}
-use Rattle.erm_good_report.specs.Transactions.{table_of}
+use Rattle.erm_good_report.specs.Phases.{need_of}
 use Rattle.erm_lines.proofs.Watched.{has_phase, snapshot_rests}
-use Rattle.erm_lines.specs.Whole.{is_snapshot}
 use Rattle.erm_beside.specs.Calls.{After, Passes}
 use Rattle.erm_beside.specs.Safe.{DidBeginSafeBeside}
 use Rattle.erm_lines_at_once.specs.Answers.{DidAskSafeBeside, TriedSafe, TriedSnapshot, WasAnsweredBeside}
@@ -57,24 +54,9 @@ pub durable_watched : (f : View) (seat : ℕ) (answered : Option Answer) (v t : 
 durable_watched f seat None v t has waited = waited_passes f seat v t (snapshot_rests v seat (has_phase v seat has)) waited
 durable_watched f seat (Some a) v t has was = durable_so f seat a v t was
 
--- THE PHASE. A `safe` that isn't refused asks a pending snapshot, and what is none of the others is a look of a safe one.
-pub record Looks (p : Phase) (c : Command) : Type 0 where
-  pub is_safe : p ≡ Safe
-  pub named : IsSome (table_of c)
-  pub free : refusal_of Safe c ≡ None
-
-pub looks : (p : Phase) (c : Command) → is_snapshot p ≡ true → IsOfSession c → refusal_of p c ≡ None → c ≢ command.Safe → c ≢ command.Commit → c ≢ command.Abort → c ≢ command.Durable → Looks p c
-looks Safe (command.Get table key) has of free safe commit abort durable = record { is_safe = refl; named = refl; free = refl }
-looks Safe (command.Next table from) has of free safe commit abort durable = record { is_safe = refl; named = refl; free = refl }
-looks Safe (command.Scan table low high) has of free safe commit abort durable = record { is_safe = refl; named = refl; free = refl }
-looks p command.Safe has of free safe commit abort durable = absurd (safe refl)
-looks p command.Commit has of free safe commit abort durable = absurd (commit refl)
-looks p command.Abort has of free safe commit abort durable = absurd (abort refl)
-looks p command.Durable has of free safe commit abort durable = absurd (durable refl)
-looks p command.Flush has of free safe commit abort durable = absurd of
-looks p command.Checkpoint has of free safe commit abort durable = absurd of
-looks Idle c has of free safe commit abort durable = absurd (cc)
-looks Active c has of free safe commit abort durable = absurd (cc)
-looks Sealed c has of free safe commit abort durable = absurd (cc)
-looks Pending c has of free safe commit abort durable = absurd (cc)
-looks Safe c has of free safe commit abort durable = absurd (cc)
+-- what a command of a session is, but for `durable`
+pub needs : (c : Command) → IsOfSession c → c ≢ command.Durable → IsSome (need_of c)
+needs command.Durable of durable = absurd (durable refl)
+needs command.Flush of durable = absurd of
+needs command.Checkpoint of durable = absurd of
+needs c of durable = refl

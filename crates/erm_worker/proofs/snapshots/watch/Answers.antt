@@ -1,10 +1,12 @@
-use Rattle.std.proofs.Common.{sym, subst}
+use Rattle.std.proofs.Common.{◌≡◌, None, sym, subst}
+use Rattle.erm_model.specs.declared.outcome.Phase.{Phase}
 use Rattle.erm_script.specs.declared.script.Command.{Command}
 use Rattle.erm_world.specs.World.{phase_at}
-use Rattle.erm_lines.proofs.Watched.{has_phase, pending_where}
+use Rattle.erm_good_report.specs.Phases.{refusal_of}
+use Rattle.erm_lines.proofs.Watched.{has_phase, looks_are_safe, pending_where}
 use Rattle.erm_lines_at_once.specs.Answers.{WasWatchedBeside}
 use Rattle.erm_worker.specs.Work.{WasWatched}
-use Rattle.erm_worker.proofs.Watching.{durable_watched, looks, watched_of}
+use Rattle.erm_worker.proofs.Watching.{durable_watched, needs, watched_of}
 use Rattle.erm_worker.proofs.snapshots.watch.Goals as goal
 
 pub ask-requires-clause-pending : goal.ask-requires-clause-pending
@@ -42,13 +44,13 @@ pub look-requires : goal.look-requires
 look-requires g c =
     let seat = g.S.SharedSession.seat c.args.session.now in
     let v = g.S.SharedSession.own c.args.session.now in
-    let it = looks (phase_at v seat) c.args.command.now (has_phase v seat c.requires.snapshot) c.requires.may.of_session c.requires.allowed c.in_default.not-Safe c.in_default.not-Commit
-    c.in_default.not-Abort c.in_default.not-Durable in
+    let asks = needs c.args.command.now c.requires.may.of_session c.in_default.not-Durable in
+    let it = looks_are_safe (phase_at v seat) c.args.command.now (has_phase v seat c.requires.snapshot) c.in_default.not-Safe c.in_default.not-Commit c.in_default.not-Abort asks c.requires.allowed in
     record {
       law = c.requires.law;
       stands = c.requires.stands;
-      safe = it.is_safe;
-      free = it.free;
-      named = it.named;
+      safe = it.0;
+      free = subst (λ (p : Phase). refusal_of p c.args.command.now ≡ None) it.0 c.requires.allowed;
+      named = it.1;
       table = c.requires.may.table;
     }
