@@ -1,4 +1,4 @@
-use Rattle.std.proofs.Common.{◌≡◌, true, false, Option, Some, None, sym, ap, ◌∙◌, subst}
+use Rattle.std.proofs.Common.{◌≡◌, ℕ, true, false, Option, Some, None, sym, ap, ◌∙◌, subst}
 use Rattle.std.proofs.lemmas.Result.{IfOk-weaker}
 use Rattle.erm_report.specs.declared.answer.Answer.{Answer}
 use Rattle.erm_world.specs.World.{View, phase_at}
@@ -16,7 +16,7 @@ returns-in-Some-clause-did g c =
     let v = g.S.SharedSession.own c.args.session.now in
     let l = c.args.line.now in
     let so : refusal_of (phase_at v seat) l.command ≡ Some c.in-Some.refusal = cc in
-    refused_run (g.S.SharedSession.ends c.args.session.now) l c.in-Some.refusal v (ap (λ n. refusal_of (phase_at v n) l.command) (sym c.requires.seat) ∙ so)
+    refused_run (g.S.SharedSession.ends c.args.session.now) l c.in-Some.refusal v (ap (λ (n : ℕ). refusal_of (phase_at v n) l.command) (sym c.requires.seat) ∙ so)
 
 -- WITH A SNAPSHOT
 pub try_watch-requires-clause-snapshot : goal.try_watch-requires-clause-snapshot
@@ -33,7 +33,7 @@ returns-then-has_snapshot-clause-ran g c =
     let some = g.met.S.SharedSession.some c.args.shared.now after c.try_watch.ensures.stands in
     on_ok_of c.try_watch.result (λ (tried : Option Answer). (f : View) → g.S.SharedSession.ends after f → WasWatched f seat c.args.line.now.command tried v t)
     (IsRunNow (t.session (g.S.SharedSession.seat after)))
-    (λ tried was. subst (λ n. IsRunNow (t.session n)) (sym c.try_watch.ensures.onward.seat_is) (watched_now some.0 seat c.args.line.now.command tried v t c.requires.ran (was some.0 some.1)))
+    (λ tried was. subst (λ (n : ℕ). IsRunNow (t.session n)) (sym c.try_watch.ensures.onward.seat_is) (watched_now some.0 seat c.args.line.now.command tried v t c.requires.ran (was some.0 some.1)))
     c.try_watch.ensures.watched
 
 pub returns-then-has_snapshot-clause-did : goal.returns-then-has_snapshot-clause-did
