@@ -11,7 +11,7 @@ use Rattle.erm_client.specs.declared.refusal.Refusal.{Refusal}
 use Rattle.erm_client.specs.Refusals.{refusal_told}
 use Rattle.erm_client.specs.Transcripts.{EndsWith, HasMore, IsAnswered, IsRefused, IsSame, IsTranscript, Starves}
 use Rattle.erm_client.specs.Transcripts as refused
-use Rattle.erm_good_report.specs.Transactions.{Commits, Ending, Progress, Said, Transaction, begun, ended, goes_on, heard, nothing, op_of, progress_of, said_of, step_of, steps_of, with_ending, with_line}
+use Rattle.erm_good_report.specs.Transactions.{Commits, Ending, Progress, Said, Transaction, begun, ended, heard, nothing, op_of, progress_of, said_of, step_of, steps_of, with_ending, with_line}
 use Rattle.erm_good_report.specs.Transactions as dealt
 use Rattle.erm_model.proofs.Members.{∈-push}
 use Rattle.erm_model.specs.declared.operation.Op.{Op}

@@ -10,7 +10,7 @@ use Rattle.erm_world.specs.Face.{Goes, Grows, ends, same, works}
 use Rattle.erm_world.specs.Going.{Extends, found_by}
 use Rattle.erm_world.specs.Onward.{extends_then}
 use Rattle.erm_world.specs.Safe.{with_snapshot}
-use Rattle.erm_world.specs.World.{Fate, Finished, IsCurrent, IsSession, Opening, Session, Snapshot, Stand, View, Work, begun, claims_in, claims_upto, made_in, made_upto, phase_of, stamp_of, work_of}
+use Rattle.erm_world.specs.World.{Fate, Finished, IsCurrent, Opening, Session, Snapshot, Stand, View, Work, begun, claims_in, claims_upto, made_in, made_upto, stamp_of, work_of}
 use Rattle.erm_world.specs.World as world
 use Rattle.erm_world.proofs.Lists.{∈-after, ∈-before}
 use Rattle.erm_safe_world.specs.Moves.{MovesOn}

@@ -12,7 +12,7 @@ use Rattle.erm_world.specs.Face.{WasRefused}
 use Rattle.erm_world.specs.Going.{Extends, found_by}
 use Rattle.erm_world.specs.Laws.{IsCommitOf, IsSerializable, TellsCommits}
 use Rattle.erm_world.specs.Works.{claiming, is_claimed, reading}
-use Rattle.erm_world.specs.World.{Fate, Finished, Has, HasStamp, IsCurrent, IsSession, Opening, Session, View, Work, history_of, work_at}
+use Rattle.erm_world.specs.World.{Finished, Has, HasStamp, IsCurrent, IsSession, Opening, Session, View, Work, history_of, work_at}
 use Rattle.erm_world.specs.World as world
 use Rattle.erm_world.proofs.Lists.{∈-after, ∈-before}
 use Rattle.erm_beside.specs.Ends.{Aborted, MetBeside, WasNewer, WasOwned}

@@ -11,11 +11,11 @@ use Rattle.erm_world.specs.declared.stops.BeginStop.{BeginStop}
 use Rattle.erm_world.specs.declared.stops.BeginStop.TheVariants as begin
 use Rattle.erm_world.specs.declared.stops.Wait.{Wait}
 use Rattle.erm_world.specs.declared.stops.Wait.TheVariants as wait
-use Rattle.erm_world.specs.Calls.{DidAbort, DidBegin, DidNotClaim, DidNotMake, DidNotRead, DidNotSettle, DidSeal, DidSettle, IsDone, IsInTheWay, IsSealedBelow, MayNotBegin}
+use Rattle.erm_world.specs.Calls.{DidAbort, DidBegin, DidNotClaim, DidNotMake, DidNotRead, DidNotSettle, DidSeal, DidSettle, IsInTheWay, IsSealedBelow, MayNotBegin}
 use Rattle.erm_world.specs.Calls as calls
 use Rattle.erm_world.specs.Face.{Answered, WasRefused}
 use Rattle.erm_world.specs.Laws.{IsSerializable}
-use Rattle.erm_world.specs.World.{IsCurrent, IsSession, Session, Stand, View, Work, phase_at, phase_of, work_at, work_of}
+use Rattle.erm_world.specs.World.{IsCurrent, IsSession, Stand, View, Work, phase_at, phase_of, work_at, work_of}
 use Rattle.erm_world.specs.World as world
 use Rattle.erm_world.proofs.Txns.{stopped, went}
 use Rattle.erm_beside.specs.Calls.{After, DidBeginBeside, DidSettleBeside, IsAnother, MayNotBeginBeside, NotClaimedBeside, NotMadeBeside, NotReadBeside, NotSettledBeside, Passes, RefusedBeside}

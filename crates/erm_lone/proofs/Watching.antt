@@ -1,6 +1,6 @@
 -- A snapshot that only reads of a session of a world, as that of a session beside others.
 use Rattle.std.specs.Prelude.{OnOk}
-use Rattle.std.proofs.Common.{◌≡◌, ℕ, ◌+◌, ◌<◌, ◌≤◌, true, false, List, length, refl, sym, ap, subst, arith, Result, Ok, Err, IfOk, IfErr}
+use Rattle.std.proofs.Common.{◌≡◌, ℕ, ◌+◌, ◌≤◌, false, List, length, refl, sym, ap, subst, arith, Result, Ok, Err, IfOk, IfErr}
 use Rattle.erm_model.specs.declared.outcome.Phase.TheVariants.{Idle, Pending, Safe}
 use Rattle.erm_model.specs.RowTransaction.{Law}
 use Rattle.erm_world.specs.declared.stops.BeginStop.{BeginStop}
@@ -9,7 +9,7 @@ use Rattle.erm_world.specs.declared.stops.SafeStop.TheVariants as stop
 use Rattle.erm_world.specs.Calls.{DidAbort, MayNotBegin}
 use Rattle.erm_world.specs.Laws.{IsSerializable}
 use Rattle.erm_world.specs.Safe.{DidBeginSafe, DidNotSafe, DidSafe, DidSafeRead, HasSnapshot, IsSafeIn}
-use Rattle.erm_world.specs.World.{IsSession, Opening, Session, Snapshot, Stand, View, phase_at, phase_of, work_at, work_of}
+use Rattle.erm_world.specs.World.{Opening, Session, Snapshot, Stand, View, phase_at, phase_of, work_at, work_of}
 use Rattle.erm_world.specs.World as world
 use Rattle.erm_world.proofs.Commits.{tells_commits}
 use Rattle.erm_safe_world.specs.Moves.{MovesOn}

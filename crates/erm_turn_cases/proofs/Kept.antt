@@ -1,7 +1,6 @@
 -- The transaction in progress of a session beside others stays the run of some operations, whatever its line does.
 use Rattle.std.proofs.Common.{◌≡◌, ◌≢◌, ◌≤◌, inl, inr, ℕ, Bool, true, false, IsSome, List, [], ◌∷◌, ◌++◌, Option, Some, None, Result, Ok, Err, IfOk, OnOk, refl, sym, ap, ◌∙◌, subst, arith}
 use Rattle.std.proofs.lemmas.Bool.{cases_eq}
-use Rattle.erm_model.specs.declared.outcome.Phase.{Phase}
 use Rattle.erm_model.specs.declared.outcome.Phase.TheVariants.{Active, Sealed, Safe}
 use Rattle.erm_model.specs.declared.row_stop.RowStop.{RowStop}
 use Rattle.erm_model.specs.RowTransaction.{Event, Law, ends}

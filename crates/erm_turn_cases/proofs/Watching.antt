@@ -1,6 +1,5 @@
 -- A line of a session with a snapshot, or one that begins a snapshot: no transaction of it is in progress then.
-use Rattle.std.proofs.Common.{◌≡◌, ℕ, true, Option, Some, None, Result, Ok, Err, IfOk, OnOk, refl, sym, ap, ◌∙◌, subst}
-use Rattle.std.proofs.lemmas.Result.{IfOk-weaker}
+use Rattle.std.proofs.Common.{◌≡◌, ℕ, true, Option, Some, None, sym, ap, ◌∙◌, subst}
 use Rattle.erm_model.specs.declared.outcome.Phase.TheVariants.{Active}
 use Rattle.erm_report.specs.declared.answer.Answer.{Answer}
 use Rattle.erm_report.specs.declared.answer.Answer.TheVariants as answer
@@ -12,7 +11,6 @@ use Rattle.erm_world.specs.World.{Session, Snapshot, Stand, View, phase_at, phas
 use Rattle.erm_world.specs.World as world
 use Rattle.erm_good_report.specs.Phases.{HasNoSnapshot, refusal_of}
 use Rattle.erm_lines.specs.Whole.{is_snapshot}
-use Rattle.erm_beside.specs.Calls.{Passes}
 use Rattle.erm_lines_at_once.specs.Answers.{DidAskSafeBeside, DidAskSnapshotBeside, DidOfSnapshotBeside, TriedSafe, TriedSnapshot, WasAnsweredBeside, WasWatchedBeside}
 use Rattle.erm_lines_at_once.proofs.Watched.{plain_line, refused_line, snapshot_line}
 use Rattle.erm_turn_cases.specs.Turns.{IsRunNow, WasRun, WasTried, WasWatched}

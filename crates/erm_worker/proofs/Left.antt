@@ -7,7 +7,7 @@ use Rattle.erm_world.specs.Calls.{DidAbort, DidSeal}
 use Rattle.erm_world.specs.World.{Session, View, phase_at, phase_of}
 use Rattle.erm_beside.specs.Calls.{After, Passes}
 use Rattle.erm_beside.specs.Safe.{DidBeginSafeBeside}
-use Rattle.erm_lines_at_once.specs.CutRuns.{IsRest, Waited, aborted, stood}
+use Rattle.erm_lines_at_once.specs.CutRuns.{Waited, aborted, stood}
 use Rattle.erm_lines_at_once.specs.CutRuns as rest
 use Rattle.erm_worker.specs.Work.{GaveUp, HasWaited, WasLeft, asked, drew, tried, watched}
 use Rattle.erm_worker.proofs.Waits.{passes_itself, passes_phase, passes_then, tried_passes}

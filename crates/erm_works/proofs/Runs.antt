@@ -1,5 +1,5 @@
 -- What all sessions did as an execution of the whole script.
-use Rattle.std.proofs.Common.{◌≡◌, ℕ, ◌+◌, ◌<◌, List, [], ◌++◌, length, Option, Some, sym, ap, ◌∙◌, subst, arith}
+use Rattle.std.proofs.Common.{◌≡◌, ℕ, ◌+◌, ◌<◌, List, [], ◌++◌, length, Option, Some, ap, ◌∙◌, subst, arith}
 use Rattle.std.specs.List.{slice_get}
 use Rattle.erm_model.specs.declared.outcome.Phase.TheVariants.{Idle}
 use Rattle.erm_report.specs.declared.answer.Answer.{Answer}
