@@ -19,12 +19,12 @@ use Rattle.erm_good_report.specs.GoodReport.{places_of}
 use Rattle.erm_good_report.specs.Opening.{InTurn, Opening}
 use Rattle.erm_good_report.specs.Phases.{Closed}
 use Rattle.erm_good_report.specs.Refusals.{Moment, current_of, draws_of, moment_at, most_end, total_of}
-use Rattle.erm_good_report.specs.Snapshots.{BeginsFrom, BeginsRightly, BeginsSnapshot, HasSafeCause, IsOfSnapshot, IsToldBefore, IsToldBehind, SnapshotsAgree, own_begin}
+use Rattle.erm_good_report.specs.Snapshots.{BeginsFrom, BeginsRightly, BeginsSnapshot, HasSafeCause, IsOfSnapshot, IsToldBefore, IsToldBehind, own_begin}
 use Rattle.erm_good_report.specs.Stamps.{begin_told, place_told, stamp_drawn, stamp_printed}
 use Rattle.erm_good_report.specs.Transactions.{Commits, Progress, Said, Snapshot, Transaction, nothing, progress_of, said_of, transactions_of}
 use Rattle.erm_good_report.proofs.Places.{Place, place_at}
 use Rattle.erm_lines.specs.Executions.{AreClosed, IsCourse, IsOpeningOf, line_moves, move_of, said_in}
-use Rattle.erm_lines.specs.Laws.{ExecutionsGoOn, ExecutionsTell, OfCourses}
+use Rattle.erm_lines.specs.Laws.{ExecutionsGoOn, ExecutionsTell}
 use Rattle.erm_lines.specs.Told.{TellsNow, TellsOne, TellsOver, TellsWatched, TellsWork}
 use Rattle.erm_told.specs.Snapshots.{ExecutionsKeepBegins, begin_in}
 use Rattle.erm_told.proofs.Ended.{at_end, opening_is}
@@ -38,6 +38,7 @@ use Rattle.erm_told_limits.specs.Limits.{EndsAreInReach}
 use Rattle.erm_told_limits.proofs.At.{take_next}
 use Rattle.erm_told_order.specs.Told.{CoursesKeepSnapshots}
 use Rattle.erm_told_order.proofs.Courses.{nothing_elsewhere}
+use Rattle.erm_causes.specs.Laws.{CoursesHaveSafeSnapshots}
 use Rattle.erm_causes.proofs.AtPlaces.{AtPlace, all_printed, at_place, earlier_place, later_place, said_before, said_behind}
 use Rattle.erm_causes.proofs.Begins.{BegunAt, SafeAsked, asked, begin_of, begun_at, own_begin_is, opening_at, tells_at}
 use Rattle.erm_causes.proofs.Causes.{over_told}
@@ -337,8 +338,7 @@ module _ (tell : ExecutionsTell) (go : ExecutionsGoOn) (keep : ExecutionsKeepBeg
   causes i l a at answered asks = tt
 
 -- what a run so far owes of them
-pub safe_snapshots : ExecutionsTell → ExecutionsGoOn → ExecutionsKeepBegins → EndsAreInReach → CoursesKeepSnapshots
-    → OfCourses (λ opening script answers closed told. SnapshotsAgree (moment_at InTurn opening script answers told) opening script answers told)
+pub safe_snapshots : ExecutionsTell → ExecutionsGoOn → ExecutionsKeepBegins → EndsAreInReach → CoursesKeepSnapshots → CoursesHaveSafeSnapshots
 safe_snapshots tell go keep ends kept v t script answers run closed opening are starts = record {
   begins = λ session number. begin_in (t.session session) number;
   begun = begun tell go keep ends v t script answers run closed are opening starts;

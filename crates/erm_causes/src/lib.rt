@@ -3,7 +3,7 @@
 //! a function that does nothing.
 #![tactic(auto)]
 
-ghost use Rattle.erm_causes.specs.Laws.{RunsDrawInReach, RunsRefuseForOthers, RunsTellLog, RunsTouchTables};
+ghost use Rattle.erm_causes.specs.Laws.{CoursesHaveSafeSnapshots, RunsDrawInReach, RunsRefuseForOthers, RunsTellLog, RunsTouchTables};
 ghost use Rattle.erm_lines.specs.Laws.{PartsHaveCauses, PartsHaveSafeSnapshots, PartsRefuseWithCause, RunsAreSerialWithSnapshots, RunsHaveCauses, RunsHaveSafeSnapshots, RunsRefuseWithCause};
 
 /// Each object of a run has one table: that of the line that made it, or that whose tree reached it at the opening. Each
@@ -98,10 +98,10 @@ pub fn parts_refuse_with_cause()
     runs_draw_in_reach();
 }
 
-/// Each snapshot of a run begins at the end of the log and has the replies of the state there; and where a line tells that it is safe, waits
-/// or isn't safe, that has its cause.
-pub fn runs_have_safe_snapshots()
-    ensures { RunsHaveSafeSnapshots }
+/// Each snapshot of a run so far begins at the end of the log and has the replies of the state there; and where a line tells that it is safe,
+/// waits or isn't safe, that has its cause.
+pub fn courses_have_safe_snapshots()
+    ensures { CoursesHaveSafeSnapshots }
 {
     erm_told::executions_tell_sessions();
     erm_told::executions_go_on();
@@ -110,15 +110,18 @@ pub fn runs_have_safe_snapshots()
     erm_told_order::courses_keep_snapshots();
 }
 
-/// The same of a run that was cut off.
+/// So it is in a whole run.
+pub fn runs_have_safe_snapshots()
+    ensures { RunsHaveSafeSnapshots }
+{
+    courses_have_safe_snapshots();
+}
+
+/// And in one that was cut off.
 pub fn parts_have_safe_snapshots()
     ensures { PartsHaveSafeSnapshots }
 {
-    erm_told::executions_tell_sessions();
-    erm_told::executions_go_on();
-    erm_told::executions_keep_begins();
-    erm_told_limits::ends_are_in_reach();
-    erm_told_order::courses_keep_snapshots();
+    courses_have_safe_snapshots();
 }
 
 /// Run in the serial order of all, the commits that a report tells and its safe snapshots that ended give their replies.
