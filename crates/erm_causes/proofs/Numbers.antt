@@ -3,6 +3,7 @@
 use Rattle.std.proofs.Common.{◌≡◌, ◌≢◌, ◌⊎◌, ℕ, zero, suc, ◌+◌, ◌<◌, ◌≤◌, List, [], ◌∷◌, length, Option, Some, None, refl, sym, ap, ◌∙◌, subst, inl, inr, ⊎_elim, arith}
 use Rattle.std.proofs.lemmas.Bool.{cases_eq}
 use Rattle.std.proofs.lemmas.List.{length_push}
+use Rattle.std.proofs.lemmas.List.Sums.{sum_by-cons}
 use Rattle.erm_model.specs.declared.limits.TheConstants.{STOP}
 use Rattle.erm_model.specs.declared.outcome.Phase.{Phase}
 use Rattle.erm_model.specs.declared.outcome.Phase.TheVariants.{Idle, Active, Sealed, Pending, Safe}
@@ -250,5 +251,7 @@ draws_one command.Commit = omega arith
 draws_one c = omega arith
 
 pub draws_few : (script : List ScriptLine) → total_of draws_of script ≤ length script
-draws_few [] = omega arith
-draws_few (l ∷ script) = omega (arith, draws_one l.command, draws_few script)
+draws_few [] = let none : total_of draws_of [] ≡ 0 = refl in omega (arith, none)
+draws_few (l ∷ script) =
+    let all : total_of draws_of (l ∷ script) ≡ draws_of l.command + total_of draws_of script = sum_by-cons (λ (k : ScriptLine). draws_of k.command) l script in
+    omega (arith, all, draws_one l.command, draws_few script)
