@@ -9,7 +9,6 @@ use erm_model::{
 };
 use erm_world::{RowWorld, WorldTxn};
 use std::alloc::{AllocError, Global};
-use std::test::Fail;
 
 // Where a world's log begins, if not at its end.
 const START: Stamp = 100;
@@ -146,117 +145,206 @@ fn copied(world: &mut MapWorld<AnyRows>, from: Oid, to: Oid) -> Option<Outcome>
     }
 }
 
-// What a transaction of this number is told that wrote one row of sevens, and has these stamps.
-fn told(number: u32, stamp: Stamp, pred: Stamp) -> Option<Outcome>
-    requires { stamp < STOP }
-{
-    Some(Outcome::Committed(Receipt {
+// The number of a transaction, its commit stamp and its predecessor stamp.
+type Stamps = (u32, Stamp, Stamp);
+
+// What a transaction that wrote one row of sevens is told, which has these stamps.
+fn receipt_of(stamps: Stamps) -> Receipt {
+    let (number, stamp, pred) = stamps;
+    Receipt {
         number,
         stamp,
-        end: stamp + 22,
+        end: stamp.saturating_add(22),
         succ: stamp,
         pred,
-    }))
+    }
 }
 
+// Whether this is the outcome of such a transaction.
+fn is_told(outcome: Option<Outcome>, stamps: Stamps) -> bool {
+    outcome == Some(Outcome::Committed(receipt_of(stamps)))
+}
+
+// A step of the session, with what comes of it.
+#[derive(Clone, Copy)]
+enum Step {
+    // It begins at this stamp, or it doesn't.
+    Begin(Option<Stamp>),
+    // Each word of an object's row is this one.
+    Row(Oid, u64),
+    // It makes this object.
+    Fresh(Oid),
+    // A row is copied from one object to another, or it isn't.
+    Copy(Oid, Oid, bool),
+    // The first object that isn't read any more, and why.
+    Unread(Option<(Oid, RowStop)>),
+    // It commits, whatever it is told.
+    Commits,
+    // It commits, and is told this.
+    Commit(Stamps),
+    // A whole transaction that copies a row from one object to another is told this.
+    Copied(Oid, Oid, Stamps),
+    // The commit that was told this isn't synced.
+    Unsynced(Stamps),
+    // It is aborted, or it isn't.
+    Abort(bool),
+}
+
+// Whether this comes of a step of a transaction in progress.
+fn works_so(world: &mut MapWorld<AnyRows>, step: Step) -> bool
+    requires { ⟦<MapWorld<AnyRows> as RowWorld>⟧.stands world.old }
+    ensures { ⟦<MapWorld<AnyRows> as RowWorld>⟧.stands world.new }
+{
+    match step {
+        Step::Row(oid, word) if oid < OID_LIMIT => row(world, oid) == Some([word; ROW_WORDS]),
+        Step::Fresh(oid) => fresh(world) == Some(oid),
+        Step::Copy(from, to, is_copied) if from < OID_LIMIT && to < OID_LIMIT => {
+            copy(world, from, to) == is_copied
+        }
+        Step::Unread(found) => first_unread(world) == found,
+        _ => false,
+    }
+}
+
+// Whether this comes of a step.
+fn goes_so(world: &mut MapWorld<AnyRows>, step: Step) -> bool
+    requires { ⟦<MapWorld<AnyRows> as RowWorld>⟧.stands world.old }
+    ensures { ⟦<MapWorld<AnyRows> as RowWorld>⟧.stands world.new }
+{
+    match step {
+        Step::Begin(stamp) => begin(world) == stamp,
+        Step::Commits => commit(world).is_some(),
+        Step::Commit(stamps) => is_told(commit(world), stamps),
+        Step::Copied(from, to, stamps) if from < OID_LIMIT && to < OID_LIMIT => {
+            is_told(copied(world, from, to), stamps)
+        }
+        Step::Unsynced(stamps) => world.durable(1, &receipt_of(stamps)).is_err(),
+        Step::Abort(is_aborted) => abort(world) == is_aborted,
+        _ => works_so(world, step),
+    }
+}
+
+// The place of the first step of which something else comes.
+fn first_other(world: &mut MapWorld<AnyRows>, steps: &[Step]) -> Option<usize>
+    requires { ⟦<MapWorld<AnyRows> as RowWorld>⟧.stands world.old }
+    ensures { ⟦<MapWorld<AnyRows> as RowWorld>⟧.stands world.new }
+{
+    for place in 0..steps.len() {
+        if !goes_so(world, steps[place]) {
+            return Some(place);
+        }
+    }
+    None
+}
+
+// The same in a new world, whose log begins here.
+fn first_other_from(
+    alloc: Global,
+    start: Stamp,
+    steps: &[Step],
+) -> Result<Option<usize>, AllocError>
+    requires { 0 < start }
+{
+    let mut world = world(alloc, start)?;
+    Ok(first_other(&mut world, steps))
+}
+
+const COPIES: [Step; 6] = [
+    // It saw the rows of the opening alone.
+    Step::Copied(1, 2, (1, 100, 0)),
+    // It read a row of the first.
+    Step::Copied(2, 3, (2, 122, 100)),
+    // It overwrote a row of the first that the second has read.
+    Step::Copied(1, 2, (3, 144, 122)),
+    // Behind the third's block.
+    Step::Begin(Some(166)),
+    // The second's row, and the opening's.
+    Step::Row(3, 7),
+    Step::Row(4, 0),
+];
+
 #[test]
-fn each_transaction_reads_what_the_earlier_ones_committed(rt: HostRuntime) -> Result<(), Fail> {
-    let mut world = world(rt.alloc(), START)?;
-    assert!(rt;
-        copied(&mut world, 1, 2) == told(1, 100, 0),
-        "it saw the rows of the opening alone"
-    );
-    assert!(rt;
-        copied(&mut world, 2, 3) == told(2, 122, 100),
-        "it read a row of the first"
-    );
-    assert!(rt;
-        copied(&mut world, 1, 2) == told(3, 144, 122),
-        "it overwrote a row of the first that the second has read"
-    );
-    assert!(rt; begin(&mut world) == Some(166), "behind the third's block");
-    assert!(rt;
-        row(&mut world, 3) == Some([7; ROW_WORDS]),
-        "the second's row"
-    );
-    assert!(rt; row(&mut world, 4) == Some([0; ROW_WORDS]), "the opening's");
+fn each_transaction_reads_what_the_earlier_ones_committed(
+    rt: HostRuntime,
+) -> Result<(), AllocError> {
+    assert_eq!(rt; first_other_from(rt.alloc(), START, &COPIES)?, None);
     Ok(())
 }
 
+const LAST: [Step; 5] = [
+    // No transaction has begun.
+    Step::Copy(1, 2, false),
+    // The log is empty.
+    Step::Begin(Some(STOP - 1)),
+    // One is in progress.
+    Step::Begin(None),
+    Step::Commits,
+    // The log is at its end.
+    Step::Begin(None),
+];
+
 #[test]
-fn the_log_ends(rt: HostRuntime) -> Result<(), Fail> {
-    let mut world = world(rt.alloc(), STOP - 1)?;
-    assert!(rt; !copy(&mut world, 1, 2), "no transaction has begun");
-    assert!(rt; begin(&mut world) == Some(STOP - 1), "the log is empty");
-    assert!(rt; begin(&mut world).is_none(), "one is in progress");
-    assert!(rt; commit(&mut world).is_some(), "it commits");
-    assert!(rt; begin(&mut world).is_none(), "the log is at its end");
+fn the_log_ends(rt: HostRuntime) -> Result<(), AllocError> {
+    assert_eq!(rt; first_other_from(rt.alloc(), STOP - 1, &LAST)?, None);
     Ok(())
 }
 
+const ABORTED: [Step; 8] = [
+    Step::Begin(Some(START)),
+    // The opening's row.
+    Step::Row(2, 0),
+    Step::Copy(1, 2, true),
+    // The own row.
+    Step::Row(2, 7),
+    // Once.
+    Step::Abort(true),
+    Step::Abort(false),
+    // The log is empty still.
+    Step::Begin(Some(START)),
+    // The opening's row again.
+    Step::Row(2, 0),
+];
+
 #[test]
-fn aborted_rows_are_gone(rt: HostRuntime) -> Result<(), Fail> {
-    let mut world = world(rt.alloc(), START)?;
-    assert!(rt; begin(&mut world).is_some());
-    assert!(rt;
-        row(&mut world, 2) == Some([0; ROW_WORDS]),
-        "the opening's row"
-    );
-    assert!(rt; copy(&mut world, 1, 2), "rows are copied");
-    assert!(rt; row(&mut world, 2) == Some([7; ROW_WORDS]), "the own row");
-    assert!(rt; abort(&mut world), "it is aborted");
-    assert!(rt; !abort(&mut world), "once");
-    assert!(rt; begin(&mut world) == Some(START), "the log is empty still");
-    assert!(rt;
-        row(&mut world, 2) == Some([0; ROW_WORDS]),
-        "the opening's row again"
-    );
+fn aborted_rows_are_gone(rt: HostRuntime) -> Result<(), AllocError> {
+    assert_eq!(rt; first_other_from(rt.alloc(), START, &ABORTED)?, None);
     Ok(())
 }
 
+const NUMBERED: [Step; 8] = [
+    Step::Begin(Some(START)),
+    // The first object.
+    Step::Fresh(16),
+    Step::Abort(true),
+    Step::Begin(Some(START)),
+    // No object is made twice.
+    Step::Fresh(17),
+    Step::Copy(1, 17, true),
+    // A block of one row.
+    Step::Commit((2, START, 0)),
+    Step::Unsynced((2, START, 0)),
+];
+
 #[test]
-fn numbers_and_objects_go_on(rt: HostRuntime) -> Result<(), Fail> {
-    let mut world = world(rt.alloc(), START)?;
-    assert!(rt; begin(&mut world).is_some());
-    assert!(rt; fresh(&mut world) == Some(16), "the first object");
-    assert!(rt; abort(&mut world));
-    assert!(rt; begin(&mut world).is_some());
-    assert!(rt; fresh(&mut world) == Some(17), "no object is made twice");
-    assert!(rt; copy(&mut world, 1, 17));
-    let receipt = Receipt {
-        number: 2,
-        stamp: START,
-        end: START + 22,
-        succ: START,
-        pred: 0,
-    };
-    assert!(rt;
-        commit(&mut world) == Some(Outcome::Committed(receipt)),
-        "a block of one row"
-    );
-    assert!(rt; world.durable(1, &receipt).is_err(), "it isn't synced");
+fn numbers_and_objects_go_on(rt: HostRuntime) -> Result<(), AllocError> {
+    assert_eq!(rt; first_other_from(rt.alloc(), START, &NUMBERED)?, None);
     Ok(())
 }
 
+const FULL: [Step; 5] = [
+    // No transaction has begun.
+    Step::Unread(None),
+    Step::Begin(Some(START)),
+    // One more than may be read.
+    Step::Unread(Some((READ_LIMIT as Oid, RowStop::ReadsFull))),
+    // One of those read.
+    Step::Row(1, 7),
+    // An object that isn't read is claimed.
+    Step::Copy(1, 600, true),
+];
+
 #[test]
-fn reads_have_a_limit(rt: HostRuntime) -> Result<(), Fail> {
-    let mut world = world(rt.alloc(), START)?;
-    assert!(rt;
-        first_unread(&mut world).is_none(),
-        "no transaction has begun"
-    );
-    assert!(rt; begin(&mut world).is_some());
-    assert!(rt;
-        first_unread(&mut world) == Some((READ_LIMIT as Oid, RowStop::ReadsFull)),
-        "one more than may be read"
-    );
-    assert!(rt;
-        row(&mut world, 1) == Some([7; ROW_WORDS]),
-        "one of those read"
-    );
-    assert!(rt;
-        copy(&mut world, 1, 600),
-        "an object that isn't read is claimed"
-    );
+fn reads_have_a_limit(rt: HostRuntime) -> Result<(), AllocError> {
+    assert_eq!(rt; first_other_from(rt.alloc(), START, &FULL)?, None);
     Ok(())
 }

@@ -19,7 +19,6 @@ use erm_plain::Plain;
 use erm_world::RowWorld;
 use std::alloc::{AllocError, Global};
 use std::process::Abort;
-use std::test::Fail;
 
 // As many rows of zeros as there may be objects.
 fn zero_rows(alloc: Global) -> Result<Vec<Row>, AllocError>
@@ -126,42 +125,123 @@ fn value(byte: u8) -> Value {
     Value::new(&[byte]).unwrap()
 }
 
-const GET: Op = Op::Get { table: 0, key: 10 };
+// What is asked: the key 10, or for one from 3 on.
+#[derive(Clone, Copy)]
+enum Asked {
+    Get,
+    Next,
+    // It is to have this byte.
+    Put(u8),
+}
 
-const NEXT: Op = Op::Next { table: 0, from: 3 };
+// What is answered.
+#[derive(Clone, Copy)]
+enum Told {
+    Done,
+    // The key's byte, or that of the key that is found.
+    Value(u8),
+    Pair(u8),
+    Stopped(RowStop),
+    // Nothing, since the session isn't active.
+    Nothing,
+}
 
-fn put(byte: u8) -> Op {
-    Op::Put {
-        table: 0,
-        key: 10,
-        value: value(byte),
+// A step of a session, with what comes of it.
+#[derive(Clone, Copy)]
+enum Step {
+    // It begins at this stamp.
+    Begin(Stamp),
+    Ask(Asked, Told),
+    // It seals at this stamp.
+    Seal(Stamp),
+    // It settles, and commits.
+    Commits,
+}
+
+fn op(asked: Asked) -> Op {
+    match asked {
+        Asked::Get => Op::Get { table: 0, key: 10 },
+        Asked::Next => Op::Next { table: 0, from: 3 },
+        Asked::Put(byte) => Op::Put {
+            table: 0,
+            key: 10,
+            value: value(byte),
+        },
     }
 }
 
+fn answer(told: Told) -> Option<Result<Reply, RowStop>> {
+    match told {
+        Told::Done => Some(Ok(Reply::Done)),
+        Told::Value(byte) => Some(Ok(Reply::Value(Some(value(byte))))),
+        Told::Pair(byte) => Some(Ok(Reply::Pair(Some((10, value(byte)))))),
+        Told::Stopped(stop) => Some(Err(stop)),
+        Told::Nothing => None,
+    }
+}
+
+// Whether this comes of a step.
+fn goes_so<W: RowWorld>(world: &mut W, seat: Seat, step: Step) -> bool
+    requires law { SameLaw W.law sound_law }
+    requires stands { W.stands world.old }
+    requires runs { AllRun (W.view world.old) }
+    requires sessions { (W.view world.old).opening.sessions ≡ 2 }
+    ensures stands { W.stands world.new }
+    ensures runs { AllRun (W.view world.new) }
+    ensures sessions { (W.view world.new).opening.sessions ≡ 2 }
+{
+    match step {
+        Step::Begin(stamp) => begin(world, seat) == Some(stamp),
+        Step::Ask(asked, told) => ask(world, seat, &op(asked)) == answer(told),
+        Step::Seal(stamp) => seal(world, seat) == Some(stamp),
+        Step::Commits => matches!(settle(world, seat), Some(Outcome::Committed(_))),
+    }
+}
+
+// The place of the first step of which something else comes.
+fn first_other<W: RowWorld>(world: &mut W, steps: &[(Seat, Step)]) -> Option<usize>
+    requires law { SameLaw W.law sound_law }
+    requires stands { W.stands world.old }
+    requires runs { AllRun (W.view world.old) }
+    requires sessions { (W.view world.old).opening.sessions ≡ 2 }
+{
+    for place in 0..steps.len() {
+        let (seat, step) = steps[place];
+        if !goes_so(world, seat, step) {
+            return Some(place);
+        }
+    }
+    None
+}
+
+const ONE_KEY: [(Seat, Step); 11] = [
+    (1, Step::Begin(13)),
+    (2, Step::Begin(13)),
+    (1, Step::Ask(Asked::Put(7), Told::Done)),
+    (
+        2,
+        Step::Ask(
+            Asked::Put(8),
+            Told::Stopped(RowStop::Owned { seat: 1, number: 1 }),
+        ),
+    ),
+    // It was aborted.
+    (2, Step::Ask(Asked::Get, Told::Nothing)),
+    // The own value.
+    (1, Step::Ask(Asked::Get, Told::Value(7))),
+    (1, Step::Seal(13)),
+    (1, Step::Commits),
+    // Behind a block of 20 words, 11 of which are the leaf's and 4 the record's.
+    (2, Step::Begin(33)),
+    // The value committed.
+    (2, Step::Ask(Asked::Get, Told::Value(7))),
+    (2, Step::Ask(Asked::Next, Told::Pair(7))),
+];
+
 // The second session can't put the key that the first one has put, and is idle. It sees the value once it is committed.
 #[test]
-fn one_key_of_two_sessions(rt: HostRuntime) -> Result<(), Fail> {
+fn one_key_of_two_sessions(rt: HostRuntime) -> Result<(), AllocError> {
     let mut world = world(&rt, rt.alloc(), 16)?;
-    assert!(rt; begin(&mut world, 1) == Some(13));
-    assert!(rt; begin(&mut world, 2) == Some(13));
-    assert!(rt; ask(&mut world, 1, &put(7)) == Some(Ok(Reply::Done)));
-    let owned = RowStop::Owned { seat: 1, number: 1 };
-    assert!(rt; ask(&mut world, 2, &put(8)) == Some(Err(owned)));
-    assert!(rt; ask(&mut world, 2, &GET).is_none(), "it was aborted");
-    let found = Reply::Value(Some(value(7)));
-    assert!(rt;
-        ask(&mut world, 1, &GET) == Some(Ok(found)),
-        "the own value"
-    );
-    assert!(rt; seal(&mut world, 1) == Some(13));
-    assert!(rt; matches!(settle(&mut world, 1), Some(Outcome::Committed(_))));
-    assert!(rt; begin(&mut world, 2).is_some());
-    let found = Reply::Value(Some(value(7)));
-    assert!(rt;
-        ask(&mut world, 2, &GET) == Some(Ok(found)),
-        "the value committed"
-    );
-    let pair = Reply::Pair(Some((10, value(7))));
-    assert!(rt; ask(&mut world, 2, &NEXT) == Some(Ok(pair)));
+    assert_eq!(rt; first_other(&mut world, &ONE_KEY), None);
     Ok(())
 }

@@ -1,5 +1,5 @@
 //! Lines of a script, of two sessions over one table.
-ghost use Rattle.std.specs.Prelude.{◌≡◌, ◌<◌, ◌≤◌, IfSome, IsSome, OnOk};
+ghost use Rattle.std.specs.Prelude.{◌≡◌, ◌<◌, ◌≤◌, IfOk, IfSome, IsSome, OnOk};
 ghost use Rattle.erm_model.specs.declared.limits.TheConstants.{TABLES};
 ghost use Rattle.erm_model.specs.RowTransaction.{SameLaw};
 ghost use Rattle.erm_node.specs.Sound.{sound_law};
@@ -10,12 +10,11 @@ ghost use Rattle.erm_world_cases.specs.Sessions.{AllRun};
 
 use super::{value, world};
 use erm_lines::{answer_durable, answer_line, lines_keep_runs};
-use erm_model::{Receipt, Reply, Seat};
+use erm_model::{Receipt, Reply, Seat, Stamp, TABLES};
 use erm_report::Answer;
 use erm_script::{Command, ScriptLine};
 use erm_world::RowWorld;
 use std::alloc::{AllocError, Global};
-use std::test::Fail;
 
 // The answer to a line of a session, whose last commit has this receipt.
 fn kept_line<W: RowWorld>(
@@ -70,22 +69,6 @@ fn line<W: RowWorld>(
     kept_line(alloc, world, session, command, &mut receipt)
 }
 
-// The reply that an answer is, where it is one.
-fn reply(answer: Answer) -> Option<Reply> {
-    match answer {
-        Answer::Replied(reply) => Some(reply),
-        _ => None,
-    }
-}
-
-// How many keys a scan found, or 0 where the answer isn't that to one.
-fn pairs(answer: Answer) -> usize {
-    match reply(answer) {
-        Some(Reply::Found(found)) => found.as_slice().len(),
-        _ => 0,
-    }
-}
-
 // A line that puts a value of one byte for the key 5 of a table.
 fn put(table: u8, byte: u8) -> Command
     requires { table < TABLES }
@@ -99,88 +82,237 @@ fn put(table: u8, byte: u8) -> Command
     }
 }
 
+// What a session's line asks for: where it names a key, the key 5 of a table.
+#[derive(Clone, Copy)]
+enum Asked {
+    Begin,
+    Get(u8),
+    // It is to have this byte.
+    Put(u8, u8),
+    Del(u8),
+    // For one from 6 on.
+    Next(u8),
+    // For those from 5 to 9.
+    Scan(u8),
+    Tidy(u8),
+    Seal,
+    Settle,
+    Commit,
+    Abort,
+}
+
+// What it is answered.
+#[derive(Clone, Copy, PartialEq, Eq)]
+enum Told {
+    Began(Stamp),
+    Done,
+    // The key has no value.
+    NoValue,
+    // No key has one.
+    NoPair,
+    // So many keys have one.
+    Pairs(usize),
+    Cut(u32),
+    Sealed(Stamp),
+    // It committed, with this stamp.
+    Committed(Stamp),
+    Excluded,
+    NotIdle,
+    NoTransaction,
+    IsSealed,
+    NotSealed,
+    Other,
+}
+
+// What a reply tells.
+fn told_by_reply(reply: Reply) -> Told {
+    match reply {
+        Reply::Done => Told::Done,
+        Reply::Value(None) => Told::NoValue,
+        Reply::Pair(None) => Told::NoPair,
+        Reply::Found(found) => Told::Pairs(found.as_slice().len()),
+        _ => Told::Other,
+    }
+}
+
+// What an answer tells.
+fn told_by_answer(answer: Answer) -> Told {
+    match answer {
+        Answer::Began(stamp) => Told::Began(stamp),
+        Answer::Replied(reply) => told_by_reply(reply),
+        Answer::Cut(count) => Told::Cut(count),
+        Answer::Sealed(stamp) => Told::Sealed(stamp),
+        Answer::Committed { stamp, .. } => Told::Committed(stamp),
+        Answer::Excluded { .. } => Told::Excluded,
+        Answer::NotIdle => Told::NotIdle,
+        Answer::NoTransaction => Told::NoTransaction,
+        Answer::IsSealed => Told::IsSealed,
+        Answer::NotSealed => Told::NotSealed,
+        _ => Told::Other,
+    }
+}
+
+// The command of a line that names a table, if there is that table.
+fn of_table(asked: Asked) -> Option<Command>
+    ensures asks { IfSome result (λ command. IsSome (phase_asked command)) }
+    ensures table { IfSome result (λ command. IfSome (table_of command) (λ table. table < TABLES)) }
+{
+    let key = 5;
+    match asked {
+        Asked::Get(table) if table < TABLES => Some(Command::Get { table, key }),
+        Asked::Put(table, byte) if table < TABLES => Some(put(table, byte)),
+        Asked::Del(table) if table < TABLES => Some(Command::Del { table, key }),
+        Asked::Next(table) if table < TABLES => Some(Command::Next { table, from: 6 }),
+        Asked::Scan(table) if table < TABLES => Some(Command::Scan {
+            table,
+            low: key,
+            high: 9,
+        }),
+        Asked::Tidy(table) if table < TABLES => Some(Command::Tidy { table, key }),
+        _ => None,
+    }
+}
+
+// The command of a line, if there is the table that it names.
+fn command_of(asked: Asked) -> Option<Command>
+    ensures asks { IfSome result (λ command. IsSome (phase_asked command)) }
+    ensures table { IfSome result (λ command. IfSome (table_of command) (λ table. table < TABLES)) }
+{
+    match asked {
+        Asked::Begin => Some(Command::Begin),
+        Asked::Seal => Some(Command::Seal),
+        Asked::Settle => Some(Command::Settle),
+        Asked::Commit => Some(Command::Commit),
+        Asked::Abort => Some(Command::Abort),
+        _ => of_table(asked),
+    }
+}
+
+// What a line of the first or the second session is answered.
+fn ask<W: RowWorld>(
+    alloc: Global,
+    world: &mut W,
+    session: Seat,
+    asked: Asked,
+) -> Result<Told, AllocError>
+    requires law { SameLaw W.law sound_law }
+    requires stands { W.stands world.old }
+    requires runs { AllRun (W.view world.old) }
+    requires sessions { (W.view world.old).opening.sessions ≡ 2 }
+    ensures stands { W.stands world.new }
+    ensures runs { OnOk result (AllRun (W.view world.new)) }
+    ensures sessions { OnOk result ((W.view world.new).opening.sessions ≡ 2) }
+{
+    if session == 0 || session > 2 {
+        return Ok(Told::Other);
+    }
+    match command_of(asked) {
+        Some(command) => Ok(told_by_answer(line(alloc, world, session, command)?)),
+        None => Ok(Told::Other),
+    }
+}
+
+// A line of a session, and what it is to be answered.
+type Exchange = (Seat, Asked, Told);
+
+// The place of the first line that is answered otherwise.
+fn first_other<W: RowWorld>(
+    alloc: Global,
+    world: &mut W,
+    lines: &[Exchange],
+) -> Result<Option<usize>, AllocError>
+    requires law { SameLaw W.law sound_law }
+    requires stands { W.stands world.old }
+    requires runs { AllRun (W.view world.old) }
+    requires sessions { (W.view world.old).opening.sessions ≡ 2 }
+{
+    for place in 0..lines.len() {
+        let (session, asked, want) = lines[place];
+        if ask(alloc, world, session, asked)? != want {
+            return Ok(Some(place));
+        }
+    }
+    Ok(None)
+}
+
+const WRITE_SKEW: [Exchange; 9] = [
+    (1, Asked::Begin, Told::Began(13)),
+    (2, Asked::Begin, Told::Began(13)),
+    (1, Asked::Get(0), Told::NoValue),
+    (2, Asked::Get(1), Told::NoValue),
+    (1, Asked::Put(1, 7), Told::Done),
+    (2, Asked::Put(0, 8), Told::Done),
+    (1, Asked::Commit, Told::Committed(13)),
+    (2, Asked::Commit, Told::Excluded),
+    // It was aborted.
+    (2, Asked::Commit, Told::NoTransaction),
+];
+
 // Two sessions each read the key that the other one puts: the first to settle commits, and the other one is excluded.
 #[test]
-fn write_skew_by_lines(rt: HostRuntime) -> Result<(), Fail> {
-    let alloc = rt.alloc();
-    let mut world = world(&rt, alloc, 16)?;
-    let answer = line(alloc, &mut world, 1, Command::Begin)?;
-    assert!(rt; matches!(answer, Answer::Began(13)));
-    let answer = line(alloc, &mut world, 2, Command::Begin)?;
-    assert!(rt; matches!(answer, Answer::Began(13)));
-    let answer = line(alloc, &mut world, 1, Command::Get { table: 0, key: 5 })?;
-    assert!(rt; reply(answer) == Some(Reply::Value(None)));
-    let answer = line(alloc, &mut world, 2, Command::Get { table: 1, key: 5 })?;
-    assert!(rt; reply(answer) == Some(Reply::Value(None)));
-    let answer = line(alloc, &mut world, 1, put(1, 7))?;
-    assert!(rt; reply(answer) == Some(Reply::Done));
-    let answer = line(alloc, &mut world, 2, put(0, 8))?;
-    assert!(rt; reply(answer) == Some(Reply::Done));
-    let answer = line(alloc, &mut world, 1, Command::Commit)?;
-    assert!(rt; matches!(answer, Answer::Committed { .. }));
-    let answer = line(alloc, &mut world, 2, Command::Commit)?;
-    assert!(rt; matches!(answer, Answer::Excluded { .. }));
-    let answer = line(alloc, &mut world, 2, Command::Commit)?;
-    assert!(rt; matches!(answer, Answer::NoTransaction), "it was aborted");
+fn write_skew_by_lines(rt: HostRuntime) -> Result<(), AllocError> {
+    let mut world = world(&rt, rt.alloc(), 16)?;
+    assert_eq!(rt; first_other(rt.alloc(), &mut world, &WRITE_SKEW)?, None);
     Ok(())
 }
 
+const FOUND: [Exchange; 11] = [
+    (1, Asked::Settle, Told::NotSealed),
+    (1, Asked::Begin, Told::Began(13)),
+    (1, Asked::Put(0, 7), Told::Done),
+    (1, Asked::Begin, Told::NotIdle),
+    // The key and its value.
+    (1, Asked::Scan(0), Told::Pairs(1)),
+    (1, Asked::Next(0), Told::NoPair),
+    (1, Asked::Tidy(0), Told::Cut(0)),
+    (1, Asked::Del(0), Told::Done),
+    (1, Asked::Seal, Told::Sealed(13)),
+    (1, Asked::Abort, Told::IsSealed),
+    (1, Asked::Settle, Told::Committed(13)),
+];
+
 // A session finds the keys that it has put, and tidies one. Lines that its phase refuses change nothing.
 #[test]
-fn keys_are_found_by_lines(rt: HostRuntime) -> Result<(), Fail> {
-    let alloc = rt.alloc();
-    let mut world = world(&rt, alloc, 16)?;
-    let answer = line(alloc, &mut world, 1, Command::Settle)?;
-    assert!(rt; matches!(answer, Answer::NotSealed));
-    line(alloc, &mut world, 1, Command::Begin)?;
-    line(alloc, &mut world, 1, put(0, 7))?;
-    let answer = line(alloc, &mut world, 1, Command::Begin)?;
-    assert!(rt; matches!(answer, Answer::NotIdle));
-    let scan = Command::Scan {
-        table: 0,
-        low: 5,
-        high: 9,
-    };
-    let answer = line(alloc, &mut world, 1, scan)?;
-    assert!(rt; pairs(answer) == 1, "the key and its value");
-    let answer = line(alloc, &mut world, 1, Command::Next { table: 0, from: 6 })?;
-    assert!(rt; reply(answer) == Some(Reply::Pair(None)));
-    let answer = line(alloc, &mut world, 1, Command::Tidy { table: 0, key: 5 })?;
-    assert!(rt; matches!(answer, Answer::Cut(0)));
-    let answer = line(alloc, &mut world, 1, Command::Del { table: 0, key: 5 })?;
-    assert!(rt; reply(answer) == Some(Reply::Done));
-    let answer = line(alloc, &mut world, 1, Command::Seal)?;
-    assert!(rt; matches!(answer, Answer::Sealed(13)));
-    let answer = line(alloc, &mut world, 1, Command::Abort)?;
-    assert!(rt; matches!(answer, Answer::IsSealed));
-    let answer = line(alloc, &mut world, 1, Command::Settle)?;
-    assert!(rt; matches!(answer, Answer::Committed { stamp: 13, .. }));
+fn keys_are_found_by_lines(rt: HostRuntime) -> Result<(), AllocError> {
+    let mut world = world(&rt, rt.alloc(), 16)?;
+    assert_eq!(rt; first_other(rt.alloc(), &mut world, &FOUND)?, None);
     Ok(())
 }
 
 // A session that has committed nothing has no receipt.
 #[test]
-fn no_commit_is_durable(rt: HostRuntime) -> Result<(), Fail> {
-    let alloc = rt.alloc();
-    let mut world = world(&rt, alloc, 16)?;
-    let answer = answer_durable(&mut world, 1, None);
-    assert!(rt; matches!(answer, Answer::NoReceipt));
+fn no_commit_is_durable(rt: HostRuntime) -> Result<(), AllocError> {
+    let mut world = world(&rt, rt.alloc(), 16)?;
+    assert!(rt; matches!(answer_durable(&mut world, 1, None), Answer::NoReceipt));
     Ok(())
+}
+
+// The first session puts a key and commits. The answer is its receipt, if it commits.
+fn commit<W: RowWorld>(alloc: Global, world: &mut W) -> Result<Option<Receipt>, AllocError>
+    requires law { SameLaw W.law sound_law }
+    requires stands { W.stands world.old }
+    requires runs { AllRun (W.view world.old) }
+    requires sessions { (W.view world.old).opening.sessions ≡ 2 }
+    ensures stands { W.stands world.new }
+    ensures sessions { OnOk result ((W.view world.new).opening.sessions ≡ 2) }
+    ensures kept { IfOk result (λ receipt. KeepsReceipt (W.view world.old) 1 None (W.view world.new) receipt) }
+{
+    let mut receipt = None;
+    kept_line(alloc, world, 1, Command::Begin, &mut receipt)?;
+    kept_line(alloc, world, 1, put(0, 7), &mut receipt)?;
+    kept_line(alloc, world, 1, Command::Commit, &mut receipt)?;
+    Ok(receipt)
 }
 
 // A commit isn't on the disk before the log was flushed.
 #[test]
-fn a_commit_is_not_flushed(rt: HostRuntime) -> Result<(), Fail> {
-    let alloc = rt.alloc();
-    let mut world = world(&rt, alloc, 16)?;
-    let mut receipt = None;
-    kept_line(alloc, &mut world, 1, Command::Begin, &mut receipt)?;
-    kept_line(alloc, &mut world, 1, put(0, 7), &mut receipt)?;
-    kept_line(alloc, &mut world, 1, Command::Commit, &mut receipt)?;
-    if let Some(commit) = &receipt {
-        let answer = answer_durable(&mut world, 1, Some(commit));
+fn a_commit_is_not_flushed(rt: HostRuntime) -> Result<(), AllocError> {
+    let mut world = world(&rt, rt.alloc(), 16)?;
+    let receipt = commit(rt.alloc(), &mut world)?;
+    assert!(rt; receipt.is_some(), "it committed");
+    if let Some(receipt) = &receipt {
+        let answer = answer_durable(&mut world, 1, Some(receipt));
         assert!(rt; matches!(answer, Answer::NotFlushed { flushed: 13 }));
     }
-    assert!(rt; receipt.is_some(), "it committed");
     Ok(())
 }

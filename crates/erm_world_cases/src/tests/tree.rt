@@ -8,9 +8,8 @@ ghost use Rattle.erm_world_cases.specs.Sessions.{AllRun};
 use super::{ask, begin, seal, settle, value, world};
 use erm_model::{Map, OID_LIMIT, Oid, Op, Outcome, Phase, Reply, Row, RowStop, Stamp, run_one};
 use erm_world::RowWorld;
-use std::alloc::Global;
+use std::alloc::{AllocError, Global};
 use std::process::Abort;
-use std::test::Fail;
 
 // Commits the transaction of the first session, and begins its next one.
 fn renew<W: RowWorld>(world: &mut W) -> Option<Stamp>
@@ -50,7 +49,7 @@ fn reply<W: RowWorld>(world: &mut W, op: &Op) -> Option<Reply>
 }
 
 // The replies to operations in turn, as far as none is refused.
-fn replies<W: RowWorld>(alloc: Global, world: &mut W, ops: &[Op]) -> Result<Vec<Reply>, Fail>
+fn replies<W: RowWorld>(alloc: Global, world: &mut W, ops: &[Op]) -> Result<Vec<Reply>, AllocError>
     requires law { SameLaw W.law sound_law }
     requires stands { W.stands world.old }
     requires runs { AllRun (W.view world.old) }
@@ -69,19 +68,40 @@ fn replies<W: RowWorld>(alloc: Global, world: &mut W, ops: &[Op]) -> Result<Vec<
     Ok(replies)
 }
 
-// How many operations are answered, where objects are made from `first` on. What the calls answer is what is answered on a map.
-fn answered(rt: &impl Abort, alloc: Global, first: Oid, ops: &[Op]) -> Result<usize, Fail>
+// The replies to operations in turn, as far as none is refused, where objects are made from `first` on.
+fn replies_from(
+    rt: &impl Abort,
+    alloc: Global,
+    first: Oid,
+    ops: &[Op],
+) -> Result<Vec<Reply>, AllocError>
     requires low { TABLES ≤ first }
     requires high { first ≤ OID_LIMIT }
 {
     let mut world = world(rt, alloc, first)?;
     assert!(rt; begin(&mut world, 1).is_some());
-    let replies = replies(alloc, &mut world, ops)?;
-    let done = ops
-        .get(..replies.len())
-        .ok_or("more replies than operations")?;
-    let mut map = Map::new(alloc);
-    assert!(rt; replies == run_one(alloc, &mut map, done)?);
+    replies(alloc, &mut world, ops)
+}
+
+// Whether these are the replies to the first of the operations on a map.
+fn are_replies_on_a_map(
+    alloc: Global,
+    replies: &Vec<Reply>,
+    ops: &[Op],
+) -> Result<bool, AllocError> {
+    match ops.get(..replies.len()) {
+        Some(done) => Ok(*replies == run_one(alloc, &mut Map::new(alloc), done)?),
+        None => Ok(false),
+    }
+}
+
+// How many operations are answered, where objects are made from `first` on. What the calls answer is what is answered on a map.
+fn answered(rt: &impl Abort, alloc: Global, first: Oid, ops: &[Op]) -> Result<usize, AllocError>
+    requires low { TABLES ≤ first }
+    requires high { first ≤ OID_LIMIT }
+{
+    let replies = replies_from(rt, alloc, first, ops)?;
+    assert!(rt; are_replies_on_a_map(alloc, &replies, ops)?);
     Ok(replies.len())
 }
 
@@ -117,18 +137,24 @@ fn key_of(order: u8, number: u64) -> u64 {
     }
 }
 
+// Puts the key of a number, takes the value away where it is each third one's, and looks there and below.
+fn push_ops(ops: &mut Vec<Op>, order: u8, number: u64) -> Result<(), AllocError> {
+    let table = (number % 16) as u8;
+    let key = key_of(order, number);
+    ops.push(op(Ask::Put, table, key))?;
+    if number % 3 == 0 {
+        ops.push(op(Ask::Del, table, key))?;
+    }
+    ops.push(op(Ask::Get, table, key))?;
+    ops.push(op(Ask::Next, table, key / 2))?;
+    Ok(())
+}
+
 // Operations on sixteen tables: so many keys are put, and each third one's value is taken away.
-fn script(alloc: Global, order: u8, keys: u64) -> Result<Vec<Op>, Fail> {
+fn script(alloc: Global, order: u8, keys: u64) -> Result<Vec<Op>, AllocError> {
     let mut ops = Vec::new(alloc);
     for number in 0..keys {
-        let table = (number % 16) as u8;
-        let key = key_of(order, number);
-        ops.push(op(Ask::Put, table, key))?;
-        if number % 3 == 0 {
-            ops.push(op(Ask::Del, table, key))?;
-        }
-        ops.push(op(Ask::Get, table, key))?;
-        ops.push(op(Ask::Next, table, key / 2))?;
+        push_ops(&mut ops, order, number)?;
     }
     Ok(ops)
 }
@@ -136,13 +162,17 @@ fn script(alloc: Global, order: u8, keys: u64) -> Result<Vec<Op>, Fail> {
 // Where 984 objects may be made.
 const LATE: Oid = OID_LIMIT - 984;
 
+// Whether objects run out, and late, where keys come in this order.
+fn runs_out(rt: &impl Abort, alloc: Global, order: u8) -> Result<bool, AllocError> {
+    let ops = script(alloc, order, 1000)?;
+    let answered = answered(rt, alloc, LATE, ops.as_slice())?;
+    Ok(answered > 1500 && answered < ops.len())
+}
+
 #[test]
-fn keys_until_objects_run_out(rt: HostRuntime) -> Result<(), Fail> {
+fn keys_until_objects_run_out(rt: HostRuntime) -> Result<(), AllocError> {
     for order in 0..3 {
-        let ops = script(rt.alloc(), order, 1000)?;
-        let answered = answered(&rt, rt.alloc(), LATE, ops.as_slice())?;
-        assert!(rt; answered > 1500, "objects run out late");
-        assert!(rt; answered < ops.len(), "objects run out");
+        assert!(rt; runs_out(&rt, rt.alloc(), order)?, "in order {order}");
     }
     Ok(())
 }
@@ -163,24 +193,35 @@ const EDGES: [(Ask, u8, u64); 13] = [
     (Ask::Next, 15, 0),
 ];
 
-#[test]
-fn least_and_greatest_key(rt: HostRuntime) -> Result<(), Fail> {
-    let mut ops = Vec::new(rt.alloc());
+fn edges(alloc: Global) -> Result<Vec<Op>, AllocError> {
+    let mut ops = Vec::new(alloc);
     for (ask, table, key) in EDGES {
         ops.push(op(ask, table, key))?;
     }
+    Ok(ops)
+}
+
+#[test]
+fn least_and_greatest_key(rt: HostRuntime) -> Result<(), AllocError> {
+    let ops = edges(rt.alloc())?;
     let answered = answered(&rt, rt.alloc(), 16, ops.as_slice())?;
     assert!(rt; answered == EDGES.len());
     Ok(())
 }
 
+// Seven keys get a value in a table.
+fn push_seven(ops: &mut Vec<Op>, table: u8) -> Result<(), AllocError> {
+    for number in 1..8 {
+        ops.push(op(Ask::Put, table, 10 * number))?;
+    }
+    Ok(())
+}
+
 // Seven keys get a value in each of so many tables from the first one on, and so many keys in the table behind.
-fn keys(alloc: Global, tables: u8, last: u64) -> Result<Vec<Op>, Fail> {
+fn keys(alloc: Global, tables: u8, last: u64) -> Result<Vec<Op>, AllocError> {
     let mut ops = Vec::new(alloc);
     for table in 0..tables {
-        for number in 1..8 {
-            ops.push(op(Ask::Put, table, 10 * number))?;
-        }
+        push_seven(&mut ops, table)?;
     }
     for number in 0..last {
         ops.push(op(Ask::Put, tables, number))?;
@@ -209,57 +250,161 @@ const LEFT: Row = [3, 4, 10, 20, 30, 40, 0, 0, 0, 16, 17, 18, 19, 0, 0, 0];
 
 const RIGHT: Row = [3, 4, 50, 60, 70, 80, 0, 0, 0, 20, 21, 22, 23, 0, 0, 0];
 
+// Whether the first session begins, and all of these operations are answered.
+fn is_filled<W: RowWorld>(alloc: Global, world: &mut W, ops: &[Op]) -> Result<bool, AllocError>
+    requires law { SameLaw W.law sound_law }
+    requires stands { W.stands world.old }
+    requires runs { AllRun (W.view world.old) }
+    requires sessions { (W.view world.old).opening.sessions ≡ 2 }
+    ensures stands { W.stands world.new }
+    ensures runs { AllRun (W.view world.new) }
+    ensures sessions { (W.view world.new).opening.sessions ≡ 2 }
+{
+    if begin(world, 1) != Some(13) {
+        return Ok(false);
+    }
+    Ok(replies(alloc, world, ops)?.len() == ops.len())
+}
+
+// The answer to a put of an eighth key into the root of table 0.
+fn put_eighth<W: RowWorld>(world: &mut W) -> Option<Result<Reply, RowStop>>
+    requires law { SameLaw W.law sound_law }
+    requires stands { W.stands world.old }
+    requires runs { AllRun (W.view world.old) }
+    requires sessions { (W.view world.old).opening.sessions ≡ 2 }
+    ensures stands { W.stands world.new }
+    ensures runs { AllRun (W.view world.new) }
+    ensures sessions { (W.view world.new).opening.sessions ≡ 2 }
+{
+    ask(world, 1, &op(Ask::Put, 0, 80))
+}
+
+// The first of these rows that is another.
+fn first_other<W: RowWorld>(world: &mut W, rows: &[(Oid, Row)]) -> Option<Oid>
+    requires stands { W.stands world.old }
+    requires sessions { (W.view world.old).opening.sessions ≡ 2 }
+{
+    for place in 0..rows.len() {
+        let (oid, want) = rows[place];
+        if oid >= OID_LIMIT || row(world, oid) != Some(want) {
+            return Some(oid);
+        }
+    }
+    None
+}
+
+const CUT: [(Oid, Row); 3] = [(0, ROOT), (24, LEFT), (25, RIGHT)];
+
 #[test]
-fn the_eighth_key_cuts_the_root(rt: HostRuntime) -> Result<(), Fail> {
+fn the_eighth_key_cuts_the_root(rt: HostRuntime) -> Result<(), AllocError> {
     let mut world = world(&rt, rt.alloc(), 16)?;
-    assert!(rt; begin(&mut world, 1).is_some());
     let ops = keys(rt.alloc(), 1, 0)?;
-    assert!(rt; replies(rt.alloc(), &mut world, ops.as_slice())?.len() == 7);
-    assert!(rt; ask(&mut world, 1, &op(Ask::Put, 0, 80)) == Some(Ok(Reply::Done)));
-    assert!(rt; row(&mut world, 0) == Some(ROOT));
-    assert!(rt; row(&mut world, 24) == Some(LEFT));
-    assert!(rt; row(&mut world, 25) == Some(RIGHT));
+    assert!(rt; is_filled(rt.alloc(), &mut world, ops.as_slice())? && ops.len() == 7);
+    assert!(rt; put_eighth(&mut world) == Some(Ok(Reply::Done)));
+    assert_eq!(rt; first_other(&mut world, &CUT), None);
     Ok(())
 }
 
-// Why an eighth key isn't put into the root of table 0, after these operations. A refusal leaves what its keys answer.
-fn refusal(rt: &impl Abort, alloc: Global, first: Oid, ops: &[Op]) -> Result<Option<RowStop>, Fail>
-    requires low { TABLES ≤ first }
-    requires high { first ≤ OID_LIMIT }
-{
+// What eight keys of table 0 are asked.
+fn looks(alloc: Global) -> Result<Vec<Op>, AllocError> {
     let mut looks = Vec::new(alloc);
     for number in 1..9 {
         looks.push(op(Ask::Get, 0, 10 * number))?;
         looks.push(op(Ask::Next, 0, 10 * number))?;
     }
-    let mut world = world(rt, alloc, first)?;
-    assert!(rt; begin(&mut world, 1) == Some(13));
-    assert!(rt; replies(alloc, &mut world, ops)?.len() == ops.len());
-    let before = replies(alloc, &mut world, looks.as_slice())?;
+    Ok(looks)
+}
+
+// Whether these operations are answered so, and the transaction then goes on.
+fn goes_on<W: RowWorld>(
+    alloc: Global,
+    world: &mut W,
+    ops: &[Op],
+    before: &Vec<Reply>,
+) -> Result<bool, AllocError>
+    requires law { SameLaw W.law sound_law }
+    requires stands { W.stands world.old }
+    requires runs { AllRun (W.view world.old) }
+    requires sessions { (W.view world.old).opening.sessions ≡ 2 }
+{
+    Ok(replies(alloc, world, ops)? == *before && seal(world, 1) == Some(13))
+}
+
+// Why an eighth key isn't put into the root of table 0. A refusal leaves what its keys answer.
+fn refusal<W: RowWorld>(
+    rt: &impl Abort,
+    alloc: Global,
+    world: &mut W,
+) -> Result<Option<RowStop>, AllocError>
+    requires law { SameLaw W.law sound_law }
+    requires stands { W.stands world.old }
+    requires runs { AllRun (W.view world.old) }
+    requires sessions { (W.view world.old).opening.sessions ≡ 2 }
+{
+    let looks = looks(alloc)?;
+    let before = replies(alloc, world, looks.as_slice())?;
     assert!(rt; before.len() == looks.len());
-    let Some(Err(stop)) = ask(&mut world, 1, &op(Ask::Put, 0, 80)) else {
+    let Some(Err(stop)) = put_eighth(world) else {
         return Ok(None);
     };
-    assert!(rt; replies(alloc, &mut world, looks.as_slice())? == before);
-    assert!(rt; seal(&mut world, 1) == Some(13), "it goes on");
+    assert!(rt; goes_on(alloc, world, looks.as_slice(), &before)?);
     Ok(Some(stop))
+}
+
+// The same after these operations, where objects are made from `first` on.
+fn refusal_after(
+    rt: &impl Abort,
+    alloc: Global,
+    first: Oid,
+    ops: &[Op],
+) -> Result<Option<RowStop>, AllocError>
+    requires low { TABLES ≤ first }
+    requires high { first ≤ OID_LIMIT }
+{
+    let mut world = world(rt, alloc, first)?;
+    assert!(rt; is_filled(alloc, &mut world, ops)?);
+    refusal(rt, alloc, &mut world)
+}
+
+// Why it isn't put where so many objects are left: three are made.
+fn refusal_at_objects(
+    rt: &impl Abort,
+    alloc: Global,
+    left: Oid,
+) -> Result<Option<RowStop>, AllocError>
+    requires { left < 4 }
+{
+    let ops = keys(alloc, 1, 0)?;
+    refusal_after(rt, alloc, OID_LIMIT - 7 - left, ops.as_slice())
+}
+
+// Why it isn't put where so many claims are left: three objects are claimed. Seven keys take eight claims, so fifteen tables leave eight, and a
+// key less in the last table leaves one more.
+fn refusal_at_claims(
+    rt: &impl Abort,
+    alloc: Global,
+    left: u64,
+) -> Result<Option<RowStop>, AllocError>
+    requires { left < 4 }
+{
+    let ops = keys(alloc, 15, 7 - left)?;
+    refusal_after(rt, alloc, 16, ops.as_slice())
 }
 
 // Three objects are made, and three claimed: the root was claimed before, so its row is the transaction's own.
 #[test]
-fn a_refusal_leaves_the_rows(rt: HostRuntime) -> Result<(), Fail> {
-    let ops = keys(rt.alloc(), 1, 0)?;
+fn a_refusal_leaves_the_rows(rt: HostRuntime) -> Result<(), AllocError> {
+    let drawn = u64::from(OID_LIMIT);
     for left in 0..4 {
-        let first = OID_LIMIT - 7 - left;
-        let stop = refusal(&rt, rt.alloc(), first, ops.as_slice())?;
-        let drawn = u64::from(OID_LIMIT);
-        assert!(rt; stop == (left < 3).then_some(RowStop::OidsFull { drawn }));
+        let stop = refusal_at_objects(&rt, rt.alloc(), left)?;
+        assert!(rt;
+            stop == (left < 3).then_some(RowStop::OidsFull { drawn }),
+            "{left}"
+        );
     }
-    // Seven keys take eight claims, so fifteen tables leave eight, and a key less in the last table leaves one more.
     for left in 0..4 {
-        let ops = keys(rt.alloc(), 15, 7 - left)?;
-        let stop = refusal(&rt, rt.alloc(), 16, ops.as_slice())?;
-        assert!(rt; stop == (left < 3).then_some(RowStop::WritesFull));
+        let stop = refusal_at_claims(&rt, rt.alloc(), left)?;
+        assert!(rt; stop == (left < 3).then_some(RowStop::WritesFull), "{left}");
     }
     Ok(())
 }
