@@ -20,7 +20,17 @@ neither was before the other. It checks, of the answers, the order and the map t
 - no begin lies further on than the lines so far can have moved the log's end, by a block of the most words for each `seal` and `commit`; nor does the
   end of such a block behind a stamp, by the lines up to the one that drew it, whichever line tells it: at once, by all lines of the script;
 - a begin is above the stamps of the commits that earlier lines tell, and of those that closed a window of one, and not below the begin of
-  a transaction that an earlier line names as the owner: of earlier lines of its own session, where the sessions ran at once.
+  a transaction that an earlier line names as the owner: of earlier lines of its own session, where the sessions ran at once;
+- a snapshot that only reads takes its session's next number, with its first `safe`; its lines are answered as its session stands, each reply as
+  on the map of the commits below its begin stamp, and where it ended it stands in the order at this stamp, before all that is there: of two
+  there that of the smaller session, and then number, first;
+- there is a begin stamp for each, and the one told is such a one: above the stamps of the commits that lines before its first one tell, not
+  below the begins that they tell, nor the ends of the blocks that they draw; at most each begin that a line behind that one tells, and each
+  stamp that it draws, and where a later snapshot begins; in turn below the place where the log stops; within what the lines up to its first
+  one can have moved the log's end to; above the begin word of each session that it waits for, which isn't idle, and began there or later; and
+  at most the stamp of a commit of that session which makes it unsafe, since the commit has its turn before it;
+- a snapshot that is told safe is so: in turn no transaction that isn't over then began below it, and each commit at its begin stamp or above has
+  its turn there or behind it.
 
 A tree's rows are shared by keys, so that windows and refusals may have causes in rows that no line names: what is said of them here is what
 follows from keys alone. With --exact each key that the script writes or tidies is to have a value in MAP: then no node of a tree is written,
@@ -42,17 +52,21 @@ WAITS = ["wait"], ["not", "flushed"]
 REPLIES = "ok", "value", "none", "pair", "pairs", "cut"
 WRITERS = "put", "del", "tidy"
 DRAWERS = "seal", "commit"
+READERS = "get", "next", "scan"
 # The words of the least block of the log, and of the greatest one.
 LEAST_BLOCK, GREATEST_BLOCK = 5, 2181
+STOP = 2**60
 LAST_KEY = 2**64 - 1
 NUMBER, DIGITS = "(?:0|[1-9][0-9]*)", "(?:-|(?:[0-9a-f]{2})+)"
 WINDOW = f"succ {NUMBER} pred {NUMBER}"
 ANSWER = re.compile(
     f"ok|none|value {DIGITS}|pair {NUMBER} {DIGITS}|pairs {NUMBER}(?: {NUMBER} {DIGITS})*|committed {NUMBER} {WINDOW}|excluded (?:at {NUMBER} )?{WINDOW}"
-    f"|(?:begin|cut|sealed|newer|durable|flushed|empty|unfilled|checkpoint|not flushed|wait ring|log end|cells full|oids full) {NUMBER}"
-    f"|(?:owned|wait) {NUMBER} {NUMBER}|aborted|no transaction|is sealed|not sealed|not idle|no receipt|reads full|writes full|numbers end"
+    f"|(?:begin|safe|cut|sealed|newer|durable|flushed|empty|unfilled|checkpoint|not flushed|wait ring|log end|cells full|oids full) {NUMBER}"
+    f"|(?:owned|wait|unsafe) {NUMBER} {NUMBER}|aborted|ended|no transaction|is sealed|not sealed|not idle|read only|not safe|no receipt|reads full"
+    "|writes full|numbers end"
 )
 COMMIT = re.compile(f"commit [a-z0-9]+ {NUMBER} stamp {NUMBER} {WINDOW}")
+SAFE = re.compile(f"safe [a-z0-9]+ {NUMBER} at {NUMBER}")
 
 
 class Bad(Exception):
@@ -217,14 +231,53 @@ class Transaction:
         return found
 
 
+class Watch:
+    """A snapshot that only reads."""
+
+    def __init__(self, session, number, least):
+        self.name, self.begin, self.ended = (session, number), None, False
+        self.least, self.most = least, None  # where it may have begun: the least stamp, and the greatest where there is one
+        self.steps, self.reads = [], set()
+
+    def ended_early(self):
+        return False
+
+    def is_above(self, stamp):
+        self.least = max(self.least, stamp)
+
+    def is_within(self, stamp):
+        self.most = stamp if self.most is None else min(self.most, stamp)
+
+    def owed(self, command):
+        """The answer that a line has in its session whatever the map is, or None where it is a reply."""
+        if command == "begin":
+            return ["not", "idle"]
+        if command == "abort":
+            return ["aborted"]
+        if command in READERS:
+            return ["not", "safe"] if self.begin is None else None
+        if command == "commit":
+            return ["not", "safe"] if self.begin is None else ["ended"]
+        return ["read", "only"]
+
+    def check(self, least):
+        """The least stamp at which it may have begun, behind one that began at this stamp."""
+        least = max(least, self.least)
+        begin = least if self.begin is None else self.begin
+        if begin < least or self.most is not None and begin > self.most:
+            raise Bad(f"{self.name}: a snapshot that can't have begun there: {self.begin}, from {least} to {self.most}")
+        return begin
+
+
 class Heard:
-    """What the answers so far tell: the transactions that are over, and those of each session in progress."""
+    """What the answers so far tell: the transactions that are over, and those of each session in progress; and the snapshots."""
 
     def __init__(self, opened, at_once):
         self.opened, self.at_once = opened, at_once
         self.over, self.current, self.counts, self.last = [], {}, {}, {}
         self.seats, self.begins, self.met, self.named = {}, {}, {}, []
         self.draws = 0  # how many lines may have drawn a range of the log by then
+        self.watched, self.watching, self.fresh, self.unsafe, self.floors = [], {}, {}, [], {}
 
     def log_end(self):
         """How far the log's end may have come by then."""
@@ -237,6 +290,14 @@ class Heard:
         if session is None:
             return
         self.seats.setdefault(session, len(self.seats) + 1)
+        if words[0] == "safe":
+            self.safe(number, session, answer)
+            return
+        if session in self.watching and words[0] != "durable":
+            self.watch(number, session, words, answer)
+            return
+        if answer[0] in ("safe", "unsafe", "ended", "read") or answer == ["not", "safe"]:
+            raise Bad(f"line {number} tells of a snapshot that there isn't")
         if words[0] in DRAWERS and answer[0] in ("sealed", "committed", "excluded", "wait"):
             self.current[session].within = self.log_end()
         if answer[0] == "begin":
@@ -250,6 +311,75 @@ class Heard:
             self.current[session].steps.append((words, answer[:1] if words[0] == "tidy" else answer))
         else:
             self.end(number, session, answer, words)
+        if words[0] in DRAWERS and answer[0] in ("sealed", "committed") or answer[:2] == ["excluded", "at"] and words[0] == "commit":
+            stamp = int(answer[2] if answer[0] == "excluded" else answer[1])
+            self.passes(session, stamp, stamp + LEAST_BLOCK)
+
+    def passes(self, session, stamp, end):
+        """A line began at this stamp, or drew it: the snapshots that began since the last one that did lie at it or below, later ones at its end."""
+        key = session if self.at_once else None
+        for snapshot in self.fresh.pop(key, ()):
+            snapshot.is_within(stamp)
+        self.floors[key] = max(self.floors.get(key, 0), end)
+
+    def safe(self, number, session, answer):
+        """The answer to a line that asks for a safe snapshot."""
+        snapshot = self.watching.get(session)
+        if session in self.current or snapshot is not None and snapshot.begin is not None:
+            if answer != ["not", "idle"]:
+                raise Bad(f"line {number} asks for a snapshot beside another, or a transaction")
+            return
+        if snapshot is None and answer[:2] in (["log", "end"], ["numbers", "end"]):
+            return
+        if answer[0] not in ("safe", "wait", "unsafe") or answer[1] == "ring":
+            raise Bad(f"line {number} asks for a snapshot: {answer}")
+        snapshot = snapshot or self.snapshot(session)
+        stamp = int(answer[-1])
+        if answer[0] == "safe":
+            snapshot.begin = stamp
+            if not self.at_once and any(it.begin < stamp for it in self.current.values()):
+                raise Bad(f"line {number} is told safe beside a transaction that began below")
+        elif answer[0] == "wait":
+            self.wait(number, session, snapshot, int(answer[1]), stamp)
+        else:
+            snapshot.is_within(stamp)
+            self.unsafe.append((number, session, int(answer[1]), stamp, len(self.over)))
+            self.meet(session, stamp)
+            del self.watching[session]
+
+    def snapshot(self, session):
+        """The session's next snapshot."""
+        key = session if self.at_once else None
+        count = self.counts[session] = self.counts.get(session, 0) + 1
+        least = max(self.opened + LEAST_BLOCK, self.met.get(key, 0) + 1, self.floors.get(key, 0))
+        snapshot = self.watching[session] = Watch(session, count, least)
+        snapshot.is_within(self.log_end() if self.at_once else min(self.log_end(), STOP - 1))
+        self.watched.append(snapshot)
+        self.fresh.setdefault(key, []).append(snapshot)
+        return snapshot
+
+    def wait(self, number, session, snapshot, seat, seen):
+        """A snapshot waits for the session of this seat, whose begin word is this."""
+        name = {seat: session for session, seat in self.seats.items()}.get(seat)
+        snapshot.is_above(seen + 1)
+        if name == session:
+            raise Bad(f"line {number} waits for its own session")
+        if name in self.watching:
+            self.watching[name].is_above(seen)
+        elif name not in self.current or self.current[name].begin < seen:
+            raise Bad(f"line {number} waits for a session that has nothing that began there")
+
+    def watch(self, number, session, words, answer):
+        """The answer to another line of a session that has a snapshot."""
+        snapshot = self.watching[session]
+        owed = snapshot.owed(words[0])
+        if owed is not None and answer != owed or owed is None and answer[0] not in REPLIES:
+            raise Bad(f"line {number} is answered {answer} in a session with a snapshot")
+        if owed is None:
+            snapshot.steps.append((words, answer))
+        elif answer in (["ended"], ["aborted"]):
+            snapshot.ended = answer == ["ended"]
+            del self.watching[session]
 
     def begin(self, number, session, stamp):
         if session in self.current:
@@ -257,6 +387,7 @@ class Heard:
         count = self.counts[session] = self.counts.get(session, 0) + 1
         self.current[session] = Transaction(session, count, stamp)
         self.begins[session, count] = stamp
+        self.passes(session, stamp, stamp)
         if stamp > self.log_end():
             raise Bad(f"line {number} begins further on than the log can have come")
         if stamp < self.opened + LEAST_BLOCK or stamp <= self.met.get(session if self.at_once else None, 0):
@@ -277,6 +408,8 @@ class Heard:
     def end(self, number, session, answer, words=None):
         """The end of a session's transaction, if the answer, to these words, tells one."""
         if answer[0] not in ("committed", "excluded", "aborted", "owned", "newer"):
+            return
+        if words is None and answer == ["aborted"] and self.watching.pop(session, None) is not None:
             return
         transaction = self.current.pop(session, None)
         if transaction is None:
@@ -317,8 +450,8 @@ def heard(script, report, at_once):
         _, session, answer = report[at].split(" ", 2)
         told.end("of a close", session, answer.split(" "))
         at += 1
-    if told.current:
-        raise Bad(f"sessions stand open at the end: {sorted(told.current)}")
+    if told.current or told.watching:
+        raise Bad(f"sessions stand open at the end: {sorted([*told.current, *told.watching])}")
     return told, at
 
 
@@ -335,8 +468,10 @@ def entries_of(script, report, opening):
     for number, _, words in script:
         if words[0] in WRITERS and (int(words[1]), int(words[2])) not in opening:
             raise Bad(f"not to be told exactly: line {number} is of a key that has no value at first")
+    asks = {number for number, _, words in script if words[0] == "safe"}
     for line in report:
-        if re.match("[0-9]+ (?:wait [0-9]+ [0-9]+|(?:reads|writes|cells) full)", line):
+        found = re.match("([0-9]+) (?:wait [0-9]+ [0-9]+|(?:reads|writes|cells) full)", line)
+        if found and int(found[1]) not in asks:
             raise Bad(f"not to be told exactly: a transaction goes on behind {line!r}")
     entries = {}
     for table, key in sorted(opening):
@@ -353,34 +488,47 @@ def check(script, report, opening, at_once, exact):
     order = []
     for line in rows_at(report, at, "order"):
         words = line.split(" ")
-        if not COMMIT.fullmatch(line):
-            raise Bad(f"no commit: {line!r}")
-        order.append((words[1], int(words[2]), int(words[4]), int(words[6]), int(words[8])))
+        if COMMIT.fullmatch(line):
+            order.append((words[1], int(words[2]), int(words[4]), int(words[6]), int(words[8])))
+        elif SAFE.fullmatch(line):
+            order.append((words[1], int(words[2]), int(words[4])))
+        else:
+            raise Bad(f"no commit, and no snapshot: {line!r}")
     at += 1 + len(order)
     lines = rows_at(report, at, "map")
     pairs = pairs_of(lines)
     if report[at + 1 + len(lines) :] != ["end", ""] or len(pairs) < len(lines):
         raise Bad("something stands behind the map, or twice in it")
     committed = {(*it.name, it.stamp, it.succ, it.pred): it for it in told.over if it.ending == "committed"}
-    if len(order) != len(set(order)) or set(order) != set(committed):
-        raise Bad("the order's commits aren't those that the answers tell")
+    ended = {(*it.name, it.begin): it for it in told.watched if it.ended}
+    placed = {**committed, **ended}
+    if len(order) != len(set(order)) or set(order) != set(placed):
+        raise Bad("the order's commits and snapshots aren't those that the answers tell")
     entries = entries_of(script, report, opening) if exact else None
-    check_order(order, committed, opening, pairs)
-    check_snapshots(told.over, committed.values(), opening, entries)
+    check_order(order, placed, told.seats, opening, pairs)
+    check_snapshots([*told.over, *(it for it in told.watched if it.begin is not None)], committed.values(), opening, entries)
+    check_watched(told)
     check_windows(told.over)
     if exact:
         check_exactly(told.over)
     check_stamps(told)
-    return len(told.over), len(order)
+    return len(told.over), len(committed), len(told.watched)
 
 
-def check_order(order, committed, opening, pairs):
-    rank = [(it[3], -it[2]) for it in order]
+def rank_of(it, seats):
+    """What places a commit, or an ended snapshot, in the serial order: a snapshot comes before all at its begin stamp."""
+    if len(it) == 3:
+        return it[2], -(2**64 - 1 - (seats[it[0]] * 2**32 + it[1]))
+    return it[3], -it[2]
+
+
+def check_order(order, placed, seats, opening, pairs):
+    rank = [rank_of(it, seats) for it in order]
     if rank != sorted(rank):
         raise Bad("the order isn't the serial order")
     values = Values(opening)
     for name in order:
-        for words, reply in committed[name].steps:
+        for words, reply in placed[name].steps:
             owed = answered(values, words)
             if reply != owed:
                 raise Bad(f"{name}: {words} is answered {reply}, and by the order {owed}")
@@ -416,6 +564,23 @@ def check_snapshots(told, committed, opening, entries):
                 raise Bad(f"{transaction.name}: {words} is answered {reply}, and on its snapshot {owed}")
         if transaction.ended_early():
             note(transaction, snapshot, entries, transaction.ended_by)
+
+
+def check_watched(told):
+    """Whether each snapshot can have begun somewhere, and those that weren't safe had a cause."""
+    committed = [it for it in told.over if it.ending == "committed"]
+    begins = {}
+    for snapshot in told.watched:
+        key = snapshot.name[0] if told.at_once else None
+        begins[key] = snapshot.check(begins.get(key, 0))
+        if snapshot.begin is not None and any(it.succ < snapshot.begin <= it.stamp for it in committed):
+            raise Bad(f"{snapshot.name}: a snapshot that isn't safe")
+    names = {seat: session for session, seat in told.seats.items()}
+    commits = {(it.name[0], it.stamp): (place, it.succ) for place, it in enumerate(told.over) if it.ending == "committed"}
+    for number, session, seat, stamp, before in told.unsafe:
+        place, succ = commits.get((names.get(seat), stamp), (None, stamp))
+        if succ >= stamp or names[seat] == session or not told.at_once and place >= before:
+            raise Bad(f"line {number} tells of no commit that comes before its stamp")
 
 
 def writers_of(told):
@@ -529,11 +694,11 @@ def main():
     script, report, *opening = (word for word in sys.argv[1:] if word not in marks)
     opening = pairs_of(line for path in opening for line in lines_of(path) if line.startswith("pair "))
     try:
-        count, commits = check(script_of(script), lines_of(report), opening, "--at-once" in marks, "--exact" in marks)
+        count, commits, snapshots = check(script_of(script), lines_of(report), opening, "--at-once" in marks, "--exact" in marks)
     except (Bad, IndexError, KeyError, ValueError) as bad:
         print(f"bad: {bad!r}" if not isinstance(bad, Bad) else f"bad: {bad}")
         return 1
-    print(f"good: {count} transactions, {commits} commits")
+    print(f"good: {count} transactions, {commits} commits" + (f", {snapshots} snapshots" if snapshots else ""))
     return 0
 
 

@@ -17,9 +17,9 @@ use Rattle.erm_good_report.specs.Windows.{IsCommit}
 use Rattle.erm_good_report.proofs.Parts.{all_pairs_of_two, each_in}
 use Rattle.erm_good_report.proofs.Decided.{own_window}
 use Rattle.erm_bad_reports.specs.CauseCases.{excluded_with, successor_unknown, window_closed}
-use Rattle.erm_bad_reports.specs.Clauses.{BreaksAlone, Clause, Meets, lines_of, told_of, IsLowAt, IsHighAt, Fit, Answered, Closes, Phases, Stamps, Snapshots, Causes, Refusals, Serial, Ascending, Runs, LowEnds, HighEnds}
+use Rattle.erm_bad_reports.specs.Clauses.{BreaksAlone, Clause, Meets, lines_of, told_of, IsLowAt, IsHighAt, Fit, Answered, Closes, Phases, Stamps, Snapshots, Causes, Refusals, Safe, Serial, Ascending, Runs, LowEnds, HighEnds}
 use Rattle.erm_bad_reports.proofs.Reading.{owes_of}
-use Rattle.erm_bad_reports.proofs.Tests.{byte, in_one, no_pair_ascends, one_commit_ordered, stamps_agree, first_snapshot, low_ends, high_ends, phases_kept, refusals_kept}
+use Rattle.erm_bad_reports.proofs.Tests.{safe_kept, byte, in_one, no_pair_ascends, one_commit_ordered, stamps_agree, first_snapshot, low_ends, high_ends, phases_kept, refusals_kept}
 
 -- ---- a successor that no commit is
 its_stamp : (u : Transaction) → u ∈ told_of successor_unknown → (s p q : ℕ) → u.ending ≡ Commits s p q → s ≡ 13
@@ -38,11 +38,12 @@ keeps_but_successor : (other : Clause) → other ≢ Causes → Meets other succ
 keeps_but_successor Fit not = All-from_recursion FitsTypes (lines_of successor_unknown) ((omega arith, omega arith), ((omega arith, omega arith), ((omega arith, (omega arith, omega arith, omega arith)), (omega arith, ((omega arith, omega arith, omega arith, omega arith), (omega arith, (tt, tt)))))))
 keeps_but_successor Answered not = refl
 keeps_but_successor Closes not = record { each = refl; fits = λ c (k, at). cc }
-keeps_but_successor Phases not = phases_kept successor_unknown (tt, (tt, tt))
+keeps_but_successor Phases not = phases_kept successor_unknown (tt, (tt, tt)) refl
 keeps_but_successor Stamps not = stamps_agree successor_unknown.opening (told_of successor_unknown) (said_of successor_unknown.script successor_unknown.report.answers) refl refl refl refl refl refl (in_one _ _ (omega arith)) (in_one _ _ (omega arith)) (in_one _ _ tt)
 keeps_but_successor Snapshots not = in_one _ _ (first_snapshot (history_of (told_of successor_unknown)) empty 13 [] refl tt)
 keeps_but_successor Causes not = absurd (not refl)
 keeps_but_successor Refusals not = refusals_kept successor_unknown refl (record { own = λ t is. tt; log = tt; unfilled = tt }, (record { own = λ t is. λ window. absurd (no_successor_in t window); log = tt; unfilled = tt }, tt))
+keeps_but_successor Safe not = safe_kept successor_unknown refl
 keeps_but_successor Serial not = one_commit_ordered _
 keeps_but_successor Ascending not = no_pair_ascends
 keeps_but_successor Runs not = record { run = (tt, refl) }
@@ -68,7 +69,7 @@ keeps_but_opens : (other : Clause) → other ≢ Causes → Meets other window_c
 keeps_but_opens Fit not = All-from_recursion FitsTypes (lines_of window_closed) ((omega arith, omega arith), ((omega arith, omega arith), ((omega arith, omega arith), ((omega arith, tt), ((omega arith, (omega arith, omega arith, omega arith)), ((omega arith, tt), ((omega arith, (omega arith, omega arith, omega arith)), (omega arith, ((omega arith, omega arith, omega arith, omega arith), ((omega arith, omega arith, omega arith, omega arith), (omega arith, ((omega arith, omega arith, byte 1 (omega arith)), (tt, tt)))))))))))))
 keeps_but_opens Answered not = refl
 keeps_but_opens Closes not = record { each = refl; fits = λ c (k, at). cc }
-keeps_but_opens Phases not = phases_kept window_closed (tt, (tt, (tt, (tt, (tt, (tt, tt))))))
+keeps_but_opens Phases not = phases_kept window_closed (tt, (tt, (tt, (tt, (tt, (tt, tt)))))) refl
 keeps_but_opens Stamps not = stamps_agree window_closed.opening both (said_of window_closed.script window_closed.report.answers) refl refl refl refl refl refl
     (each_in (λ t. 13 ≤ t.begin) both (omega arith, (omega arith, tt)))
     (each_in (λ t. IfSome (stamp_of t) (λ stamp. t.begin ≤ stamp)) both (omega arith, (omega arith, tt)))
@@ -86,6 +87,7 @@ keeps_but_opens Refusals not = refusals_kept window_closed refl (
     ),
   ),
 )
+keeps_but_opens Safe not = safe_kept window_closed refl
 keeps_but_opens Serial not = record { same = IsPermutation-refl (history_of both); ascends = all_pairs_of_two (λ a b. ComesBefore (rank_of a) (rank_of b)) _ _ (inr (refl, omega arith)) }
 keeps_but_opens Ascending not = λ i j d less within. absurd (omega arith)
 keeps_but_opens Runs not = record { run = ((ap reply.Value (sym (value_at-empty 0 1)), tt), ((refl, tt), refl)) }
@@ -115,7 +117,7 @@ module _ (succ pred : ℕ) (low : succ < 2 ^ 64) (high : pred < 2 ^ 64) (shut : 
   keeps_but_end Fit not = All-from_recursion FitsTypes (lines_of (excluded_with succ pred)) ((omega arith, omega arith), ((omega arith, omega arith), ((omega arith, omega arith), ((omega arith, tt), ((omega arith, (omega arith, omega arith, omega arith)), ((omega arith, tt), ((omega arith, (omega arith, low, high)), (omega arith, ((omega arith, omega arith, omega arith, omega arith), (omega arith, ((omega arith, omega arith, byte 1 (omega arith)), (tt, tt))))))))))))
   keeps_but_end Answered not = refl
   keeps_but_end Closes not = record { each = refl; fits = λ c (k, at). cc }
-  keeps_but_end Phases not = phases_kept (excluded_with succ pred) (tt, (tt, (tt, (tt, (tt, (tt, tt))))))
+  keeps_but_end Phases not = phases_kept (excluded_with succ pred) (tt, (tt, (tt, (tt, (tt, (tt, tt)))))) refl
   keeps_but_end Stamps not = stamps_agree (excluded_with succ pred).opening (told_of (excluded_with succ pred)) (said_of (excluded_with succ pred).script (excluded_with succ pred).report.answers) refl refl refl refl refl refl
       (each_in (λ t. 13 ≤ t.begin) (told_of (excluded_with succ pred)) (omega arith, (omega arith, tt)))
       (each_in (λ t. IfSome (stamp_of t) (λ stamp. t.begin ≤ stamp)) (told_of (excluded_with succ pred)) (omega arith, (omega arith, tt)))
@@ -133,6 +135,7 @@ module _ (succ pred : ℕ) (low : succ < 2 ^ 64) (high : pred < 2 ^ 64) (shut : 
       ),
     ),
   )
+  keeps_but_end Safe not = safe_kept (excluded_with succ pred) refl
   keeps_but_end Serial not = one_commit_ordered _
   keeps_but_end Ascending not = λ i j d less within. absurd (omega arith)
   keeps_but_end Runs not = record { run = ((refl, tt), refl) }

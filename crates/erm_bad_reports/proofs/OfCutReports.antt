@@ -19,7 +19,7 @@ use Rattle.erm_good_report.specs.Refusals.{HasCause, HasCauses, moment_at}
 use Rattle.erm_good_report.specs.Transactions.{Transaction, history_of, said_of, stamp_of}
 use Rattle.erm_good_report.proofs.Parts.{each_in, each_place}
 use Rattle.erm_bad_reports.specs.CutReports.{BreaksCutAlone, AtLog, CutClause, FaultAt, Fitting, IsNoCutReport, MeetsCut, Once, OwesAllBut, Owing, Unseen, cut_lines_of, told_of_cut, closed_too_early, closed_twice, closed_with, cut_number_too_great, cut_without_begin, fault_at_begin, fault_outside, unfilled_below}
-use Rattle.erm_bad_reports.proofs.Tests.{ring_wait, first_snapshot, in_none, in_one, stamps_agree, reach_from_test, untold_in_reach}
+use Rattle.erm_bad_reports.proofs.Tests.{no_looks, none_agree, ring_wait, first_snapshot, in_none, in_one, stamps_agree, reach_from_test, untold_in_reach}
 
 -- ---- a fault outside the lines
 keeps_but_fault : (other : CutClause) → other ≢ FaultAt → MeetsCut other fault_outside
@@ -29,10 +29,11 @@ keeps_but_fault Fitting not = All-from_recursion FitsTypes (cut_lines_of fault_o
 keeps_but_fault Once not = λ i j d less within. absurd (omega arith)
 keeps_but_fault Unseen not = λ c (k, at). cc
 keeps_but_fault Owing not = record {
-  phases = record { fits = λ i l a at beside. absurd (cc beside) };
+  phases = record { fits = λ i l a at beside. absurd (cc beside); snapshots = λ i l a at beside. absurd (cc beside) };
   stamps = stamps_agree fault_outside.opening [] [] refl refl refl refl refl refl (in_none _) (in_none _) (in_none _);
   snapshots = in_none _;
   causes = in_none _;
+  safe = none_agree (moment_at InTurn fault_outside.opening fault_outside.script fault_outside.answers (told_of_cut fault_outside)) fault_outside.opening fault_outside.script fault_outside.answers (told_of_cut fault_outside) refl;
   refusals = record {
     each = λ i l a at beside. absurd (cc beside);
     reach = λ i l a at beside. absurd (cc beside);
@@ -65,10 +66,11 @@ keeps_but_log Fitting not = All-from_recursion FitsTypes (cut_lines_of fault_at_
 keeps_but_log Once not = λ i j d less within. absurd (omega arith)
 keeps_but_log Unseen not = λ c (k, at). cc
 keeps_but_log Owing not = record {
-  phases = record { fits = λ i l a at beside. absurd (cc beside) };
+  phases = record { fits = λ i l a at beside. absurd (cc beside); snapshots = λ i l a at beside. absurd (cc beside) };
   stamps = stamps_agree fault_at_begin.opening [] [] refl refl refl refl refl refl (in_none _) (in_none _) (in_none _);
   snapshots = in_none _;
   causes = in_none _;
+  safe = none_agree (moment_at InTurn fault_at_begin.opening fault_at_begin.script fault_at_begin.answers (told_of_cut fault_at_begin)) fault_at_begin.opening fault_at_begin.script fault_at_begin.answers (told_of_cut fault_at_begin) refl;
   refusals = record {
     each = λ i l a at beside. absurd (cc beside);
     reach = λ i l a at beside. absurd (cc beside);
@@ -101,10 +103,11 @@ keeps_but_fitting Fitting not = absurd (not refl)
 keeps_but_fitting Once not = λ i j d less within. absurd (omega arith)
 keeps_but_fitting Unseen not = λ c (k, at). cc
 keeps_but_fitting Owing not = record {
-  phases = record { fits = λ i l a at. absurd (cc) };
+  phases = record { fits = λ i l a at. absurd (cc); snapshots = λ i l a at. absurd (cc) };
   stamps = stamps_agree cut_number_too_great.opening [] [] refl refl refl refl refl refl (in_none _) (in_none _) (in_none _);
   snapshots = in_none _;
   causes = in_none _;
+  safe = none_agree (moment_at InTurn cut_number_too_great.opening cut_number_too_great.script cut_number_too_great.answers (told_of_cut cut_number_too_great)) cut_number_too_great.opening cut_number_too_great.script cut_number_too_great.answers (told_of_cut cut_number_too_great) refl;
   refusals = record { each = λ i l a at. absurd (cc); reach = λ i l a at. absurd (cc); untold = untold_in_reach InTurn cut_number_too_great.opening cut_number_too_great.script cut_number_too_great.answers (told_of_cut cut_number_too_great) refl };
 }
 
@@ -154,10 +157,11 @@ keeps_but_once Fitting not = All-from_recursion FitsTypes (cut_lines_of closed_t
 keeps_but_once Once not = absurd (not refl)
 keeps_but_once Unseen not = each_in (IsClosedUnseen closed_twice.script closed_twice.answers) closed_twice.closed (record { fits = tt; sealed = refl; answered = λ i l above at. absurd (none_left i l above at) }, (record { fits = tt; sealed = refl; answered = λ i l above at. absurd (none_left i l above at) }, tt))
 keeps_but_once Owing not = record {
-  phases = record { fits = each_place (λ i l a. FitsPhase (phase_of l.session (take i (said_of closed_twice.script closed_twice.answers))) l.command a) closed_twice.script closed_twice.answers (tt, (tt, tt)) };
+  phases = record { fits = each_place (λ i l a. FitsPhase (phase_of l.session (take i (said_of closed_twice.script closed_twice.answers))) l.command a) closed_twice.script closed_twice.answers (tt, (tt, tt)); snapshots = no_looks closed_twice.script closed_twice.answers refl };
   stamps = stamps_agree closed_twice.opening (told_of_cut closed_twice) (said_of closed_twice.script closed_twice.answers) refl refl refl refl refl refl (in_one _ _ (omega arith)) (in_one _ _ (omega arith)) (in_one _ _ refl);
   snapshots = in_one _ _ (first_snapshot (history_of (told_of_cut closed_twice)) empty 13 [] refl tt);
   causes = in_one _ _ (record { opens = omega arith; closes = omega arith; succ_cause = inl refl; pred_cause = inl refl });
+  safe = none_agree (moment_at InTurn closed_twice.opening closed_twice.script closed_twice.answers (told_of_cut closed_twice)) closed_twice.opening closed_twice.script closed_twice.answers (told_of_cut closed_twice) refl;
   refusals = record {
     each = each_place (λ i l a. HasCause (moment_at InTurn closed_twice.opening closed_twice.script closed_twice.answers (told_of_cut closed_twice) i l) l.command a) closed_twice.script closed_twice.answers (
       record { own = λ t is. tt; log = tt; unfilled = tt },
@@ -179,10 +183,11 @@ keeps_but_unseen Fitting not = All-from_recursion FitsTypes (cut_lines_of closed
 keeps_but_unseen Once not = λ i j d less within. absurd (omega arith)
 keeps_but_unseen Unseen not = absurd (not refl)
 keeps_but_unseen Owing not = record {
-  phases = record { fits = each_place (λ i l a. FitsPhase (phase_of l.session (take i (said_of closed_too_early.script closed_too_early.answers))) l.command a) closed_too_early.script closed_too_early.answers (tt, (tt, tt)) };
+  phases = record { fits = each_place (λ i l a. FitsPhase (phase_of l.session (take i (said_of closed_too_early.script closed_too_early.answers))) l.command a) closed_too_early.script closed_too_early.answers (tt, (tt, tt)); snapshots = no_looks closed_too_early.script closed_too_early.answers refl };
   stamps = stamps_agree closed_too_early.opening (told_of_cut closed_too_early) (said_of closed_too_early.script closed_too_early.answers) refl refl refl refl refl refl (in_one _ _ (omega arith)) (in_one _ _ (omega arith)) (in_one _ _ refl);
   snapshots = in_one _ _ (first_snapshot (history_of (told_of_cut closed_too_early)) empty 13 [] refl tt);
   causes = in_one _ _ (record { opens = omega arith; closes = omega arith; succ_cause = inl refl; pred_cause = inl refl });
+  safe = none_agree (moment_at InTurn closed_too_early.opening closed_too_early.script closed_too_early.answers (told_of_cut closed_too_early)) closed_too_early.opening closed_too_early.script closed_too_early.answers (told_of_cut closed_too_early) refl;
   refusals = record {
     each = each_place (λ i l a. HasCause (moment_at InTurn closed_too_early.opening closed_too_early.script closed_too_early.answers (told_of_cut closed_too_early) i l) l.command a) closed_too_early.script closed_too_early.answers (
       record { own = λ t is. tt; log = tt; unfilled = tt },
@@ -215,10 +220,11 @@ pub unfilled_breaks : BreaksCutAlone Owing unfilled_below × OwesAllBut 3 unfill
 unfilled_breaks = (
   record { breaks = λ owes. is_below owes.refusals; keeps = keeps_but_unfilled },
   record {
-    phases = record { fits = each_place (λ i l a. FitsPhase (phase_of l.session (take i (said_of unfilled_below.script unfilled_below.answers))) l.command a) unfilled_below.script unfilled_below.answers (tt, (tt, (tt, (tt, tt)))) };
+    phases = record { fits = each_place (λ i l a. FitsPhase (phase_of l.session (take i (said_of unfilled_below.script unfilled_below.answers))) l.command a) unfilled_below.script unfilled_below.answers (tt, (tt, (tt, (tt, tt)))); snapshots = no_looks unfilled_below.script unfilled_below.answers refl };
     stamps = stamps_agree unfilled_below.opening (told_of_cut unfilled_below) (said_of unfilled_below.script unfilled_below.answers) refl refl refl refl refl refl (in_one _ _ (omega arith)) (in_one _ _ tt) (in_one _ _ tt);
     snapshots = in_one _ _ (first_snapshot (history_of (told_of_cut unfilled_below)) empty 13 [] refl tt);
     causes = in_one _ _ tt;
+    safe = none_agree (moment_at InTurn unfilled_below.opening unfilled_below.script unfilled_below.answers (told_of_cut unfilled_below)) unfilled_below.opening unfilled_below.script unfilled_below.answers (told_of_cut unfilled_below) refl;
     refusals = each_place (λ i l a. i ≢ 3 → HasCause (moment_at InTurn unfilled_below.opening unfilled_below.script unfilled_below.answers (told_of_cut unfilled_below) i l) l.command a) unfilled_below.script unfilled_below.answers (
       λ not. record { own = λ t is. tt; log = tt; unfilled = tt },
       (

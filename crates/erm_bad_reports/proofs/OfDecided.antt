@@ -16,9 +16,9 @@ use Rattle.erm_good_report.specs.Stamps.{Told}
 use Rattle.erm_good_report.specs.Windows.{IsCommit}
 use Rattle.erm_good_report.proofs.Parts.{all_pairs_of_two, each_in}
 use Rattle.erm_bad_reports.specs.CauseCases.{decided_later, excluded_later}
-use Rattle.erm_bad_reports.specs.Clauses.{BreaksAlone, Clause, Meets, lines_of, told_of, IsLowAt, IsHighAt, Fit, Answered, Closes, Phases, Stamps, Snapshots, Causes, Refusals, Serial, Ascending, Runs, LowEnds, HighEnds}
+use Rattle.erm_bad_reports.specs.Clauses.{BreaksAlone, Clause, Meets, lines_of, told_of, IsLowAt, IsHighAt, Fit, Answered, Closes, Phases, Stamps, Snapshots, Causes, Refusals, Safe, Serial, Ascending, Runs, LowEnds, HighEnds}
 use Rattle.erm_bad_reports.proofs.Reading.{owes_of}
-use Rattle.erm_bad_reports.proofs.Tests.{byte, first_snapshot, one_commit_ordered, phases_kept, stamps_agree}
+use Rattle.erm_bad_reports.proofs.Tests.{safe_kept, byte, first_snapshot, one_commit_ordered, phases_kept, stamps_agree}
 
 abbrev later_told : List Transaction
 later_told = told_of decided_later
@@ -41,7 +41,7 @@ keeps_but_later : (other : Clause) → other ≢ Refusals → Meets other decide
 keeps_but_later Fit not = All-from_recursion FitsTypes (lines_of decided_later) ((omega arith, omega arith), ((omega arith, omega arith), ((omega arith, omega arith), ((omega arith, tt), ((omega arith, omega arith), ((omega arith, tt), ((omega arith, (omega arith, omega arith, omega arith)), ((omega arith, (omega arith, omega arith, omega arith)), (omega arith, ((omega arith, omega arith, omega arith, omega arith), ((omega arith, omega arith, omega arith, omega arith), (omega arith, ((omega arith, omega arith, byte 1 (omega arith)), (tt, tt))))))))))))))
 keeps_but_later Answered not = refl
 keeps_but_later Closes not = record { each = refl; fits = λ c (k, at). cc }
-keeps_but_later Phases not = phases_kept decided_later (tt, (tt, (tt, (tt, (tt, (tt, (tt, tt)))))))
+keeps_but_later Phases not = phases_kept decided_later (tt, (tt, (tt, (tt, (tt, (tt, (tt, tt))))))) refl
 keeps_but_later Stamps not = stamps_agree decided_later.opening later_told (said_of decided_later.script decided_later.report.answers) refl refl refl refl refl refl
     (each_in (λ t. 13 ≤ t.begin) later_told (omega arith, (omega arith, tt)))
     (each_in (λ t. IfSome (stamp_of t) (λ stamp. t.begin ≤ stamp)) later_told (omega arith, (omega arith, tt)))
@@ -51,6 +51,7 @@ keeps_but_later Snapshots not = each_in (λ t. HasSnapshotReplies (history_of la
 keeps_but_later Causes not = each_in (λ t. HasCauseOf t.ending later_told t) later_told
     (window _ refl (record { line = _; of = (0, refl); names = refl }), (record { opens = omega arith; closes = omega arith; succ_cause = inl refl; pred_cause = inl refl }, tt))
 keeps_but_later Refusals not = absurd (not refl)
+keeps_but_later Safe not = safe_kept decided_later refl
 keeps_but_later Serial not = record { same = IsPermutation-refl (history_of later_told); ascends = all_pairs_of_two (λ a b. ComesBefore (rank_of a) (rank_of b)) _ _ (inr (refl, omega arith)) }
 keeps_but_later Ascending not = λ i j d less within. absurd (omega arith)
 keeps_but_later Runs not = record { run = ((ap reply.Value (sym (value_at-empty 0 1)), tt), ((refl, tt), refl)) }
@@ -103,7 +104,7 @@ keeps_but_excluded : (other : Clause) → other ≢ Refusals → Meets other exc
 keeps_but_excluded Fit not = All-from_recursion FitsTypes (lines_of excluded_later) ((omega arith, omega arith), ((omega arith, omega arith), ((omega arith, omega arith), ((omega arith, tt), ((omega arith, omega arith), ((omega arith, tt), ((omega arith, (omega arith, omega arith, omega arith)), ((omega arith, (omega arith, omega arith, omega arith)), (omega arith, ((omega arith, omega arith, omega arith, omega arith), (omega arith, ((omega arith, omega arith, byte 1 (omega arith)), (tt, tt)))))))))))))
 keeps_but_excluded Answered not = refl
 keeps_but_excluded Closes not = record { each = refl; fits = λ c (k, at). cc }
-keeps_but_excluded Phases not = phases_kept excluded_later (tt, (tt, (tt, (tt, (tt, (tt, (tt, tt)))))))
+keeps_but_excluded Phases not = phases_kept excluded_later (tt, (tt, (tt, (tt, (tt, (tt, (tt, tt))))))) refl
 keeps_but_excluded Stamps not = stamps_agree excluded_later.opening excluded_told (said_of excluded_later.script excluded_later.report.answers) refl refl refl refl refl refl
     (each_in (λ t. 13 ≤ t.begin) excluded_told (omega arith, (omega arith, tt)))
     (each_in (λ t. IfSome (stamp_of t) (λ stamp. t.begin ≤ stamp)) excluded_told (omega arith, (omega arith, tt)))
@@ -113,6 +114,7 @@ keeps_but_excluded Snapshots not = each_in (λ t. HasSnapshotReplies (history_of
 keeps_but_excluded Causes not = each_in (λ t. HasCauseOf t.ending excluded_told t) excluded_told
     (shut _ refl (record { line = _; of = (0, refl); names = refl }), (record { opens = omega arith; closes = omega arith; succ_cause = inl refl; pred_cause = inl refl }, tt))
 keeps_but_excluded Refusals not = absurd (not refl)
+keeps_but_excluded Safe not = safe_kept excluded_later refl
 keeps_but_excluded Serial not = one_commit_ordered _
 keeps_but_excluded Ascending not = λ i j d less within. absurd (omega arith)
 keeps_but_excluded Runs not = record { run = ((refl, tt), refl) }

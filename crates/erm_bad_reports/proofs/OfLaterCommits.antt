@@ -12,10 +12,10 @@ use Rattle.erm_good_report.specs.Stamps.{Told}
 use Rattle.erm_good_report.specs.Transactions.{Commits, Transaction, history_of, progress_of, said_of, stamp_of, stamp_of_ending, steps_of}
 use Rattle.erm_good_report.specs.Windows.{IsCommit}
 use Rattle.erm_good_report.proofs.Parts.{each_in}
-use Rattle.erm_bad_reports.specs.Clauses.{BreaksAlone, Case, Clause, Meets, lines_of, told_of, IsLowAt, IsHighAt, Fit, Answered, Closes, Phases, Stamps, Snapshots, Causes, Refusals, Serial, Ascending, Runs, LowEnds, HighEnds}
+use Rattle.erm_bad_reports.specs.Clauses.{BreaksAlone, Case, Clause, Meets, lines_of, told_of, IsLowAt, IsHighAt, Fit, Answered, Closes, Phases, Stamps, Snapshots, Causes, Refusals, Safe, Serial, Ascending, Runs, LowEnds, HighEnds}
 use Rattle.erm_bad_reports.specs.Refused.{refused_first}
 use Rattle.erm_bad_reports.proofs.Reading.{owes_of}
-use Rattle.erm_bad_reports.proofs.Tests.{begins_over, byte, said_begun, one_commit_ordered, stamps_agree, first_snapshot, phases_kept}
+use Rattle.erm_bad_reports.proofs.Tests.{safe_kept, begins_over, byte, said_begun, one_commit_ordered, stamps_agree, first_snapshot, phases_kept}
 
 -- no transaction is over behind the begins of both sessions
 none_over : (session : ℕ) (t : Transaction) → t ∈ (progress_of session (said_begun 1 ∷ said_begun 2 ∷ [])).over → ⊥
@@ -40,7 +40,7 @@ keeps_but_later : (other : Clause) → other ≢ Refusals → Meets other newer_
 keeps_but_later Fit not = All-from_recursion FitsTypes (lines_of newer_later) ((omega arith, omega arith), ((omega arith, omega arith), ((omega arith, omega arith), ((omega arith, omega arith), ((omega arith, tt), ((omega arith, (omega arith, omega arith, omega arith)), (omega arith, ((omega arith, omega arith, omega arith, omega arith), (omega arith, ((omega arith, omega arith, byte 1 (omega arith)), (tt, tt)))))))))))
 keeps_but_later Answered not = refl
 keeps_but_later Closes not = record { each = refl; fits = λ c (k, at). cc }
-keeps_but_later Phases not = phases_kept newer_later (tt, (tt, (tt, (tt, (tt, tt)))))
+keeps_but_later Phases not = phases_kept newer_later (tt, (tt, (tt, (tt, (tt, tt))))) refl
 keeps_but_later Stamps not = stamps_agree newer_later.opening later_told (said_of newer_later.script newer_later.report.answers) refl refl refl refl refl refl
     (each_in (λ t. 13 ≤ t.begin) later_told (omega arith, (omega arith, tt)))
     (each_in (λ t. IfSome (stamp_of t) (λ stamp. t.begin ≤ stamp)) later_told (tt, (omega arith, tt)))
@@ -49,6 +49,7 @@ keeps_but_later Snapshots not = each_in (λ t. HasSnapshotReplies (history_of la
     (first_snapshot (history_of later_told) empty 13 [] refl tt, (first_snapshot (history_of later_told) empty 13 _ refl (refl, tt), tt))
 keeps_but_later Causes not = each_in (λ t. HasCauseOf t.ending later_told t) later_told (tt, (record { opens = omega arith; closes = omega arith; succ_cause = inl refl; pred_cause = inl refl }, tt))
 keeps_but_later Refusals not = absurd (not refl)
+keeps_but_later Safe not = safe_kept newer_later refl
 keeps_but_later Serial not = one_commit_ordered _
 keeps_but_later Ascending not = λ i j d less within. absurd (omega arith)
 keeps_but_later Runs not = record { run = ((refl, tt), refl) }
@@ -88,7 +89,7 @@ keeps_but_shut : (other : Clause) → other ≢ Refusals → Meets other shut_la
 keeps_but_shut Fit not = All-from_recursion FitsTypes (lines_of shut_later) ((omega arith, omega arith), ((omega arith, omega arith), ((omega arith, omega arith), ((omega arith, (omega arith, omega arith)), ((omega arith, tt), ((omega arith, (omega arith, omega arith, omega arith)), (omega arith, ((omega arith, omega arith, omega arith, omega arith), (omega arith, ((omega arith, omega arith, byte 1 (omega arith)), (tt, tt)))))))))))
 keeps_but_shut Answered not = refl
 keeps_but_shut Closes not = record { each = refl; fits = λ c (k, at). cc }
-keeps_but_shut Phases not = phases_kept shut_later (tt, (tt, (tt, (tt, (tt, tt)))))
+keeps_but_shut Phases not = phases_kept shut_later (tt, (tt, (tt, (tt, (tt, tt))))) refl
 keeps_but_shut Stamps not = stamps_agree shut_later.opening shut_told (said_of shut_later.script shut_later.report.answers) refl refl refl refl refl refl
     (each_in (λ t. 13 ≤ t.begin) shut_told (omega arith, (omega arith, tt)))
     (each_in (λ t. IfSome (stamp_of t) (λ stamp. t.begin ≤ stamp)) shut_told (tt, (omega arith, tt)))
@@ -97,6 +98,7 @@ keeps_but_shut Snapshots not = each_in (λ t. HasSnapshotReplies (history_of shu
     (first_snapshot (history_of shut_told) empty 13 [] refl tt, (first_snapshot (history_of shut_told) empty 13 _ refl (refl, tt), tt))
 keeps_but_shut Causes not = each_in (λ t. HasCauseOf t.ending shut_told t) shut_told (shut_cause _ refl (record { line = _; of = (0, refl); names = refl }), (record { opens = omega arith; closes = omega arith; succ_cause = inl refl; pred_cause = inl refl }, tt))
 keeps_but_shut Refusals not = absurd (not refl)
+keeps_but_shut Safe not = safe_kept shut_later refl
 keeps_but_shut Serial not = one_commit_ordered _
 keeps_but_shut Ascending not = λ i j d less within. absurd (omega arith)
 keeps_but_shut Runs not = record { run = ((refl, tt), refl) }

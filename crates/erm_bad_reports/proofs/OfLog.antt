@@ -4,21 +4,22 @@ use Rattle.std.specs.FinMap.{empty}
 use Rattle.std.proofs.lemmas.List.Elements.{All-from_recursion}
 use Rattle.erm_report.specs.Printable.{FitsTypes}
 use Rattle.erm_good_report.specs.Transactions.{history_of, said_of}
-use Rattle.erm_bad_reports.specs.Clauses.{BreaksAlone, Clause, Meets, lines_of, told_of, Fit, Answered, Closes, Phases, Stamps, Snapshots, Causes, Refusals, Serial, Ascending, Runs, LowEnds, HighEnds}
+use Rattle.erm_bad_reports.specs.Clauses.{BreaksAlone, Clause, Meets, lines_of, told_of, Fit, Answered, Closes, Phases, Stamps, Snapshots, Causes, Refusals, Serial, Ascending, Runs, LowEnds, HighEnds, Safe}
 use Rattle.erm_bad_reports.specs.LogCases.{checkpoint_beside_sealed, checkpoint_goes_back}
 use Rattle.erm_bad_reports.proofs.Reading.{owes_of}
-use Rattle.erm_bad_reports.proofs.Tests.{first_snapshot, high_ends, in_none, in_one, low_ends, no_commit_ordered, no_pair_ascends, one_commit_ordered, phases_kept, stamps_agree}
+use Rattle.erm_bad_reports.proofs.Tests.{safe_kept, first_snapshot, high_ends, in_none, in_one, low_ends, no_commit_ordered, no_pair_ascends, one_commit_ordered, phases_kept, stamps_agree}
 
 -- ---- beside a transaction that is sealed
 keeps_but_beside : (other : Clause) → other ≢ Refusals → Meets other checkpoint_beside_sealed
 keeps_but_beside Fit not = All-from_recursion FitsTypes (lines_of checkpoint_beside_sealed) ((omega arith, omega arith), ((omega arith, omega arith), ((omega arith, omega arith), ((omega arith, omega arith), ((omega arith, (omega arith, omega arith, omega arith)), (omega arith, ((omega arith, omega arith, omega arith, omega arith), (omega arith, (tt, tt)))))))))
 keeps_but_beside Answered not = refl
 keeps_but_beside Closes not = record { each = refl; fits = λ c (k, at). cc }
-keeps_but_beside Phases not = phases_kept checkpoint_beside_sealed (tt, (tt, (tt, (tt, tt))))
+keeps_but_beside Phases not = phases_kept checkpoint_beside_sealed (tt, (tt, (tt, (tt, tt)))) refl
 keeps_but_beside Stamps not = stamps_agree checkpoint_beside_sealed.opening (told_of checkpoint_beside_sealed) (said_of checkpoint_beside_sealed.script checkpoint_beside_sealed.report.answers) refl refl refl refl refl refl (in_one _ _ (omega arith)) (in_one _ _ (omega arith)) (in_one _ _ refl)
 keeps_but_beside Snapshots not = in_one _ _ (first_snapshot (history_of (told_of checkpoint_beside_sealed)) empty 13 [] refl tt)
 keeps_but_beside Causes not = in_one _ _ (record { opens = omega arith; closes = omega arith; succ_cause = inl refl; pred_cause = inl refl })
 keeps_but_beside Refusals not = absurd (not refl)
+keeps_but_beside Safe not = safe_kept checkpoint_beside_sealed refl
 keeps_but_beside Serial not = one_commit_ordered _
 keeps_but_beside Ascending not = no_pair_ascends
 keeps_but_beside Runs not = record { run = (tt, refl) }
@@ -36,11 +37,12 @@ keeps_but_back : (other : Clause) → other ≢ Refusals → Meets other checkpo
 keeps_but_back Fit not = All-from_recursion FitsTypes (lines_of checkpoint_goes_back) ((omega arith, omega arith), ((omega arith, omega arith), ((omega arith, omega arith), (omega arith, (omega arith, (tt, tt))))))
 keeps_but_back Answered not = refl
 keeps_but_back Closes not = record { each = refl; fits = λ c (k, at). cc }
-keeps_but_back Phases not = phases_kept checkpoint_goes_back (tt, (tt, tt))
+keeps_but_back Phases not = phases_kept checkpoint_goes_back (tt, (tt, tt)) refl
 keeps_but_back Stamps not = stamps_agree checkpoint_goes_back.opening (told_of checkpoint_goes_back) (said_of checkpoint_goes_back.script checkpoint_goes_back.report.answers) refl refl refl refl refl refl (in_none _) (in_none _) (in_none _)
 keeps_but_back Snapshots not = in_none _
 keeps_but_back Causes not = in_none _
 keeps_but_back Refusals not = absurd (not refl)
+keeps_but_back Safe not = safe_kept checkpoint_goes_back refl
 keeps_but_back Serial not = no_commit_ordered
 keeps_but_back Ascending not = no_pair_ascends
 keeps_but_back Runs not = record { run = refl }

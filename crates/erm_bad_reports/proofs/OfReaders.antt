@@ -20,10 +20,10 @@ use Rattle.erm_good_report.specs.Stamps.{Told}
 use Rattle.erm_good_report.specs.Windows.{IsCommit}
 use Rattle.erm_good_report.proofs.Parts.{all_pairs_of_two, each_in}
 use Rattle.erm_good_report.proofs.Decided.{AreOverBelow, no_window_over, own_window, window_over}
-use Rattle.erm_bad_reports.specs.Clauses.{BreaksAlone, Clause, Meets, lines_of, told_of, IsLowAt, IsHighAt, Fit, Answered, Closes, Phases, Stamps, Snapshots, Causes, Refusals, Serial, Ascending, Runs, LowEnds, HighEnds}
+use Rattle.erm_bad_reports.specs.Clauses.{BreaksAlone, Clause, Meets, lines_of, told_of, IsLowAt, IsHighAt, Fit, Answered, Closes, Phases, Stamps, Snapshots, Causes, Refusals, Serial, Ascending, Runs, LowEnds, HighEnds, Safe}
 use Rattle.erm_bad_reports.specs.ReaderCases.{reader_excludes, reader_precedes, reader_waits}
 use Rattle.erm_bad_reports.proofs.Reading.{owes_of}
-use Rattle.erm_bad_reports.proofs.Tests.{byte, first_snapshot, no_pair_ascends, phases_kept, refusals_kept, stamps_agree}
+use Rattle.erm_bad_reports.proofs.Tests.{byte, first_snapshot, no_pair_ascends, phases_kept, refusals_kept, stamps_agree, safe_kept}
 
 -- what the key is got by
 abbrev got : Exchange
@@ -64,7 +64,7 @@ keeps_but_precedes : (other : Clause) → other ≢ Causes → Meets other reade
 keeps_but_precedes Fit not = All-from_recursion FitsTypes (lines_of reader_precedes) ((omega arith, omega arith), ((omega arith, omega arith), ((omega arith, omega arith), ((omega arith, tt), ((omega arith, tt), ((omega arith, (omega arith, omega arith, omega arith)), ((omega arith, (omega arith, omega arith, omega arith)), (omega arith, ((omega arith, omega arith, omega arith, omega arith), ((omega arith, omega arith, omega arith, omega arith), (omega arith, (tt, tt))))))))))))
 keeps_but_precedes Answered not = refl
 keeps_but_precedes Closes not = record { each = refl; fits = λ c (k, at). cc }
-keeps_but_precedes Phases not = phases_kept reader_precedes (tt, (tt, (tt, (tt, (tt, (tt, tt))))))
+keeps_but_precedes Phases not = phases_kept reader_precedes (tt, (tt, (tt, (tt, (tt, (tt, tt)))))) refl
 keeps_but_precedes Stamps not = stamps_agree reader_precedes.opening precedes_told (said_of reader_precedes.script reader_precedes.report.answers) refl refl refl refl refl refl
     (each_in (λ t. 13 ≤ t.begin) precedes_told (omega arith, (omega arith, tt)))
     (each_in (λ t. IfSome (stamp_of t) (λ stamp. t.begin ≤ stamp)) precedes_told (omega arith, (omega arith, tt)))
@@ -82,6 +82,7 @@ keeps_but_precedes Refusals not = refusals_kept reader_precedes refl (
     ),
   ),
 )
+keeps_but_precedes Safe not = safe_kept reader_precedes refl
 keeps_but_precedes Serial not = record { same = IsPermutation-refl (history_of precedes_told); ascends = all_pairs_of_two (λ a b. ComesBefore (rank_of a) (rank_of b)) _ _ (inl (omega arith)) }
 keeps_but_precedes Ascending not = no_pair_ascends
 keeps_but_precedes Runs not = record { run = ((ap reply.Value (sym (value_at-empty 0 1)), tt), ((ap reply.Value (sym (value_at-empty 0 1)), tt), refl)) }
@@ -122,7 +123,7 @@ keeps_but_waits : (other : Clause) → other ≢ Refusals → Meets other reader
 keeps_but_waits Fit not = All-from_recursion FitsTypes (lines_of reader_waits) ((omega arith, omega arith), ((omega arith, omega arith), ((omega arith, omega arith), ((omega arith, tt), ((omega arith, tt), ((omega arith, omega arith), ((omega arith, (omega arith, omega arith)), ((omega arith, (omega arith, omega arith, omega arith)), ((omega arith, (omega arith, omega arith, omega arith)), (omega arith, ((omega arith, omega arith, omega arith, omega arith), ((omega arith, omega arith, omega arith, omega arith), (omega arith, (tt, tt))))))))))))))
 keeps_but_waits Answered not = refl
 keeps_but_waits Closes not = record { each = refl; fits = λ c (k, at). cc }
-keeps_but_waits Phases not = phases_kept reader_waits (tt, (tt, (tt, (tt, (tt, (tt, (tt, (tt, tt))))))))
+keeps_but_waits Phases not = phases_kept reader_waits (tt, (tt, (tt, (tt, (tt, (tt, (tt, (tt, tt)))))))) refl
 keeps_but_waits Stamps not = stamps_agree reader_waits.opening waits_told (said_of reader_waits.script reader_waits.report.answers) refl refl refl refl refl refl
     (each_in (λ t. 13 ≤ t.begin) waits_told (omega arith, (omega arith, tt)))
     (each_in (λ t. IfSome (stamp_of t) (λ stamp. t.begin ≤ stamp)) waits_told (omega arith, (omega arith, tt)))
@@ -134,6 +135,7 @@ keeps_but_waits Causes not = each_in (λ t. HasCauseOf t.ending waits_told t) wa
   (record { opens = omega arith; closes = omega arith; succ_cause = inl refl; pred_cause = inl refl }, tt),
 )
 keeps_but_waits Refusals not = absurd (not refl)
+keeps_but_waits Safe not = safe_kept reader_waits refl
 keeps_but_waits Serial not = record { same = IsPermutation-refl (history_of waits_told); ascends = all_pairs_of_two (λ a b. ComesBefore (rank_of a) (rank_of b)) _ _ (inl (omega arith)) }
 keeps_but_waits Ascending not = no_pair_ascends
 keeps_but_waits Runs not = record { run = ((ap reply.Value (sym (value_at-empty 0 1)), tt), ((ap reply.Value (sym (value_at-empty 0 1)), tt), refl)) }

@@ -17,10 +17,10 @@ use Rattle.erm_good_report.specs.Transactions.{Commits, Said, Transaction, histo
 use Rattle.erm_good_report.specs.Windows.{IsCommit}
 use Rattle.erm_good_report.proofs.Parts.{all_pairs_from_test, all_pairs_of_two, each_in, pairs_pass, told_from_test, told_pass}
 use Rattle.erm_good_report.proofs.Decided.{own_window}
-use Rattle.erm_bad_reports.specs.Clauses.{Clause, Meets, lines_of, told_of, IsLowAt, IsHighAt, Fit, Answered, Closes, Phases, Stamps, Snapshots, Causes, Refusals, Serial, Ascending, Runs, LowEnds, HighEnds}
+use Rattle.erm_bad_reports.specs.Clauses.{Clause, Meets, lines_of, told_of, IsLowAt, IsHighAt, Fit, Answered, Closes, Phases, Stamps, Snapshots, Causes, Refusals, Safe, Serial, Ascending, Runs, LowEnds, HighEnds}
 use Rattle.erm_bad_reports.specs.StampParts.{BreaksPartAlone, Part, MeetsPart, Differ, Least, Begun, Sealed, Begins, Draws, Ascends, Flushes, FlushesFirst, BeginsAscend, Stops, UntoldAfter, UntoldBefore, stamp_of_two}
 use Rattle.erm_bad_reports.proofs.Reading.{owes_of}
-use Rattle.erm_bad_reports.proofs.Tests.{byte, first_snapshot, less_from, most_from, phases_kept, refusals_kept, begins_stop, untold_after, untold_before}
+use Rattle.erm_bad_reports.proofs.Tests.{safe_kept, byte, first_snapshot, less_from, most_from, phases_kept, refusals_kept, begins_stop, untold_after, untold_before}
 
 -- what is so of each two lines of one session, by a test
 pub in_time : (P : ℕ → ℕ → Type 0) (test : ℕ → ℕ → Bool) → ((m n : ℕ) → test m n ≡ true → P m n) → (first later : Said → Option ℕ) → (said : List Said)
@@ -45,7 +45,7 @@ keeps_but_differ : (other : Clause) → other ≢ Stamps → Meets other stamp_o
 keeps_but_differ Fit not = All-from_recursion FitsTypes (lines_of stamp_of_two) ((omega arith, omega arith), ((omega arith, omega arith), ((omega arith, tt), ((omega arith, (omega arith, omega arith, omega arith)), ((omega arith, omega arith), ((omega arith, tt), ((omega arith, (omega arith, omega arith, omega arith)), ((omega arith, omega arith), ((omega arith, (omega arith, omega arith, omega arith)), (omega arith, ((omega arith, omega arith, omega arith, omega arith), ((omega arith, omega arith, omega arith, omega arith), (omega arith, ((omega arith, omega arith, byte 1 (omega arith)), (tt, tt)))))))))))))))
 keeps_but_differ Answered not = refl
 keeps_but_differ Closes not = record { each = refl; fits = λ c (k, at). cc }
-keeps_but_differ Phases not = phases_kept stamp_of_two (tt, (tt, (tt, (tt, (tt, (tt, (tt, (tt, tt))))))))
+keeps_but_differ Phases not = phases_kept stamp_of_two (tt, (tt, (tt, (tt, (tt, (tt, (tt, (tt, tt)))))))) refl
 keeps_but_differ Stamps not = absurd (not refl)
 keeps_but_differ Snapshots not = each_in (λ t. HasSnapshotReplies (history_of told) empty t.begin (steps_of t)) told
     (first_snapshot (history_of told) empty 13 _ refl (refl, tt), (first_snapshot (history_of told) empty 13 _ refl (ap reply.Value (sym (value_at-empty 0 1)), tt), (first_snapshot (history_of told) empty 13 [] refl tt, tt)))
@@ -101,6 +101,7 @@ keeps_but_differ Refusals not = refusals_kept stamp_of_two refl (
     ),
   ),
 )
+keeps_but_differ Safe not = safe_kept stamp_of_two refl
 keeps_but_differ Serial not = record { same = IsPermutation-refl (history_of told); ascends = all_pairs_of_two (λ a b. ComesBefore (rank_of a) (rank_of b)) _ _ (inl (omega arith)) }
 keeps_but_differ Ascending not = λ i j d less within. absurd (omega arith)
 keeps_but_differ Runs not = record { run = ((refl, tt), (tt, refl)) }

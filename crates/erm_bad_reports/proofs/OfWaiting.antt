@@ -17,10 +17,10 @@ use Rattle.erm_good_report.specs.Windows.{HasLine, PutsKey}
 use Rattle.erm_good_report.proofs.Decided.{own_window}
 use Rattle.erm_good_report.proofs.Parts.{all_pairs_of_two, each_in, each_place}
 use Rattle.erm_bad_reports.specs.Cases.{waited_out_of_reach}
-use Rattle.erm_bad_reports.specs.Clauses.{BreaksAlone, Clause, Meets, MeetsByLine, lines_of, told_of, IsLowAt, IsHighAt, Fit, Answered, Closes, Phases, Stamps, Snapshots, Causes, Refusals, Serial, Ascending, Runs, LowEnds, HighEnds}
+use Rattle.erm_bad_reports.specs.Clauses.{BreaksAlone, Clause, Meets, MeetsByLine, lines_of, told_of, IsLowAt, IsHighAt, Fit, Answered, Closes, Phases, Stamps, Snapshots, Causes, Refusals, Safe, Serial, Ascending, Runs, LowEnds, HighEnds}
 use Rattle.erm_bad_reports.proofs.OfUntold.{no_put, seat_wait}
 use Rattle.erm_bad_reports.proofs.Reading.{owes_of}
-use Rattle.erm_bad_reports.proofs.Tests.{first_snapshot, no_pair_ascends, one_commit_ordered, phases_kept, reach_from_test, stamps_agree}
+use Rattle.erm_bad_reports.proofs.Tests.{safe_kept, first_snapshot, no_pair_ascends, one_commit_ordered, phases_kept, reach_from_test, stamps_agree}
 
 both_ordered : IsSerialOrder rank_of (history_of (told_of waited_out_of_reach)) (history_of (told_of waited_out_of_reach))
 both_ordered = record { same = IsPermutation-refl (history_of (told_of waited_out_of_reach)); ascends = all_pairs_of_two (λ a b. ComesBefore (rank_of a) (rank_of b)) _ _ (inl (omega arith)) }
@@ -32,7 +32,7 @@ keeps_but_waited_far : (other : Clause) → other ≢ Refusals → Meets other w
 keeps_but_waited_far Fit not = All-from_recursion FitsTypes (lines_of waited_out_of_reach) ((omega arith, omega arith), ((omega arith, omega arith), ((omega arith, omega arith), ((omega arith, omega arith), ((omega arith, omega arith), ((omega arith, omega arith), ((omega arith, (omega arith, omega arith)), ((omega arith, (omega arith, omega arith, omega arith)), ((omega arith, (omega arith, omega arith, omega arith)), (omega arith, ((omega arith, omega arith, omega arith, omega arith), ((omega arith, omega arith, omega arith, omega arith), (omega arith, (tt, tt))))))))))))))
 keeps_but_waited_far Answered not = refl
 keeps_but_waited_far Closes not = record { each = refl; fits = λ c (k, at). cc }
-keeps_but_waited_far Phases not = phases_kept waited_out_of_reach (tt, (tt, (tt, (tt, (tt, (tt, (tt, (tt, tt))))))))
+keeps_but_waited_far Phases not = phases_kept waited_out_of_reach (tt, (tt, (tt, (tt, (tt, (tt, (tt, (tt, tt)))))))) refl
 keeps_but_waited_far Stamps not = stamps_agree waited_out_of_reach.opening (told_of waited_out_of_reach) (said_of waited_out_of_reach.script waited_out_of_reach.report.answers) refl refl refl refl refl refl
     (each_in (λ t. 13 ≤ t.begin) (told_of waited_out_of_reach) (omega arith, (omega arith, tt))) (each_in (λ t. IfSome (stamp_of t) (λ stamp. t.begin ≤ stamp)) (told_of waited_out_of_reach) (omega arith, (omega arith, tt)))
     (each_in (λ t. Told (λ a b. a ≡ b) t.sealed (stamp_of_ending t.ending)) (told_of waited_out_of_reach) (refl, (tt, tt)))
@@ -41,6 +41,7 @@ keeps_but_waited_far Snapshots not = each_in (λ t. HasSnapshotReplies (history_
 keeps_but_waited_far Causes not = each_in (λ t. HasCauseOf t.ending (told_of waited_out_of_reach) t) (told_of waited_out_of_reach)
     (record { opens = omega arith; closes = omega arith; succ_cause = inl refl; pred_cause = inl refl }, (record { opens = omega arith; closes = omega arith; succ_cause = inl refl; pred_cause = inl refl }, tt))
 keeps_but_waited_far Refusals not = absurd (not refl)
+keeps_but_waited_far Safe not = safe_kept waited_out_of_reach refl
 keeps_but_waited_far Serial not = both_ordered
 keeps_but_waited_far Ascending not = no_pair_ascends
 keeps_but_waited_far Runs not = record { run = (tt, (tt, refl)) }

@@ -23,10 +23,10 @@ use Rattle.erm_model.specs.declared.operation.Reply.TheVariants as reply
 use Rattle.std.specs.Prelude.{◌⊎◌}
 use Rattle.erm_good_report.proofs.Parts.{all_pairs_from_test, all_pairs_of_two, each_in, each_place}
 use Rattle.erm_good_report.proofs.Decided.{AreOverBelow, own_window, window_over}
-use Rattle.erm_bad_reports.specs.Clauses.{BreaksAlone, Clause, Meets, lines_of, told_of, IsLowAt, IsHighAt, Fit, Answered, Closes, Phases, Stamps, Snapshots, Causes, Refusals, Serial, Ascending, Runs, LowEnds, HighEnds}
+use Rattle.erm_bad_reports.specs.Clauses.{BreaksAlone, Clause, Meets, lines_of, told_of, IsLowAt, IsHighAt, Fit, Answered, Closes, Phases, Stamps, Snapshots, Causes, Refusals, Safe, Serial, Ascending, Runs, LowEnds, HighEnds}
 use Rattle.erm_bad_reports.specs.Cases.{predecessor_too_low, successor_too_high}
 use Rattle.erm_bad_reports.proofs.Reading.{told_read}
-use Rattle.erm_bad_reports.proofs.Tests.{byte, less_from, one_commit_ordered, stamps_agree, first_snapshot, reach_from_test, untold_in_reach}
+use Rattle.erm_bad_reports.proofs.Tests.{safe_kept, no_looks, byte, less_from, one_commit_ordered, stamps_agree, first_snapshot, reach_from_test, untold_in_reach}
 
 abbrev one_key : Database
 one_key = insert empty (at 0 1) (1 ∷ [])
@@ -68,7 +68,7 @@ keeps_but_low : (other : Clause) → other ≢ LowEnds → Meets other predecess
 keeps_but_low Fit not = All-from_recursion FitsTypes (lines_of predecessor_too_low) ((omega arith, omega arith), ((omega arith, omega arith), ((omega arith, tt), ((omega arith, (omega arith, omega arith, omega arith)), ((omega arith, omega arith), ((omega arith, byte 1 (omega arith)), ((omega arith, (omega arith, omega arith, omega arith)), (omega arith, ((omega arith, omega arith, omega arith, omega arith), ((omega arith, omega arith, omega arith, omega arith), (omega arith, ((omega arith, omega arith, byte 1 (omega arith)), (tt, tt)))))))))))))
 keeps_but_low Answered not = refl
 keeps_but_low Closes not = record { each = refl; fits = λ c (k, at). cc }
-keeps_but_low Phases not = record { fits = each_place (λ i l a. FitsPhase (phase_of l.session (take i (said_of predecessor_too_low.script predecessor_too_low.report.answers))) l.command a) predecessor_too_low.script predecessor_too_low.report.answers (tt, (tt, (tt, (tt, (tt, (tt, tt)))))) }
+keeps_but_low Phases not = record { fits = each_place (λ i l a. FitsPhase (phase_of l.session (take i (said_of predecessor_too_low.script predecessor_too_low.report.answers))) l.command a) predecessor_too_low.script predecessor_too_low.report.answers (tt, (tt, (tt, (tt, (tt, (tt, tt)))))); snapshots = no_looks predecessor_too_low.script predecessor_too_low.report.answers refl }
 keeps_but_low Stamps not = stamps_agree predecessor_too_low.opening low_told (said_of predecessor_too_low.script predecessor_too_low.report.answers) refl refl refl refl refl refl
     (each_in (λ t. 13 ≤ t.begin) low_told (omega arith, (omega arith, tt)))
     (each_in (λ t. IfSome (stamp_of t) (λ stamp. t.begin ≤ stamp)) low_told (omega arith, (omega arith, tt)))
@@ -86,6 +86,7 @@ keeps_but_low Snapshots not = each_in (λ t. HasSnapshotReplies (history_of low_
 )
 keeps_but_low Causes not = each_in (λ t. HasCauseOf t.ending low_told t) low_told (record { opens = omega arith; closes = omega arith; succ_cause = inl refl; pred_cause = inl refl }, (record { opens = omega arith; closes = omega arith; succ_cause = inl refl; pred_cause = inl refl }, tt))
 keeps_but_low Refusals not = record { each = each_place (λ i l a. HasCause (moment_at InTurn predecessor_too_low.opening predecessor_too_low.script predecessor_too_low.report.answers low_told i l) l.command a) predecessor_too_low.script predecessor_too_low.report.answers (record { own = λ t is. tt; log = tt; unfilled = tt }, (record { own = λ t is. tt; log = tt; unfilled = tt }, (record { own = λ t is. own_window _ t _; log = tt; unfilled = tt }, (record { own = λ t is. tt; log = tt; unfilled = tt }, (record { own = λ t is. tt; log = tt; unfilled = tt }, (record { own = λ t is. own_window _ t _; log = tt; unfilled = tt }, tt)))))); reach = reach_from_test (moment_at InTurn predecessor_too_low.opening predecessor_too_low.script predecessor_too_low.report.answers low_told) predecessor_too_low.script predecessor_too_low.report.answers refl; untold = untold_in_reach InTurn predecessor_too_low.opening predecessor_too_low.script predecessor_too_low.report.answers low_told refl }
+keeps_but_low Safe not = safe_kept predecessor_too_low refl
 keeps_but_low Serial not = record { same = IsPermutation-refl (history_of low_told); ascends = all_pairs_of_two (λ a b. ComesBefore (rank_of a) (rank_of b)) _ _ (inl (omega arith)) }
 keeps_but_low Ascending not = λ i j d less within. absurd (omega arith)
 keeps_but_low Runs not = record { run = ((refl, tt), ((ap reply.Value (sym there), tt), refl)) }
@@ -142,7 +143,7 @@ keeps_but_high : (other : Clause) → other ≢ HighEnds → Meets other success
 keeps_but_high Fit not = All-from_recursion FitsTypes (lines_of successor_too_high) ((omega arith, omega arith), ((omega arith, omega arith), ((omega arith, tt), ((omega arith, (omega arith, omega arith, omega arith)), ((omega arith, omega arith), ((omega arith, byte 1 (omega arith)), ((omega arith, omega arith), ((omega arith, tt), ((omega arith, (omega arith, omega arith, omega arith)), ((omega arith, (omega arith, omega arith, omega arith)), (omega arith, ((omega arith, omega arith, omega arith, omega arith), ((omega arith, omega arith, omega arith, omega arith), ((omega arith, omega arith, omega arith, omega arith), (omega arith, ((omega arith, omega arith, byte 1 (omega arith)), (tt, tt)))))))))))))))))
 keeps_but_high Answered not = refl
 keeps_but_high Closes not = record { each = refl; fits = λ c (k, at). cc }
-keeps_but_high Phases not = record { fits = each_place (λ i l a. FitsPhase (phase_of l.session (take i (said_of successor_too_high.script successor_too_high.report.answers))) l.command a) successor_too_high.script successor_too_high.report.answers (tt, (tt, (tt, (tt, (tt, (tt, (tt, (tt, (tt, tt))))))))) }
+keeps_but_high Phases not = record { fits = each_place (λ i l a. FitsPhase (phase_of l.session (take i (said_of successor_too_high.script successor_too_high.report.answers))) l.command a) successor_too_high.script successor_too_high.report.answers (tt, (tt, (tt, (tt, (tt, (tt, (tt, (tt, (tt, tt))))))))); snapshots = no_looks successor_too_high.script successor_too_high.report.answers refl }
 keeps_but_high Stamps not = stamps_agree successor_too_high.opening high_told (said_of successor_too_high.script successor_too_high.report.answers) refl refl refl refl refl refl
     (each_in (λ t. 13 ≤ t.begin) high_told (omega arith, (omega arith, (omega arith, tt))))
     (each_in (λ t. IfSome (stamp_of t) (λ stamp. t.begin ≤ stamp)) high_told (omega arith, (omega arith, (omega arith, tt))))
@@ -165,6 +166,7 @@ keeps_but_high Causes not = each_in (λ t. HasCauseOf t.ending high_told t) high
   ),
 )
 keeps_but_high Refusals not = record { each = each_place (λ i l a. HasCause (moment_at InTurn successor_too_high.opening successor_too_high.script successor_too_high.report.answers high_told i l) l.command a) successor_too_high.script successor_too_high.report.answers (record { own = λ t is. tt; log = tt; unfilled = tt }, (record { own = λ t is. tt; log = tt; unfilled = tt }, (record { own = λ t is. own_window _ t _; log = tt; unfilled = tt }, (record { own = λ t is. tt; log = tt; unfilled = tt }, (record { own = λ t is. tt; log = tt; unfilled = tt }, (record { own = λ t is. tt; log = tt; unfilled = tt }, (record { own = λ t is. tt; log = tt; unfilled = tt }, (record { own = λ t is. window_over (at_commit 7 8 1) t 33 33 13 high_first_over; log = tt; unfilled = tt }, (record { own = λ t is. window_over (at_commit 8 9 2) t 42 42 13 high_both_over; log = tt; unfilled = tt }, tt))))))))); reach = reach_from_test (moment_at InTurn successor_too_high.opening successor_too_high.script successor_too_high.report.answers high_told) successor_too_high.script successor_too_high.report.answers refl; untold = untold_in_reach InTurn successor_too_high.opening successor_too_high.script successor_too_high.report.answers high_told refl }
+keeps_but_high Safe not = safe_kept successor_too_high refl
 keeps_but_high Serial not = record { same = IsPermutation-refl (history_of high_told); ascends = all_pairs_from_test (λ a b. ComesBefore (rank_of a) (rank_of b)) (λ a b. nat_lt a.succ b.succ) (λ a b pass. inl (less_from a.succ b.succ pass)) (history_of high_told) refl }
 keeps_but_high Ascending not = λ i j d less within. absurd (omega arith)
 keeps_but_high Runs not = record { run = ((refl, tt), ((refl, tt), ((ap reply.Value (sym again), tt), ends))) }

@@ -1,15 +1,16 @@
 -- What the lines of a report tell of its parts.
-use Rattle.std.proofs.Common.{◌≡◌, ℕ, List, [], ◌∷◌, ◌++◌, length, map, refl, sym, ap, ◌∙◌, subst, arith}
+use Rattle.std.proofs.Common.{◌≡◌, ℕ, Bool, true, false, nat_lt, List, [], ◌∷◌, ◌++◌, length, map, refl, sym, ap, ◌∙◌, subst, arith}
 use Rattle.erm_model.specs.Committed.{Committed}
+use Rattle.erm_model.specs.declared.limits.TheConstants.{LOG_END}
 use Rattle.erm_model.specs.declared.map.Pair.{Pair}
 use Rattle.erm_report.specs.declared.answer.Answer.{Answer}
 use Rattle.erm_report.specs.declared.line.Line.{Line}
 use Rattle.erm_report.specs.declared.line.Line.TheVariants as line
 use Rattle.erm_script.specs.declared.script.ScriptLine.{ScriptLine}
-use Rattle.erm_good_report.specs.GoodReport.{IsGoodReport, OrderAgrees, OwesToAnswers, Report, answer_lines, close_line, commit_line, places_of, report_lines}
+use Rattle.erm_good_report.specs.GoodReport.{IsGoodReport, OrderAgrees, OwesToAnswers, Report, answer_lines, close_line, line_in_order, order_line, places_of, report_lines, serial_of}
 use Rattle.erm_good_report.specs.Opening.{Opening}
 use Rattle.erm_good_report.specs.Phases.{Closed, ClosesAgree}
-use Rattle.erm_good_report.specs.Transactions.{Transaction, history_of, said_of, transactions_of}
+use Rattle.erm_good_report.specs.Transactions.{Transaction, said_of, transactions_of}
 use Rattle.erm_good_report.proofs.Determining.{after_answers, report_lines_by_parts}
 use Rattle.erm_bad_reports.specs.Clauses.{Case, lines_of, told_of}
 
@@ -31,15 +32,19 @@ none_closed : (names : List (List ℕ)) (closed : List Closed) (commits : ℕ) (
 none_closed names [] commits xs ys same = refl
 none_closed names (c ∷ cs) commits xs ys same = absurd (cc)
 
--- so are the lines of the commits, and the pairs
-commits_read : (names : List (List ℕ)) (xs ys : List Committed) (m n : ℕ) (rest more : List Line) → map (commit_line names) xs ++ (line.Map m ∷ rest) ≡ map (commit_line names) ys ++ (line.Map n ∷ more)
-    → (map (commit_line names) xs ≡ map (commit_line names) ys) × (rest ≡ more)
+-- so are the lines of the order, and the pairs
+pub no_map : (b : Bool) (names : List (List ℕ)) (c : Committed) (m : ℕ) → line.Map m ≡ line_in_order b names c → ⊥
+no_map true names c m same = cc
+no_map false names c m same = cc
+
+commits_read : (names : List (List ℕ)) (xs ys : List Committed) (m n : ℕ) (rest more : List Line) → map (order_line names) xs ++ (line.Map m ∷ rest) ≡ map (order_line names) ys ++ (line.Map n ∷ more)
+    → (map (order_line names) xs ≡ map (order_line names) ys) × (rest ≡ more)
 commits_read names [] [] m n rest more same = (refl, cc)
-commits_read names [] (y ∷ ys) m n rest more same = absurd (cc)
-commits_read names (x ∷ xs) [] m n rest more same = absurd (cc)
+commits_read names [] (y ∷ ys) m n rest more same = absurd (let head : line.Map m ≡ order_line names y = cc in no_map (nat_lt y.stamp LOG_END) names y m head)
+commits_read names (x ∷ xs) [] m n rest more same = absurd (let head : order_line names x ≡ line.Map n = cc in no_map (nat_lt x.stamp LOG_END) names x n (sym head))
 commits_read names (x ∷ xs) (y ∷ ys) m n rest more same =
-    let head : commit_line names x ≡ commit_line names y = cc in
-    let tail : map (commit_line names) xs ++ (line.Map m ∷ rest) ≡ map (commit_line names) ys ++ (line.Map n ∷ more) = cc in
+    let head : order_line names x ≡ order_line names y = cc in
+    let tail : map (order_line names) xs ++ (line.Map m ∷ rest) ≡ map (order_line names) ys ++ (line.Map n ∷ more) = cc in
     let others = commits_read names xs ys m n rest more tail in
     ((λ i. head i ∷ others.0 i), others.1)
 
@@ -58,7 +63,7 @@ pairs_read (p ∷ ps) (q ∷ qs) same =
 pub record SameParts (names : List (List ℕ)) (r s : Report) : Type 0 where
   pub answers : r.answers ≡ s.answers
   pub closed : s.closed ≡ []
-  pub commits : map (commit_line names) r.order ≡ map (commit_line names) s.order
+  pub commits : map (order_line names) r.order ≡ map (order_line names) s.order
   pub pairs : r.pairs ≡ s.pairs
 
 pub parts_read : (opening : Opening) (names : List (List ℕ)) (script : List ScriptLine) (r s : Report) → report_lines opening names script r ≡ report_lines opening names script s → length r.answers ≡ length script
@@ -67,16 +72,16 @@ parts_read opening names script r s same each all none =
     let lines = sym (report_lines_by_parts opening names script r) ∙ same ∙ report_lines_by_parts opening names script s in
     let tail : answer_lines script r.answers ++ after_answers names r ≡ answer_lines script s.answers ++ after_answers names s = cc lines in
     let read = answers_read script r.answers s.answers (after_answers names r) (after_answers names s) each all tail in
-    let first = ap (λ (cs : List Closed). map (close_line names) cs ++ (line.Order (length r.order) ∷ map (commit_line names) r.order
+    let first = ap (λ (cs : List Closed). map (close_line names) cs ++ (line.Order (length r.order) ∷ map (order_line names) r.order
     ++ (line.Map (length r.pairs) ∷ map line.Pair r.pairs ++ line.End ∷ []))) none in
-    let closed = none_closed names s.closed (length r.order) (map (commit_line names) r.order ++ (line.Map (length r.pairs) ∷ map line.Pair r.pairs ++ line.End ∷ []))
-    (line.Order (length s.order) ∷ map (commit_line names) s.order ++ (line.Map (length s.pairs) ∷ map line.Pair s.pairs ++ line.End ∷ [])) (sym first ∙ read.1) in
-    let second = ap (λ (cs : List Closed). map (close_line names) cs ++ (line.Order (length s.order) ∷ map (commit_line names) s.order
+    let closed = none_closed names s.closed (length r.order) (map (order_line names) r.order ++ (line.Map (length r.pairs) ∷ map line.Pair r.pairs ++ line.End ∷ []))
+    (line.Order (length s.order) ∷ map (order_line names) s.order ++ (line.Map (length s.pairs) ∷ map line.Pair s.pairs ++ line.End ∷ [])) (sym first ∙ read.1) in
+    let second = ap (λ (cs : List Closed). map (close_line names) cs ++ (line.Order (length s.order) ∷ map (order_line names) s.order
     ++ (line.Map (length s.pairs) ∷ map line.Pair s.pairs ++ line.End ∷ []))) closed in
-    let whole : line.Order (length r.order) ∷ map (commit_line names) r.order ++ (line.Map (length r.pairs) ∷ map line.Pair r.pairs ++ line.End ∷ [])
-    ≡ line.Order (length s.order) ∷ map (commit_line names) s.order ++ (line.Map (length s.pairs) ∷ map line.Pair s.pairs ++ line.End ∷ []) = sym first ∙ read.1 ∙ second in
-    let orders : map (commit_line names) r.order ++ (line.Map (length r.pairs) ∷ map line.Pair r.pairs ++ line.End ∷ [])
-    ≡ map (commit_line names) s.order ++ (line.Map (length s.pairs) ∷ map line.Pair s.pairs ++ line.End ∷ []) = cc whole in
+    let whole : line.Order (length r.order) ∷ map (order_line names) r.order ++ (line.Map (length r.pairs) ∷ map line.Pair r.pairs ++ line.End ∷ [])
+    ≡ line.Order (length s.order) ∷ map (order_line names) s.order ++ (line.Map (length s.pairs) ∷ map line.Pair s.pairs ++ line.End ∷ []) = sym first ∙ read.1 ∙ second in
+    let orders : map (order_line names) r.order ++ (line.Map (length r.pairs) ∷ map line.Pair r.pairs ++ line.End ∷ [])
+    ≡ map (order_line names) s.order ++ (line.Map (length s.pairs) ∷ map line.Pair s.pairs ++ line.End ∷ []) = cc whole in
     let behind = commits_read names r.order s.order (length r.pairs) (length s.pairs) _ _ orders in
     record { answers = read.0; closed = closed; commits = behind.0; pairs = pairs_read r.pairs s.pairs behind.1 }
 
@@ -94,10 +99,10 @@ owes_of k each none good =
 
 -- an order that a good report of a case's lines has: its lines are the case's
 abbrev pub Orders : Case → List Committed → List Answer × List Closed × List Pair → Type 0
-Orders k order parts = OrderAgrees (history_of (transactions_of (length k.names) (places_of k.script parts.0 parts.1))) k.opening.map (record { answers = parts.0; closed = parts.1; order = order; pairs = parts.2 })
+Orders k order parts = OrderAgrees (serial_of (length k.names) (places_of k.script parts.0 parts.1)) k.opening.map (record { answers = parts.0; closed = parts.1; order = order; pairs = parts.2 })
 
 pub orders_of : (k : Case) → length k.report.answers ≡ length k.script → k.report.closed ≡ [] → IsGoodReport k.mode k.opening k.names k.script (lines_of k)
-    → (order : List Committed) × (map (commit_line k.names) k.report.order ≡ map (commit_line k.names) order) × Orders k order (k.report.answers, k.report.closed, k.report.pairs)
+    → (order : List Committed) × (map (order_line k.names) k.report.order ≡ map (order_line k.names) order) × Orders k order (k.report.answers, k.report.closed, k.report.pairs)
 orders_of k each none good =
     let r = good.report in
     let same = parts_read k.opening k.names k.script k.report r good.lines_ok each good.each none in

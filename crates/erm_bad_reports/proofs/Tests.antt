@@ -1,5 +1,5 @@
 -- Stamps that agree by a test, and what is so of transactions without lines.
-use Rattle.std.proofs.Common.{◌≡◌, ◌≢◌, ℕ, ◌<◌, ◌≤◌, Bool, true, false, cond, not, ◌==◌, ◌&&◌, nat_lt, nat_le, List, [], ◌∷◌, ◌++◌, Some, None, refl, sym, subst, take, ◌∙◌, ◌+◌, arith}
+use Rattle.std.proofs.Common.{◌≡◌, ◌≢◌, ℕ, ◌<◌, ◌≤◌, Bool, true, false, cond, not, ◌==◌, ◌&&◌, nat_lt, nat_le, List, [], ◌∷◌, ◌++◌, length, Some, None, refl, sym, subst, take, ◌∙◌, ◌+◌, arith}
 use Rattle.std.specs.Prelude.{IfSome}
 use Rattle.std.specs.List.{AllByRecursion, AllPairs}
 use Rattle.std.proofs.lemmas.Bool.Decides.{nat_tests}
@@ -17,13 +17,15 @@ use Rattle.erm_script.specs.declared.script.Command.{Command}
 use Rattle.erm_script.specs.declared.script.Command.TheVariants as command
 use Rattle.erm_model.specs.declared.limits.TheConstants.{LEAST_BLOCK, RING_WORDS, STOP}
 use Rattle.std.proofs.lemmas.List.Elements.{All-cons, All-nil}
+use Rattle.erm_good_report.specs.GoodReport.{places_of}
 use Rattle.erm_good_report.specs.Phases.{FitsPhase, phase_of}
 use Rattle.erm_good_report.specs.Refusals.{HasCause, HasLogCause, HasRefusalCause, HasUnfilledCause, MayHaveStamp, Moment, flushed_at, moment_at, most_words}
 use Rattle.erm_good_report.specs.Opening.{InTurn, Opening, is_before}
 use Rattle.erm_good_report.specs.Stamps.{Told, StampsAgree, begin_told, place_told, stamp_drawn, stamp_printed}
-use Rattle.erm_good_report.specs.Transactions.{Exchange, Ending, Unfinished, Commits, Excludes, Aborts, Progress, Said, Transaction, heard, nothing, progress_of, said_of, stamp_of, stamp_of_ending}
+use Rattle.erm_good_report.specs.Transactions.{Exchange, Ending, Unfinished, Commits, Excludes, Aborts, Progress, Said, Transaction, heard, history_of, nothing, progress_of, said_of, stamp_of, stamp_of_ending}
 use Rattle.erm_good_report.specs.Windows.{HasLine, IsHighEnd, IsLowEnd}
-use Rattle.erm_bad_reports.specs.Clauses.{Case, Meets, Phases, Refusals, told_of, IsLowAt, IsHighAt}
+use Rattle.erm_bad_reports.specs.Clauses.{Case, Meets, Phases, Refusals, Safe, placed_of, told_of, IsLowAt, IsHighAt}
+pub use Rattle.erm_good_report.proofs.Snapshots.{no_looks, none_agree, serial_alone, tell_none}
 pub use Rattle.erm_good_report.proofs.StampTests.{after_side, before_side, begins_ascend, begins_stop, first_true, places_pass, reach_from_test, reach_pass, reach_side, second_true, some_pass, stamps_ascend, stamps_begin, untold_after, untold_before, untold_in_reach, untold_pass}
 use Rattle.erm_good_report.proofs.Parts.{EachPlace, each_in, each_place, all_pairs_from_test, all_pairs_of_none, all_pass, told_pass, told_from_test, pairs_pass}
 
@@ -192,9 +194,21 @@ begins_over session = then (2 == session) (cond (1 == session) (heard session (S
     then false p none = none
 
 -- ---- phases and causes, place by place
-pub phases_kept : (k : Case) → EachPlace (λ i l a. FitsPhase (phase_of l.session (take i (said_of k.script k.report.answers))) l.command a) 0 k.script k.report.answers → Meets Phases k
-phases_kept k each =
-    record { fits = each_place (λ i l a. FitsPhase (phase_of l.session (take i (said_of k.script k.report.answers))) l.command a) k.script k.report.answers each }
+pub phases_kept : (k : Case) → EachPlace (λ i l a. FitsPhase (phase_of l.session (take i (said_of k.script k.report.answers))) l.command a) 0 k.script k.report.answers
+    → tell_none (said_of k.script k.report.answers) ≡ true → Meets Phases k
+phases_kept k each calm = record {
+  fits = each_place (λ i l a. FitsPhase (phase_of l.session (take i (said_of k.script k.report.answers))) l.command a) k.script k.report.answers each;
+  snapshots = no_looks k.script k.report.answers calm;
+}
+
+-- ---- no line asks for a snapshot that only reads
+pub safe_kept : (k : Case) → tell_none (said_of k.script k.report.answers) ≡ true → Meets Safe k
+safe_kept k calm = none_agree (moment_at k.mode k.opening k.script k.report.answers (told_of k)) k.opening k.script k.report.answers (told_of k) calm
+
+pub placed_alone : (k : Case) (order : List Committed) → tell_none (places_of k.script k.report.answers k.report.closed) ≡ true → IsSerialOrder rank_of (history_of (told_of k)) order
+    → IsSerialOrder rank_of (placed_of k) order
+placed_alone k order calm serial =
+    subst (λ (cs : List Committed). IsSerialOrder rank_of cs order) (sym (serial_alone (length k.names) (places_of k.script k.report.answers k.report.closed) calm)) serial
 
 -- no stamp is out of reach: none that its line tells, nor that of a commit that waits
 abbrev pub reaches_at : Case → Bool

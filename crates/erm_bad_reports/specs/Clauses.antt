@@ -2,7 +2,7 @@
 use Rattle.std.specs.Prelude.{◌≡◌, ◌≢◌, ℕ, List, length, Some}
 use Rattle.std.specs.List.{All, slice_get}
 use Rattle.std.specs.FinMap.{from_entries}
-use Rattle.erm_model.specs.Committed.{HasSnapshotReplies, RunsInOrder, rank_of}
+use Rattle.erm_model.specs.Committed.{Committed, HasSnapshotReplies, RunsInOrder, rank_of}
 use Rattle.erm_model.specs.Database.{AscendByKey, entries_of}
 use Rattle.erm_model.specs.Member.{◌∈◌}
 use Rattle.erm_model.specs.SerialOrder.{IsSerialOrder}
@@ -11,10 +11,11 @@ use Rattle.erm_report.specs.declared.line.Line.{Line}
 use Rattle.erm_report.specs.Printable.{FitsTypes}
 use Rattle.erm_script.specs.declared.script.ScriptLine.{ScriptLine}
 use Rattle.erm_good_report.specs.Causes.{HasCauseOf}
-use Rattle.erm_good_report.specs.GoodReport.{IsGoodReport, IsTightReport, Report, places_of, report_lines}
+use Rattle.erm_good_report.specs.GoodReport.{IsGoodReport, IsTightReport, Report, places_of, report_lines, serial_of}
 use Rattle.erm_good_report.specs.Opening.{Mode, Opening}
 use Rattle.erm_good_report.specs.Phases.{ClosesAgree, PhasesAgree}
 use Rattle.erm_good_report.specs.Refusals.{HasCause, HasCauses, IsInReach, moment_at}
+use Rattle.erm_good_report.specs.Snapshots.{SnapshotsAgree}
 use Rattle.erm_good_report.specs.Stamps.{StampsAgree}
 use Rattle.erm_good_report.specs.Transactions.{Ending, Commits, Excludes, Transaction, history_of, said_of, steps_of, transactions_of}
 use Rattle.erm_good_report.specs.Windows.{IsLowEnd, IsHighEnd}
@@ -33,9 +34,12 @@ lines_of k = report_lines k.opening k.names k.script k.report
 abbrev pub told_of : Case → List Transaction
 told_of k = transactions_of (length k.names) (places_of k.script k.report.answers k.report.closed)
 
+abbrev pub placed_of : Case → List Committed
+placed_of k = serial_of (length k.names) (places_of k.script k.report.answers k.report.closed)
+
 -- what a report owes: numbers and values fit their types; each line is answered; the sessions closed; phases; stamps; snapshot replies;
--- the causes of commits and exclusions; those of refusals; the serial order; the order of the map's pairs; replies and map of the serial
--- run; and the two ends of tight windows
+-- the causes of commits and exclusions; those of refusals; what is owed of snapshots that only read; the serial order; the order of the map's
+-- pairs; replies and map of the serial run; and the two ends of tight windows
 pub data Clause : Type 0 where
   Fit : Clause
   Answered : Clause
@@ -45,6 +49,7 @@ pub data Clause : Type 0 where
   Snapshots : Clause
   Causes : Clause
   Refusals : Clause
+  Safe : Clause
   Serial : Clause
   Ascending : Clause
   Runs : Clause
@@ -71,7 +76,8 @@ Meets Stamps k = StampsAgree k.mode k.opening (told_of k) (said_of k.script k.re
 Meets Snapshots k = (t : Transaction) → t ∈ told_of k → HasSnapshotReplies (history_of (told_of k)) k.opening.map t.begin (steps_of t)
 Meets Causes k = (t : Transaction) → t ∈ told_of k → HasCauseOf t.ending (told_of k) t
 Meets Refusals k = HasCauses k.mode k.opening k.script k.report.answers (told_of k)
-Meets Serial k = IsSerialOrder rank_of (history_of (told_of k)) k.report.order
+Meets Safe k = SnapshotsAgree (moment_at k.mode k.opening k.script k.report.answers (told_of k)) k.opening k.script k.report.answers (told_of k)
+Meets Serial k = IsSerialOrder rank_of (placed_of k) k.report.order
 Meets Ascending k = AscendByKey k.report.pairs
 Meets Runs k = RunsInOrder k.report.order k.opening.map (from_entries (entries_of k.report.pairs))
 Meets LowEnds k = (t : Transaction) → t ∈ told_of k → IsLowAt t.ending (told_of k) t

@@ -16,6 +16,7 @@ use Rattle.erm_good_report.specs.GoodReport.{IsClosedUnseen, IsCutReport, IsLine
 use Rattle.erm_good_report.specs.Opening.{InTurn, Opening}
 use Rattle.erm_good_report.specs.Phases.{Closed, PhasesAgree}
 use Rattle.erm_good_report.specs.Refusals.{HasCause, moment_at}
+use Rattle.erm_good_report.specs.Snapshots.{SnapshotsAgree}
 use Rattle.erm_good_report.specs.Stamps.{StampsAgree}
 use Rattle.erm_good_report.specs.Transactions.{Transaction, history_of, said_of, steps_of, transactions_of}
 use Rattle.erm_bad_reports.specs.Cases.{a_line, asked_from, b_line, of_log, one_name, opening_at}
@@ -69,6 +70,7 @@ pub record OwesAllBut (place : ℕ) (k : CutCase) : Type 0 where
   pub causes : (t : Transaction) → t ∈ told_of_cut k → HasCauseOf t.ending (told_of_cut k) t
   pub refusals : (i : ℕ) (l : ScriptLine) (a : Answer) → slice_get k.script i ≡ Some l → slice_get k.answers i ≡ Some a → i ≢ place
       → HasCause (moment_at InTurn k.opening k.script k.answers (told_of_cut k) i l) l.command a
+  pub safe : SnapshotsAgree (moment_at InTurn k.opening k.script k.answers (told_of_cut k)) k.opening k.script k.answers (told_of_cut k)
 
 -- its parts, beside no order and no pairs, of which its lines tell nothing
 abbrev pub whole_of : CutCase → Case

@@ -5,4 +5,5 @@ pub mod CutReports
 pub mod LogCases
 pub mod ReaderCases
 pub mod Refused
+pub mod SafeCases
 pub mod StampParts

@@ -4,7 +4,7 @@ ghost use Rattle.erm_good_report.specs.Opening.{InTurn, Opening};
 ghost use Rattle.erm_report.specs.declared.answer.Answer.TheVariants as answer;
 ghost use Rattle.std.specs.Prelude.{ℕ, [], ◌+◌, ◌<◌};
 ghost use Rattle.erm_model.specs.declared.limits.TheConstants.{MOST_CELLS, SESSIONS};
-ghost use Rattle.erm_bad_reports.specs.Clauses.{BreaksAlone, MeetsByLine, Fit, Answered, Closes, Phases, Stamps, Snapshots, Causes, Refusals, Serial, Ascending, Runs, LowEnds, HighEnds};
+ghost use Rattle.erm_bad_reports.specs.Clauses.{BreaksAlone, MeetsByLine, Fit, Answered, Closes, Phases, Stamps, Snapshots, Causes, Refusals, Serial, Ascending, Runs, LowEnds, HighEnds, lines_of, Safe};
 ghost use Rattle.erm_bad_reports.specs.Cases.{commit_left_out, number_too_great, line_left_out, left_open, got_without_begin};
 ghost use Rattle.erm_bad_reports.specs.Cases.{begun_too_early, future_was_read, begun_out_of_reach, drawn_out_of_reach, waited_out_of_reach};
 ghost use Rattle.erm_bad_reports.specs.Cases.{value_from_nowhere, predecessor_unknown, excluded_alone, owned_by_nobody};
@@ -17,6 +17,7 @@ ghost use Rattle.erm_bad_reports.specs.LogCases.{checkpoint_beside_sealed, check
 ghost use Rattle.erm_bad_reports.specs.ReaderCases.{reader_excludes, reader_precedes, reader_waits};
 ghost use Rattle.erm_bad_reports.specs.Refused.{NoneTellsCells, alone, answers_alone, before_abort, answers_before_abort, before_settle, answers_before_settle, after_commit, answers_after_commit, newer_than_nothing, oids_beyond, reads_alone, refused_first};
 ghost use Rattle.erm_bad_reports.specs.StampParts.{BreaksPartAlone, Differ, Least, Begun, Sealed, Begins, Draws, Ascends, Flushes, FlushesFirst, BeginsAscend, Stops, UntoldAfter, UntoldBefore, stamp_below_begin, sealed_with_another, begun_at_a_commit, begun_at_a_newer, drawn_below, drawn_within, begun_below_the_flushed, drawn_below_the_flushed, stamp_of_two, begins_fall, begun_at_the_stop, begun_above_untold, begun_below_untold};
+ghost use Rattle.erm_bad_reports.specs.SafeCases.{begin_moves, look_refused, reply_of_now, safe_at_a_commit, safe_at_last, safe_at_the_stop, safe_out_of_reach, safe_too_early, snapshot_behind, snapshot_left_out, snapshots_turned, unsafe_by_no_turn, waits_for_idle};
 ghost use Rattle.std.specs.List.{AllByRecursion};
 
 /// Lines: a line is missing; a number doesn't fit its type; an answer is missing; a session that is active isn't closed; a get is answered
@@ -133,4 +134,33 @@ pub fn clauses_of_cut_reports_are_needed()
     ensures once { BreaksCutAlone Once closed_twice }
     ensures unseen { BreaksCutAlone Unseen closed_too_early }
     ensures unfilled { BreaksCutAlone Owing unfilled_below × OwesAllBut 3 unfilled_below }
+{}
+
+/// Snapshots that only read: a look of a safe one is refused; a reply is that on the state now; one waits for a session that is idle; one isn't safe by a
+/// commit that has its turn at its own stamp; one is told safe beside a transaction that began below; one begins further on than the lines can have moved
+/// the log, where the log stops, and at a commit told before; one that waited is told safe where the log has come since it began.
+pub fn snapshots_are_needed()
+    ensures looks { BreaksAlone Phases look_refused }
+    ensures replies { BreaksAlone Safe reply_of_now }
+    ensures idle { BreaksAlone Safe waits_for_idle }
+    ensures turn { BreaksAlone Safe unsafe_by_no_turn }
+    ensures early { BreaksAlone Safe safe_too_early }
+    ensures reach { BreaksAlone Safe safe_out_of_reach }
+    ensures stop { BreaksAlone Safe safe_at_the_stop }
+    ensures commit { BreaksAlone Safe safe_at_a_commit }
+    ensures moves { BreaksAlone Safe begin_moves }
+{}
+
+/// The order of snapshots: one stands behind a commit that has its turn at its begin stamp; of two at one begin stamp that of the second session stands
+/// first; one that ended is left out.
+pub fn places_are_needed()
+    ensures behind { BreaksAlone Serial snapshot_behind }
+    ensures turned { BreaksAlone Serial snapshots_turned }
+    ensures left { BreaksAlone Serial snapshot_left_out }
+{}
+
+/// All clauses can be kept: the report of a snapshot that waits for a transaction that began below, is safe when that one has committed, finds nothing and
+/// ends, is good.
+pub fn snapshots_may_be_good()
+    ensures { IsGoodReport safe_at_last.mode safe_at_last.opening safe_at_last.names safe_at_last.script (lines_of safe_at_last) }
 {}

@@ -41,6 +41,12 @@ pub trait SafeSession: SharedSession {
         ensures err { IfErr result (λ stop. After (Self.seat self.old) (NotSafeBeside (Self.seat self.old) stop) (Self.own self.old) (Self.own self.new)) }
         ensures met { IfErr result (λ stop. (f : View) → Self.ends self.new f → NotSafeMet f (Self.seat self.old) stop (Self.own self.old) (Self.own self.new)) };
 
+    /// The begin stamp of the snapshot, safe or not.
+    fn snapshot_begin(&self, shared: &Self::Shared) -> Stamp
+        requires stands { Self.stands shared.now self.now }
+        requires snapshot { HasSnapshot (Self.own self.now) (Self.seat self.now) }
+        ensures { result ≡ (work_at (Self.own self.now) (Self.seat self.now)).begin };
+
     /// The row of an object as the safe snapshot sees it: the newest below its begin stamp, in each world in which all may end.
     fn safe_read(&mut self, shared: &Self::Shared, oid: Oid) -> Row
         requires stands { Self.stands shared.now self.old }

@@ -14,8 +14,9 @@ use Rattle.erm_model.specs.Run.{Step}
 use Rattle.erm_node.specs.Sound.{sound_law}
 use Rattle.erm_world.specs.Calls.{IsDone}
 use Rattle.erm_world.specs.Laws.{FitsWork, IsSerializable}
+use Rattle.erm_world.specs.Snapshots.{snapshot_not_active}
 use Rattle.erm_world.specs.Works.{claiming, reading}
-use Rattle.erm_world.specs.World.{Finished, IsSession, Session, Stand, View, Work, history_of, phase_at, phase_of, stamp_of, work_at, work_of}
+use Rattle.erm_world.specs.World.{Finished, IsSession, IsWorking, Session, Stand, View, Work, history_of, phase_at, phase_of, stamp_of, work_at, work_of}
 use Rattle.erm_world.specs.World as world
 use Rattle.erm_world.proofs.Lists.{∈-before, ∈-last}
 use Rattle.erm_world.proofs.Works.{is_claimed-push, row_read-push}
@@ -26,17 +27,18 @@ use Rattle.erm_script.specs.Script.{IsInRange}
 use Rattle.erm_good_report.specs.Causes.{NamesTable, WritesTable}
 use Rattle.erm_good_report.specs.Transactions.{Aborts, Commits, Ending, Excludes, Unfinished, Progress, Transaction, ended, goes_on, heard, is_writer, table_of, with_ending, with_line}
 use Rattle.erm_lines.specs.Operations.{AsksOf, FrontOf, WereCutOff}
+use Rattle.erm_lines.specs.Told.{TellsNow}
 use Rattle.erm_causes.specs.Touched.{AreOfTables, Touches, WasClosed}
 use Rattle.erm_causes.proofs.Begun.{CommitsKeep}
 use Rattle.erm_causes.proofs.Coloured.{AskedOf, KeepsTables}
-use Rattle.erm_causes.proofs.Fine.{FineNow, FineOne, FineOver, IsFine, Turned, history_grows, over_later, still_session, touches_same, turned_then}
+use Rattle.erm_causes.proofs.Fine.{FineNow, FineOne, FineOver, IsFine, Turned, history_grows, number_told, over_later, still_session, touches_same, turned_then}
 use Rattle.erm_causes.proofs.Together.{together_one_more}
 use Rattle.erm_causes.proofs.Lines.{CutFine, commits_keep, current_in, cut_fine, names_line, ran_made, stays_keep, turned_by, whole_fine, writes_line}
 use Rattle.erm_causes.proofs.Made.{made_by_one, made_done}
 use Rattle.erm_causes.proofs.Operated.{EndsBy, GoesOnBy, Last, Operated, ShutAs}
 use Rattle.erm_causes.proofs.Operated as operated
 use Rattle.erm_causes.proofs.Own.{TreeLaws}
-use Rattle.erm_told_limits.proofs.Ran.{ran}
+use Rattle.erm_told_limits.proofs.Ran.{active_with, ran}
 use Rattle.erm_told_limits.proofs.Given.{HistoryLaws}
 
 -- LAST. What the last call left besides.
@@ -44,6 +46,11 @@ pub last_made : (asked : Asked) (w u : Work) → Last asked w u → u.made ≡ w
 last_made asked w u (operated.same_work is) = ap (λ (x : Work). x.made) is
 last_made asked w u (operated.read r asks is) = ap (λ (x : Work). x.made) is
 last_made asked w u (operated.claimed c asks is) = ap (λ (x : Work). x.made) is
+
+pub last_number : (asked : Asked) (w u : Work) → Last asked w u → u.number ≡ w.number
+last_number asked w u (operated.same_work is) = ap (λ (x : Work). x.number) is
+last_number asked w u (operated.read r asks is) = ap (λ (x : Work). x.number) is
+last_number asked w u (operated.claimed c asks is) = ap (λ (x : Work). x.number) is
 
 fits_reading : (w : Work) (r : VersionRead) (rows : Rows) → FitsWork sound_law (reading r w) rows → FitsWork sound_law w rows
 fits_reading w r rows fits = record { meets = fits.meets; reads = λ d within. fits.reads d (∈-before w.reads (r ∷ []) d within); claims = fits.claims; unreached = fits.unreached }
@@ -157,7 +164,7 @@ now_active table None (world.sealed w stamp) now active = absurd now
 now_active table (Some t) world.idle now active = absurd now
 now_active table (Some t) (world.active w) now active = record { told = t; is = refl; touches = now.0; keeps = now.1; steps = now.2.0; run = now.2.1 }
 now_active table (Some t) (world.sealed w stamp) now active = cc
-now_active table None (world.snapshot s) now active = absurd now
+now_active table None (world.snapshot s) now active = absurd (snapshot_not_active s active)
 now_active table (Some t) (world.snapshot s) now active = absurd now
 
 -- a transaction in progress whose line was answered or cut off goes on so
@@ -176,14 +183,14 @@ goes_on_fine table v u seat c a p t hears is turned same fine now =
 -- one that ended is over
 ends_fine : (table : ℕ → ℕ) (v u : View) (seat : ℕ) (c : Command) (a : Answer) (p : Progress) (t : Transaction) (ending : Ending) (w : Work) → EndsBy a ending → p.current ≡ Some t
     → Turned v seat u → u.session seat ≡ record { over = (v.session seat).over ++ record { work = w; fate = world.aborts } ∷ []; stand = world.idle }
-    → IsFine table (history_of v) p (v.session seat) → Touches table (with_line (Some c) a t) w → WasClosed (history_of u) ending w
+    → IsFine table (history_of v) p (v.session seat) → t.number ≡ w.number → Touches table (with_line (Some c) a t) w → WasClosed (history_of u) ending w
     → IsFine table (history_of u) (heard seat (Some c) a p) (u.session seat)
-ends_fine table v u seat c a p t ending w hears is turned done fine touches closed =
+ends_fine table v u seat c a p t ending w hears is turned done fine number touches closed =
     let one : FineOne table (history_of u) (with_ending ending (with_line (Some c) a t)) (record { work = w; fate = world.aborts }) = record {
       one = record { touches = touches_same table (with_line (Some c) a t) (with_ending ending (with_line (Some c) a t)) w refl touches; closed = closed };
       keeps = λ stamp at. cc;
     } in
-    let over = together_one_more (FineOne table (history_of u)) p.over (v.session seat).over _ _ (over_of table v u seat p turned fine) one in
+    let over = together_one_more (FineOne table (history_of u)) p.over (v.session seat).over (with_ending ending (with_line (Some c) a t)) (record { work = w; fate = world.aborts }) (over_of table v u seat p turned fine) number one in
     subst (λ (q : Progress). IsFine table (history_of u) q (u.session seat)) (sym (hears seat (Some c) p))
     (subst (λ (s : Session). IsFine table (history_of u) (ended ending (goes_on (Some c) a p)) s) (sym done) (record {
       over = subst (λ (r : Option Transaction). FineOver table (history_of u) (p.over ++ option_to_list (option_map (with_ending ending) (option_map (with_line (Some c) a) r)))
@@ -227,12 +234,18 @@ module _ (tree : TreeLaws) (laws : HistoryLaws) (table : ℕ → ℕ) (v u : Vie
       none_sealed x f stamp (zero, at) is = cc
       none_sealed x f stamp (suc n, at) is = cc
 
-  pub operated_fine : Operated v seat c a u → IsFine table (history_of u) (heard seat (Some c) a p) (u.session seat)
-  operated_fine (operated.whole steps did hears) =
+  -- the number that is told of it
+  now_number : TellsNow seat p.current (v.session seat).stand → now.told.number ≡ (work_at v seat).number
+  now_number tells =
+      number_told seat p.current (v.session seat).stand (work_at v seat) now.told tells
+      (subst (λ (at : Stand). IsWorking at (work_at v seat)) (sym (active_with (v.session seat).stand active)) refl) now.is
+
+  pub operated_fine : TellsNow seat p.current (v.session seat).stand → Operated v seat c a u → IsFine table (history_of u) (heard seat (Some c) a p) (u.session seat)
+  operated_fine tells (operated.whole steps did hears) =
       let gone = ran sound_law did.events v u seat active did.ran in
       goes_on_fine table v u seat c a p now.told hears now.is (turned_by v u seat gone.0) gone.0.over fine
       (whole_fine tree laws table v u seat c a k session active named range holds opened keep made now.told now.touches now.keeps now.steps now.run steps did)
-  operated_fine (operated.stayed why did is stays hears) =
+  operated_fine tells (operated.stayed why did is stays hears) =
       let gone = ran sound_law did.events v did.at seat active did.ran in
       let same : u.session seat ≡ did.at.session seat = ap (λ (x : View). x.session seat) is in
       let at = stayed_fine why did is in
@@ -240,11 +253,12 @@ module _ (tree : TreeLaws) (laws : HistoryLaws) (table : ℕ → ℕ) (v u : Vie
       let run : IsRunOf (work_at did.at seat) now.steps = subst (λ (x : View). IsRunOf (work_at x seat) now.steps) is (did.run stays now.steps now.run) in
       goes_on_fine table v u seat c a p now.told hears now.is (same_turned v did.at u seat is (turned_by v did.at seat gone.0)) (ap (λ (s : Session). s.over) same ∙ gone.0.over) fine
       (subst (λ (at_stand : Stand). FineNow table (Some (with_line (Some c) a now.told)) at_stand) (sym stand) (at.touches, at.keeps, (now.steps, run)))
-  operated_fine (operated.out why did w ending last done shut hears) =
+  operated_fine tells (operated.out why did w ending last done shut hears) =
       let gone = ran sound_law did.events v did.at seat active did.ran in
       let at = out_fine why did w last done in
       let turned = turned_then v did.at u seat (turned_by v did.at seat gone.0) (done_turned did.at u seat w world.aborts done) in
       ends_fine table v u seat c a p now.told ending w hears now.is turned
       (done.own ∙ ap (λ (fs : List Finished). record { over = fs ++ record { work = w; fate = world.aborts } ∷ []; stand = world.idle }) gone.0.over) fine
+      (now_number tells ∙ sym gone.0.more.number ∙ sym (last_number did.asked (work_at did.at seat) w last))
       (last_touches table k c a now.told (work_at did.at seat) did.asked named at w last)
       (shut_closed did.at u seat w ending (history_grows did.at u seat (done_turned did.at u seat w world.aborts done)) shut)

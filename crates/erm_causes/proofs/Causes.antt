@@ -16,7 +16,7 @@ use Rattle.erm_good_report.specs.Transactions.{Aborts, Commits, Ending, Excludes
 use Rattle.erm_lines.specs.Told.{EndsAs, Tells, TellsNow}
 use Rattle.erm_told.proofs.Ranges.{in_range, in_range_from}
 use Rattle.erm_causes.specs.Touched.{TouchesAll, TouchesOne, WasClosed}
-use Rattle.erm_causes.proofs.Together.{Both, both_over, both_told, commits_as}
+use Rattle.erm_causes.proofs.Together.{Both, both_over, both_told, commits_as, commits_stay}
 use Rattle.erm_causes.proofs.Beside.{ToldCommit, commits_beside, overwrites_after, overwrites_beside, shows_closed}
 
 -- what stands in joined lists stands in one of them
@@ -60,19 +60,19 @@ module _ (v : View) (sessions : ℕ) (said : List Said) (table : ℕ → ℕ) (h
   commit_over u within =
       let own : IsCommitOf v u = (tells_commits v).only u within in
       let f : Finished = record { work = own.work; fate = world.commits own.stamp own.succ own.pred } in
-      let found = both_over own.seat (TouchesOne table (history_of v)) (progress_of own.seat said).over (v.session own.seat).over own.over.0 f
-      (tells own.seat own.session).over (touches own.seat own.session).over own.over.1 in
+      let found = both_over own.seat (TouchesOne table (history_of v)) (progress_of own.seat said).over (progress_of own.seat said).snapshots (v.session own.seat).over f
+      (tells own.seat own.session).over (touches own.seat own.session).over (holds.numbered own.seat own.session).over (commits_stay own.stamp own.succ own.pred) own.over in
       let same = found.2.tells.work.session in
       subst (λ (r : TransactionRecord). OverCommit v table sessions said r) (sym own.is) (record {
         told = record {
           by = found.0;
-          of = told_over own.seat own.session found.0 (own.over.0, found.1);
+          of = told_over own.seat own.session found.0 found.1;
           session = same;
           ending = commits_as found.0.ending own.stamp own.succ own.pred found.2.tells.ends;
           touches = record { reads = found.2.so_is.touches.reads; claims = found.2.so_is.touches.claims };
         };
         session = subst (λ (q : ℕ). IsSession v q) (sym same) own.session;
-        over = subst (λ (q : ℕ). found.0 ∈ (progress_of q said).over) (sym same) (own.over.0, found.1);
+        over = subst (λ (q : ℕ). found.0 ∈ (progress_of q said).over) (sym same) found.1;
       })
 
   pub commit_told : (u : TransactionRecord) → u ∈ history_of v → ToldCommit table (transactions_of sessions said) u
@@ -164,8 +164,9 @@ module _ (v : View) (sessions : ℕ) (said : List Said) (table : ℕ → ℕ) (h
       let session : IsSession v seat = (omega (arith, bounds.0), omega (arith, bounds.1, of)) in
       elim (∈-either (progress_of seat said).over (option_to_list (progress_of seat said).current) t found.2) as (λ _. HasCauseOf t.ending (transactions_of sessions said) t) [
         | inl over ↦
-            let both = both_told seat (TouchesOne table (history_of v)) (progress_of seat said).over (v.session seat).over over.0 t (tells seat session).over (touches seat session).over over.1 in
-            cause_as seat session t both.0 (over.0, both.1) both.2 t.ending refl
+            let both = both_told seat (TouchesOne table (history_of v)) (progress_of seat said).over (progress_of seat said).snapshots (v.session seat).over t
+            (tells seat session).over (touches seat session).over (holds.numbered seat session).over over in
+            cause_as seat session t both.0 both.1 both.2 t.ending refl
         | inr now ↦
             subst (λ (e : Ending). HasCauseOf e (transactions_of sessions said) t) (sym (now_cause seat session (progress_of seat said).current (tells seat session).now t now)) tt
       ]

@@ -35,6 +35,8 @@ over_heard session asked (answer.ExcludedEarly succ pred) p t within = ∈-first
 over_heard session asked (answer.Owned seat number) p t within = ∈-first p.over _ t within
 over_heard session asked (answer.Newer stamp) p t within = ∈-first p.over _ t within
 over_heard session asked answer.Aborted p t within = ∈-first p.over _ t within
+over_heard session asked (answer.Unsafe seat stamp) p t within = ∈-first p.over _ t within
+over_heard session asked answer.Ended p t within = ∈-first p.over _ t within
 over_heard session asked a p t within = within
 
 over_hears : (seat : ℕ) (s : Said) (p : Progress) (t : Transaction) → t ∈ p.over → t ∈ (hears seat p s).over

@@ -1,5 +1,5 @@
 -- A session's transactions touch objects of their lines' tables: what is kept of this by each move.
-use Rattle.std.proofs.Common.{◌≡◌, ◌≢◌, ℕ, zero, suc, ◌<◌, ◌≤◌, List, [], ◌∷◌, ◌++◌, Option, Some, None, slice_get, append_assoc, inl, inr, sym, ap, ◌∙◌, subst}
+use Rattle.std.proofs.Common.{◌≡◌, ◌≢◌, ℕ, ◌<◌, ◌≤◌, ◌⊎◌, List, ◌++◌, Option, Some, None, append_assoc, inl, inr, sym, ap, ◌∙◌, subst, ⊎_elim}
 use Rattle.std.proofs.lemmas.Bool.{cases_eq}
 use Rattle.erm_model.specs.declared.history.TransactionRecord.{TransactionRecord}
 use Rattle.erm_model.specs.History.{History}
@@ -7,14 +7,16 @@ use Rattle.erm_model.specs.Member.{◌∈◌}
 use Rattle.erm_model.specs.Run.{Step}
 use Rattle.erm_machine.proofs.Listed.{∈-first}
 use Rattle.erm_world.specs.Laws.{IsCommitOf}
-use Rattle.erm_world.specs.World.{Finished, IsSession, Session, Stand, View, Work, history_of, stamp_of}
+use Rattle.erm_world.specs.World.{Fate, Finished, IsSession, IsWorking, Session, Stand, View, Work, history_of, stamp_of}
 use Rattle.erm_world.specs.World as world
 use Rattle.erm_world.proofs.Commits.{tells_commits}
 use Rattle.erm_maps.specs.Runs.{IsRunOf}
 use Rattle.erm_good_report.specs.Causes.{NamesTable, WritesTable}
 use Rattle.erm_good_report.specs.Transactions.{Ending, Excludes, Exchange, Progress, Transaction}
+use Rattle.erm_lines.specs.Told.{TellsNow}
 use Rattle.erm_causes.specs.Touched.{Together, Touches, TouchesAll, TouchesNow, TouchesOne, TouchesOver, WasClosed}
 use Rattle.erm_causes.proofs.Coloured.{KeepsTables}
+use Rattle.erm_causes.proofs.Together.{together_as, together_over}
 
 -- one that is over, and keeps to its tables where it was sealed
 pub record FineOne (table : ℕ → ℕ) (h : History) (t : Transaction) (f : Finished) : Type 0 where
@@ -27,6 +29,7 @@ FineOver table h ts fs = Together (FineOne table h) ts fs
 -- one in progress touches so, keeps to its tables, and is the run of some operations where it isn't sealed
 abbrev pub FineNow : (ℕ → ℕ) → Option Transaction → Stand → Type 0
 FineNow table None world.idle = Unit {0}
+FineNow table None (world.snapshot x) = Unit {0}
 FineNow table (Some t) (world.active w) = Touches table t w × KeepsTables table w × ((steps : List Step) × IsRunOf w steps)
 FineNow table (Some t) (world.sealed w stamp) = Touches table t w × KeepsTables table w
 FineNow table current stand = ⊥
@@ -72,33 +75,23 @@ closed_later h g more (Excludes stamp succ pred) w closed = record {
 closed_later h g more ending w closed = tt
 
 pub over_later : (table : ℕ → ℕ) (h g : History) → ((t : TransactionRecord) → t ∈ h → t ∈ g) → (ts : List Transaction) (fs : List Finished) → FineOver table h ts fs → FineOver table g ts fs
-over_later table h g more [] [] fine = tt
-over_later table h g more [] (f ∷ fs) fine = absurd fine
-over_later table h g more (t ∷ ts) [] fine = absurd fine
-over_later table h g more (t ∷ ts) (f ∷ fs) fine = (
-  record { one = record { touches = fine.0.one.touches; closed = closed_later h g more t.ending f.work fine.0.one.closed }; keeps = fine.0.keeps },
-  over_later table h g more ts fs fine.1,
-)
+over_later table h g more ts fs fine =
+    together_as (FineOne table h) (FineOne table g)
+    (λ t f one. record { one = record { touches = one.one.touches; closed = closed_later h g more t.ending f.work one.one.closed }; keeps = one.keeps }) ts fs fine
 
-keeps_at : (table : ℕ → ℕ) (h : History) (ts : List Transaction) (fs : List Finished) (k : ℕ) (f : Finished) (stamp : ℕ) → FineOver table h ts fs → slice_get fs k ≡ Some f
-    → stamp_of f.fate ≡ Some stamp → KeepsTables table f.work
-keeps_at table h [] [] k f stamp fine at is = cc
-keeps_at table h [] (g ∷ fs) k f stamp fine at is = absurd fine
-keeps_at table h (t ∷ ts) [] k f stamp fine at is = absurd fine
-keeps_at table h (t ∷ ts) (g ∷ fs) zero f stamp fine at is =
-    let same : g ≡ f = cc in
-    subst (λ (e : Finished). KeepsTables table e.work) same (fine.0.keeps stamp (ap (λ (e : Finished). stamp_of e.fate) same ∙ is))
-keeps_at table h (t ∷ ts) (g ∷ fs) (suc k) f stamp fine at is = keeps_at table h ts fs k f stamp fine.1 at is
+-- none that was aborted has a stamp
+stampless : (fate : Fate) (stamp : ℕ) (P : Type 0) → fate ≡ world.aborts → stamp_of fate ≡ Some stamp → P
+stampless fate stamp P aborts is = let no : None ≡ Some stamp = sym (ap stamp_of aborts) ∙ is in absurd (cc)
 
 pub over_keeps : (table : ℕ → ℕ) (h : History) (p : Progress) (s : Session) → IsFine table h p s → (f : Finished) (stamp : ℕ) → f ∈ s.over → stamp_of f.fate ≡ Some stamp → KeepsTables table f.work
-over_keeps table h p s fine f stamp within is = keeps_at table h p.over s.over within.0 f stamp fine.over within.1 is
+over_keeps table h p s fine f stamp within is =
+    ⊎_elim (λ (found : (t : Transaction) × (t ∈ p.over) × FineOne table h t f). found.2.keeps stamp is)
+    (λ (aborts : f.fate ≡ world.aborts). stampless f.fate stamp (KeepsTables table f.work) aborts is)
+    (together_over (FineOne table h) p.over s.over f fine.over within)
 
 -- what touches so, without what is kept besides
 over_touches : (table : ℕ → ℕ) (h : History) (ts : List Transaction) (fs : List Finished) → FineOver table h ts fs → TouchesOver table h ts fs
-over_touches table h [] [] fine = tt
-over_touches table h [] (f ∷ fs) fine = absurd fine
-over_touches table h (t ∷ ts) [] fine = absurd fine
-over_touches table h (t ∷ ts) (f ∷ fs) fine = (fine.0.one, over_touches table h ts fs fine.1)
+over_touches table h ts fs fine = together_as (FineOne table h) (TouchesOne table h) (λ t f one. one.one) ts fs fine
 
 now_touches : (table : ℕ → ℕ) (current : Option Transaction) (stand : Stand) → FineNow table current stand → TouchesNow table current stand
 now_touches table None world.idle now = tt
@@ -107,11 +100,21 @@ now_touches table None (world.sealed w stamp) now = absurd now
 now_touches table (Some t) world.idle now = absurd now
 now_touches table (Some t) (world.active w) now = now.0
 now_touches table (Some t) (world.sealed w stamp) now = now.0
-now_touches table None (world.snapshot s) now = absurd now
+now_touches table None (world.snapshot s) now = tt
 now_touches table (Some t) (world.snapshot s) now = absurd now
 
 pub fine_touches : (table : ℕ → ℕ) (h : History) (p : Progress) (s : Session) → IsFine table h p s → TouchesAll table h p s
 fine_touches table h p s fine = record { over = over_touches table h p.over s.over fine.over; now = now_touches table p.current s.stand fine.now }
+
+-- NUMBERS. The transaction in progress is told with its own.
+pub number_told : (seat : ℕ) (current : Option Transaction) (stand : Stand) (w : Work) (t : Transaction) → TellsNow seat current stand → IsWorking stand w → current ≡ Some t → t.number ≡ w.number
+number_told seat None stand w t tells works is = absurd (cc)
+number_told seat (Some u) world.idle w t tells works is = absurd works
+number_told seat (Some u) (world.active x) w t tells works is =
+    let same : u ≡ t = cc in ap (λ (y : Transaction). y.number) (sym same) ∙ tells.0.work.number ∙ ap (λ (y : Work). y.number) works
+number_told seat (Some u) (world.sealed x stamp) w t tells works is =
+    let same : u ≡ t = cc in ap (λ (y : Transaction). y.number) (sym same) ∙ tells.0.work.number ∙ ap (λ (y : Work). y.number) works
+number_told seat (Some u) (world.snapshot s) w t tells works is = absurd works
 
 -- HISTORIES. One session goes on: what was over stays, with more behind.
 pub record Turned (v : View) (seat : ℕ) (t : View) : Type 0 where

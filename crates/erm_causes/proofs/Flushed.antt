@@ -13,14 +13,17 @@ use Rattle.erm_world.proofs.Txns.{went}
 use Rattle.erm_good_report.specs.Phases.{FitsRefusal, IsAnswerTo, refusal_of}
 use Rattle.erm_good_report.specs.Refusals.{flushed_told}
 use Rattle.erm_good_report.specs.Transactions.{Said}
-use Rattle.erm_lines.specs.Answers.{DidCommand, DidLine}
+use Rattle.erm_lines.specs.Answers.{DidIn, DidLine}
 use Rattle.erm_lines.specs.Executions.{DidLog, DidLogLine, DidMove, IsExecution, line_moves, move_of, said_in}
 use Rattle.erm_lines.specs.Operations.{Ran}
 use Rattle.erm_lines.proofs.Moved.{moved, said_move}
+use Rattle.erm_told.proofs.Lines.{in_either}
 use Rattle.erm_causes.proofs.Operated.{Operated}
 use Rattle.erm_causes.proofs.Operated as operated
 use Rattle.erm_causes.proofs.Quiet.{Lined, Quiet, lined}
 use Rattle.erm_causes.proofs.Quiet as quiet
+use Rattle.erm_causes.proofs.Snapshots.{Watches}
+use Rattle.erm_causes.proofs.Snapshots as snapshots
 use Rattle.erm_causes.proofs.Waits.{allowed}
 
 ran_flushed : (events : List Event) (v t : View) (seat : ℕ) → phase_at v seat ≡ Active → Ran v seat events t → t.flushed ≡ v.flushed
@@ -34,11 +37,17 @@ operated_flushed v t seat c a active (operated.whole steps did hears) = ran_flus
 operated_flushed v t seat c a active (operated.stayed why did is stays hears) = ap (λ (x : View). x.flushed) is ∙ ran_flushed did.events v did.at seat active did.ran
 operated_flushed v t seat c a active (operated.out why did w ending last done shut hears) = done.flushed ∙ ran_flushed did.events v did.at seat active did.ran
 
+watched_flushed : (v t : View) (seat : ℕ) → Watches v seat t → t.flushed ≡ v.flushed
+watched_flushed v t seat (snapshots.looks is) = ap (λ (x : View). x.flushed) is
+watched_flushed v t seat (snapshots.watches x did) = did.flushed
+watched_flushed v t seat (snapshots.ends number begin did) = did.flushed
+
 quiet_flushed : (v : View) (seat : ℕ) (asked : Option Command) (a : Answer) (t : View) → Quiet v seat asked a t → t.flushed ≡ v.flushed
 quiet_flushed v seat asked a t (quiet.still is hears) = ap (λ (x : View). x.flushed) is
-quiet_flushed v seat asked a t (quiet.begins number begin idle works hears) = works.flushed
+quiet_flushed v seat asked a t (quiet.begins number begin idle room works hears) = works.flushed
 quiet_flushed v seat asked a t (quiet.seals stamp active did hears) = did.flushed
 quiet_flushed v seat asked a t (quiet.done w fate ending now did closed hears) = did.flushed
+quiet_flushed v seat asked a t (quiet.watched starts did hears) = watched_flushed v t seat did
 
 lined_flushed : (v t : View) (seat : ℕ) (c : Command) (a : Answer) → Lined v seat c a t → t.flushed ≡ v.flushed
 lined_flushed v t seat c a (quiet.quiet did) = quiet_flushed v seat (Some c) a t did
@@ -46,21 +55,27 @@ lined_flushed v t seat c a (quiet.sealed_first stamp between active sealed did) 
 lined_flushed v t seat c a (quiet.named k names active did) = operated_flushed v t seat c a active did
 
 -- no line of a session tells a flush
-not_flushed : (v t : View) (seat : ℕ) (c : Command) (place : ℕ) → IsAnswerTo c (answer.Flushed place) → DidCommand v seat c (answer.Flushed place) t → ⊥
-not_flushed v t seat command.Flush place fits did = did
+no_flush : (v t : View) (seat : ℕ) (a : Answer) → DidIn (phase_at v seat) v seat command.Flush a t → ⊥
+no_flush v t seat a did = in_either ⊥ v t seat command.Flush a (λ plain done. done) (λ has done. done) did
+
+no_checkpoint : (v t : View) (seat : ℕ) (a : Answer) → DidIn (phase_at v seat) v seat command.Checkpoint a t → ⊥
+no_checkpoint v t seat a did = in_either ⊥ v t seat command.Checkpoint a (λ plain done. done) (λ has done. done) did
+
+not_flushed : (v t : View) (seat : ℕ) (c : Command) (place : ℕ) → IsAnswerTo c (answer.Flushed place) → DidIn (phase_at v seat) v seat c (answer.Flushed place) t → ⊥
+not_flushed v t seat command.Flush place fits did = no_flush v t seat (answer.Flushed place) did
 not_flushed v t seat c place fits did = fits
 
-not_empty : (v t : View) (seat : ℕ) (c : Command) (place : ℕ) → IsAnswerTo c (answer.Empty place) → DidCommand v seat c (answer.Empty place) t → ⊥
-not_empty v t seat command.Flush place fits did = did
+not_empty : (v t : View) (seat : ℕ) (c : Command) (place : ℕ) → IsAnswerTo c (answer.Empty place) → DidIn (phase_at v seat) v seat c (answer.Empty place) t → ⊥
+not_empty v t seat command.Flush place fits did = no_flush v t seat (answer.Empty place) did
 not_empty v t seat c place fits did = fits
 
-not_unfilled : (v t : View) (seat : ℕ) (c : Command) (place : ℕ) → IsAnswerTo c (answer.Unfilled place) → DidCommand v seat c (answer.Unfilled place) t → ⊥
-not_unfilled v t seat command.Flush place fits did = did
-not_unfilled v t seat command.Checkpoint place fits did = did
+not_unfilled : (v t : View) (seat : ℕ) (c : Command) (place : ℕ) → IsAnswerTo c (answer.Unfilled place) → DidIn (phase_at v seat) v seat c (answer.Unfilled place) t → ⊥
+not_unfilled v t seat command.Flush place fits did = no_flush v t seat (answer.Unfilled place) did
+not_unfilled v t seat command.Checkpoint place fits did = no_checkpoint v t seat (answer.Unfilled place) did
 not_unfilled v t seat c place fits did = fits
 
-not_checkpointed : (v t : View) (seat : ℕ) (c : Command) (stamp : ℕ) → IsAnswerTo c (answer.Checkpointed stamp) → DidCommand v seat c (answer.Checkpointed stamp) t → ⊥
-not_checkpointed v t seat command.Checkpoint stamp fits did = did
+not_checkpointed : (v t : View) (seat : ℕ) (c : Command) (stamp : ℕ) → IsAnswerTo c (answer.Checkpointed stamp) → DidIn (phase_at v seat) v seat c (answer.Checkpointed stamp) t → ⊥
+not_checkpointed v t seat command.Checkpoint stamp fits did = no_checkpoint v t seat (answer.Checkpointed stamp) did
 not_checkpointed v t seat c stamp fits did = fits
 
 pub answers_to : (v : View) (l : ScriptLine) (a : Answer) (t : View) → DidLine v l a t → refusal_of (phase_at v l.session) l.command ≡ None → IsAnswerTo l.command a

@@ -1,4 +1,6 @@
 pub mod Answered
+pub mod AtPlaces
+pub mod Begins
 pub mod Begun
 pub mod Beside
 pub mod Causes
@@ -13,14 +15,18 @@ pub mod Logged
 pub mod Made
 pub mod Moments
 pub mod Moves
+pub mod Numbers
 pub mod Operated
+pub mod Ordered
 pub mod Own
 pub mod Placed
 pub mod Quiet
 pub mod Refused
 pub mod Refusals
 pub mod Runs
+pub mod Safe
 pub mod Shown
+pub mod Snapshots
 pub mod Tables
 pub mod Together
 pub mod Waits

@@ -16,14 +16,14 @@ use Rattle.erm_script.specs.declared.script.Command.TheVariants as command
 use Rattle.erm_script.specs.declared.script.ScriptLine.{ScriptLine}
 use Rattle.erm_world.specs.Laws.{IsSerializable}
 use Rattle.erm_world.specs.Snapshots.{snapshot_not_sealed}
-use Rattle.erm_world.specs.World.{Fate, Finished, HasStamp, IsSession, Session, Stand, View, Work, phase_at, size_of}
+use Rattle.erm_world.specs.World.{Fate, Finished, HasStamp, IsSession, Stand, View, Work, phase_at, size_of}
 use Rattle.erm_world.specs.World as world
 use Rattle.erm_good_report.specs.Opening.{InTurn, Opening}
 use Rattle.erm_good_report.specs.Phases.{Closed, IsAnswerTo, phase_after, refusal_in}
 use Rattle.erm_good_report.specs.Phases as report
 use Rattle.erm_good_report.specs.Refusals.{HasLogCause, HasUnfilledCause, IsAboveAll, IsLeastUndecided, IsSealedWith, IsUndecidedAt, Moment, NoneIsSealed, flushed_at, flushed_told, last_commit, moment_at, stamp_committed}
-use Rattle.erm_good_report.specs.Transactions.{Aborts, Commits, Ending, Excludes, Progress, Said, Transaction, Unfinished, heard, nothing, progress_of, stamp_of, stamp_of_ending}
-use Rattle.erm_lines.specs.Answers.{DidAskDurable, DidCommand, DidLine, IsCommitted, IsLastCommit}
+use Rattle.erm_good_report.specs.Transactions.{Aborts, Commits, Ending, Excludes, Progress, Said, Snapshot, Transaction, Unfinished, heard, nothing, progress_of, stamp_of, stamp_of_ending}
+use Rattle.erm_lines.specs.Answers.{DidAskDurable, DidIn, DidLine, IsCommitted, IsLastCommit}
 use Rattle.erm_lines.specs.Executions.{AreClosed, DidLog, DidLogLine, IsCourse, IsDecidedTo, IsExecution, IsOpeningOf, IsPendingAt, line_moves, move_of, said_in}
 use Rattle.erm_lines.specs.Laws.{ExecutionsGoOn, ExecutionsTell}
 use Rattle.erm_lines.specs.Told.{EndsAs, Tells, TellsCurrent, TellsOver}
@@ -31,6 +31,7 @@ use Rattle.erm_lines.proofs.Moved.{moved, said_move}
 use Rattle.erm_told.proofs.Ended.{reported}
 use Rattle.erm_told.proofs.Endings.{ending_stamp}
 use Rattle.erm_told.proofs.Executed.{hears, still_session, turns}
+use Rattle.erm_told.proofs.Lines.{in_either}
 use Rattle.erm_told.proofs.Reported.{told_at}
 use Rattle.erm_told.proofs.Runs.{AtLine, said_first, serializable_then}
 use Rattle.erm_told.proofs.Sealing.{line_tells, sealed_with, there}
@@ -39,6 +40,7 @@ use Rattle.erm_causes.proofs.Flushed.{answers_to, lines_told}
 use Rattle.erm_causes.proofs.Moves.{move_opening}
 use Rattle.erm_causes.proofs.Placed.{Placed, lines_placed, opened_placed}
 use Rattle.erm_causes.proofs.Tables.{run_opening}
+use Rattle.erm_causes.proofs.Together.{commits_stay}
 use Rattle.erm_causes.proofs.Waits.{allowed}
 
 -- THE LAST COMMIT. The report's fold over the transactions that are over.
@@ -63,22 +65,28 @@ committed ending fate stamp succ pred ends is = by ending (subst (λ (f : Fate).
     by (Excludes (Some s) u p) same = absurd same
     by Aborts same = absurd same
 
-pub last_none : (seat : ℕ) (ts : List Transaction) (fs : List Finished) (last : Option ℕ) → TellsOver seat ts fs → ((f : Finished) → f ∈ fs → IsCommitted f.fate → ⊥) → last_in last ts ≡ last
-last_none seat [] fs last tells none = refl
-last_none seat (t ∷ ts) [] last tells none = absurd tells
-last_none seat (t ∷ ts) (f ∷ fs) last tells none =
-    ap (λ (o : Option ℕ). last_in (option_map_or (λ stamp. Some stamp) o last) ts) (uncommitted t.ending f.fate tells.0.ends (none f (∈-head f fs)))
-    ∙ last_none seat ts fs last tells.1 (λ g m. none g (∈-behind f fs g m))
+pub last_none : (seat : ℕ) (ts : List Transaction) (ss : List Snapshot) (fs : List Finished) (last : Option ℕ) → TellsOver seat ts ss fs → ((f : Finished) → f ∈ fs → IsCommitted f.fate → ⊥)
+    → last_in last ts ≡ last
+last_none seat ts ss [] last tells none = ap (λ (list : List Transaction). last_in last list) tells.0
+last_none seat ts ss (f ∷ fs) last (inl (t, us, is, one, rest)) none =
+    ap (λ (list : List Transaction). last_in last list) is
+    ∙ ap (λ (o : Option ℕ). last_in (option_map_or (λ stamp. Some stamp) o last) us) (uncommitted t.ending f.fate one.ends (none f (∈-head f fs)))
+    ∙ last_none seat us ss fs last rest (λ g m. none g (∈-behind f fs g m))
+last_none seat ts ss (f ∷ fs) last (inr (s, more, is, one, rest)) none = last_none seat ts more fs last rest (λ g m. none g (∈-behind f fs g m))
 
-pub last_some : (seat : ℕ) (front : List Finished) (ts : List Transaction) (f : Finished) (rest : List Finished) (last : Option ℕ) (stamp succ pred : ℕ) → TellsOver seat ts (front ++ f ∷ rest)
-    → f.fate ≡ world.commits stamp succ pred → ((g : Finished) → g ∈ rest → IsCommitted g.fate → ⊥) → last_in last ts ≡ Some stamp
-last_some seat [] [] f rest last stamp succ pred tells is none = absurd tells
-last_some seat [] (t ∷ ts) f rest last stamp succ pred tells is none =
-    ap (λ (o : Option ℕ). last_in (option_map_or (λ n. Some n) o last) ts) (committed t.ending f.fate stamp succ pred tells.0.ends is)
-    ∙ last_none seat ts rest (Some stamp) tells.1 none
-last_some seat (g ∷ front) [] f rest last stamp succ pred tells is none = absurd tells
-last_some seat (g ∷ front) (t ∷ ts) f rest last stamp succ pred tells is none =
-    last_some seat front ts f rest (option_map_or (λ n. Some n) (stamp_committed t.ending) last) stamp succ pred tells.1 is none
+pub last_some : (seat : ℕ) (front : List Finished) (ts : List Transaction) (ss : List Snapshot) (f : Finished) (rest : List Finished) (last : Option ℕ) (stamp succ pred : ℕ)
+    → TellsOver seat ts ss (front ++ f ∷ rest) → f.fate ≡ world.commits stamp succ pred → ((g : Finished) → g ∈ rest → IsCommitted g.fate → ⊥) → last_in last ts ≡ Some stamp
+last_some seat [] ts ss f rest last stamp succ pred (inl (t, us, at, one, told)) is none =
+    ap (λ (list : List Transaction). last_in last list) at
+    ∙ ap (λ (o : Option ℕ). last_in (option_map_or (λ n. Some n) o last) us) (committed t.ending f.fate stamp succ pred one.ends is)
+    ∙ last_none seat us ss rest (Some stamp) told none
+last_some seat [] ts ss f rest last stamp succ pred (inr (s, more, at, one, told)) is none =
+    absurd (commits_stay stamp succ pred (sym is ∙ one.aborted))
+last_some seat (g ∷ front) ts ss f rest last stamp succ pred (inl (t, us, at, one, told)) is none =
+    ap (λ (list : List Transaction). last_in last list) at
+    ∙ last_some seat front us ss f rest (option_map_or (λ n. Some n) (stamp_committed t.ending) last) stamp succ pred told is none
+last_some seat (g ∷ front) ts ss f rest last stamp succ pred (inr (s, more, at, one, told)) is none =
+    last_some seat front ts more f rest last stamp succ pred told is none
 
 -- its stamp is that of the transaction's block, which isn't empty
 last_has : (v : View) (seat stamp end : ℕ) → IsLastCommit (v.session seat).over stamp end → (w : Work) × HasStamp v seat w stamp × (end ≡ stamp + size_of w)
@@ -137,7 +145,7 @@ lines_nothing (l ∷ script) (a ∷ answers) v t (u, did, holds, rest) q none =
     )
 
 -- whether a number is a session's
-some_session : (v : View) (q : ℕ) → IsSession v q ⊎ (IsSession v q → ⊥)
+pub some_session : (v : View) (q : ℕ) → IsSession v q ⊎ (IsSession v q → ⊥)
 some_session v q = by (cases_lt 0 q) (cases_lt v.opening.sessions q)
   where
     by : (0 < q) ⊎ (q ≤ 0) → (v.opening.sessions < q) ⊎ (q ≤ v.opening.sessions) → IsSession v q ⊎ (IsSession v q → ⊥)
@@ -261,8 +269,8 @@ module _ (tell : ExecutionsTell) (go : ExecutionsGoOn) (v t : View) (script : Li
     where
       over : (y ∈ (progress_of q m.before).over) → stamp_of_ending y.ending ≡ Some stamp → IsSession b q ⊎ (IsSession b q → ⊥) → stamp < b.tail
       over within is (inl session) =
-          let found = told_at q (progress_of q m.before).over (b.session q).over within.0 y (told_there q session).0.over within.1 in
-          below_tail q found.0.work stamp session (inl (found.0, (within.0, found.1), refl, ending_stamp y.ending found.0.fate stamp found.2.ends is))
+          let found = told_at q (progress_of q m.before).over (progress_of q m.before).snapshots (b.session q).over y (told_there q session).0.over within in
+          below_tail q found.0.work stamp session (inl (found.0, found.1, refl, ending_stamp y.ending found.0.fate stamp found.2.ends is))
       over within is (inr none) = absurd (none_in_nil y (subst (λ (p : Progress). y ∈ p.over) (nothing_there q none).0 within))
 
       by : ((y ∈ (progress_of q m.before).over) × (stamp_of_ending y.ending ≡ Some stamp))
@@ -302,8 +310,8 @@ module _ (tell : ExecutionsTell) (go : ExecutionsGoOn) (v t : View) (script : Li
   module _ (session : IsSession b l.session) where
     last_is : (stamp end : ℕ) → IsLastCommit (b.session l.session).over stamp end → last_commit m ≡ Some stamp
     last_is stamp end is =
-        last_some l.session is.front (progress_of l.session m.before).over is.last is.rest None stamp is.commits.0 is.commits.1
-        (subst (λ (fs : List Finished). TellsOver l.session (progress_of l.session m.before).over fs) is.split (told_there l.session session).0.over) is.commits.2 is.none
+        last_some l.session is.front (progress_of l.session m.before).over (progress_of l.session m.before).snapshots is.last is.rest None stamp is.commits.0 is.commits.1
+        (subst (λ (fs : List Finished). TellsOver l.session (progress_of l.session m.before).over (progress_of l.session m.before).snapshots fs) is.split (told_there l.session session).0.over) is.commits.2 is.none
 
     asked : (d : Answer) → DidAskDurable b l.session d after → HasLogCause m d × HasUnfilledCause m command.Durable d
     asked (answer.Durable stamp) (same, (end, is, flushed)) =
@@ -316,13 +324,15 @@ module _ (tell : ExecutionsTell) (go : ExecutionsGoOn) (v t : View) (script : Li
         before : (w : Work) → HasStamp b l.session w stamp → end ≡ stamp + size_of w → (b.flushed ≤ stamp) ⊎ (stamp + size_of w ≤ b.flushed) → flushed ≤ stamp
         before w has ends (inl below) = omega (arith, place, below)
         before w has ends (inr above) = absurd (omega (arith, ends, above, beyond))
-    asked answer.NoReceipt (same, none) = (last_none l.session (progress_of l.session m.before).over (b.session l.session).over None (told_there l.session session).0.over none, tt)
+    asked answer.NoReceipt (same, none) =
+        (last_none l.session (progress_of l.session m.before).over (progress_of l.session m.before).snapshots (b.session l.session).over None (told_there l.session session).0.over none, tt)
     asked d did = absurd did
 
-    commanded : (c : Command) (d : Answer) → IsOfLog d → IsAnswerTo c d → DidCommand b l.session c d after → HasLogCause m d × HasUnfilledCause m c d
-    commanded command.Durable d is fits did = asked d did
-    commanded command.Flush d is fits did = absurd did
-    commanded command.Checkpoint d is fits did = absurd did
+    commanded : (c : Command) (d : Answer) → IsOfLog d → IsAnswerTo c d → DidIn (phase_at b l.session) b l.session c d after → HasLogCause m d × HasUnfilledCause m c d
+    commanded command.Durable d is fits did =
+        in_either (HasLogCause m d × HasUnfilledCause m command.Durable d) b after l.session command.Durable d (λ plain done. asked d done) (λ has done. asked d done) did
+    commanded command.Flush d is fits did = absurd (in_either ⊥ b after l.session command.Flush d (λ plain done. done) (λ has done. done) did)
+    commanded command.Checkpoint d is fits did = absurd (in_either ⊥ b after l.session command.Checkpoint d (λ plain done. done) (λ has done. done) did)
     commanded c (answer.Durable stamp) is fits did = absurd fits
     commanded c (answer.NotFlushed flushed) is fits did = absurd fits
     commanded c answer.NoReceipt is fits did = absurd fits

@@ -1,10 +1,11 @@
 -- The world in which a line of a run was run, and what was told of it by then.
-use Rattle.std.proofs.Common.{◌≡◌, ℕ, zero, suc, ◌<◌, List, [], ◌∷◌, ◌++◌, Option, Some, None, take, slice_get, refl, sym, ap, ◌∙◌, subst}
+use Rattle.std.proofs.Common.{◌≡◌, ℕ, zero, suc, ◌<◌, true, List, [], ◌∷◌, ◌++◌, Option, Some, None, take, slice_get, refl, sym, ap, ◌∙◌, subst}
 use Rattle.erm_node.specs.Sound.{sound_law}
 use Rattle.erm_report.specs.declared.answer.Answer.{Answer}
 use Rattle.erm_script.specs.declared.script.ScriptLine.{ScriptLine}
 use Rattle.erm_world.specs.Laws.{IsSerializable}
-use Rattle.erm_world.specs.World.{IsCurrent, IsSession, Session, Stand, View, Work, made_by_all, phase_at, work_of}
+use Rattle.erm_world.specs.Works.{is_claimed}
+use Rattle.erm_world.specs.World.{IsCurrent, IsWorking, Stand, View, Work, made_by_all}
 use Rattle.erm_world.specs.World as world
 use Rattle.erm_good_report.specs.Transactions.{Transaction, table_of}
 use Rattle.erm_lines.specs.Executions.{DidMove, IsExecution, Move, line_moves, move_of}
@@ -70,7 +71,7 @@ pub record NowTold (table : ℕ → ℕ) (seat : ℕ) (current : Option Transact
   pub tells : TellsCurrent seat told w
   pub touches : Touches table told w
 
-pub now_told : (table : ℕ → ℕ) (seat : ℕ) (current : Option Transaction) (stand : Stand) (w : Work) → TellsNow seat current stand → FineNow table current stand → IsCurrent stand w
+pub now_told : (table : ℕ → ℕ) (seat : ℕ) (current : Option Transaction) (stand : Stand) (w : Work) → TellsNow seat current stand → FineNow table current stand → IsWorking stand w
     → NowTold table seat current w
 now_told table seat current world.idle w tells fine is = absurd is
 now_told table seat None (world.active u) w tells fine is = absurd tells
@@ -79,11 +80,21 @@ now_told table seat (Some t) (world.active u) w tells fine is =
     subst (λ (x : Work). NowTold table seat (Some t) x) is (record { told = t; is = refl; tells = tells.0; touches = fine.0 })
 now_told table seat (Some t) (world.sealed u stamp) w tells fine is =
     subst (λ (x : Work). NowTold table seat (Some t) x) is (record { told = t; is = refl; tells = tells.0; touches = fine.0 })
-now_told table seat None (world.snapshot s) w tells fine is = absurd tells
-now_told table seat (Some t) (world.snapshot s) w tells fine is = absurd tells
+now_told table seat current (world.snapshot s) w tells fine is = absurd is
 
-pub current_of_sealed : (stand : Stand) (w : Work) (stamp : ℕ) → stand ≡ world.sealed w stamp → IsCurrent stand w
-current_of_sealed stand w stamp is = subst (λ (at : Stand). IsCurrent at w) (sym is) refl
+pub current_of_sealed : (stand : Stand) (w : Work) (stamp : ℕ) → stand ≡ world.sealed w stamp → IsWorking stand w
+current_of_sealed stand w stamp is = subst (λ (at : Stand). IsWorking at w) (sym is) refl
+
+pub current_of_active : (stand : Stand) (w : Work) → stand ≡ world.active w → IsWorking stand w
+current_of_active stand w is = subst (λ (at : Stand). IsWorking at w) (sym is) refl
+
+-- one that has claimed an object is no snapshot
+pub claims_work : (stand : Stand) (w : Work) (oid : ℕ) → IsCurrent stand w → is_claimed w.claims oid ≡ true → IsWorking stand w
+claims_work world.idle w oid current claims = absurd current
+claims_work (world.active u) w oid current claims = current
+claims_work (world.sealed u stamp) w oid current claims = current
+claims_work (world.snapshot s) w oid current claims =
+    let no : is_claimed [] oid ≡ true = subst (λ (x : Work). is_claimed x.claims oid ≡ true) (sym current) claims in absurd (cc)
 
 pub the_told : (current : Option Transaction) (t u : Transaction) → current ≡ Some t → current ≡ Some u → t ≡ u
 the_told current t u first second = cc

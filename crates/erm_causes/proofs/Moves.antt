@@ -7,31 +7,40 @@ use Rattle.erm_model.specs.declared.outcome.Phase.TheVariants.{Active}
 use Rattle.erm_model.specs.History.{History}
 use Rattle.erm_model.specs.Lawful.{times_made}
 use Rattle.erm_model.specs.Member.{◌∈◌}
+use Rattle.erm_model.specs.Run.{Step}
 use Rattle.erm_node.specs.Sound.{sound_law}
 use Rattle.erm_world.specs.Calls.{DidSeal, IsDone, Works}
+use Rattle.erm_world.specs.Going.{Extends}
 use Rattle.erm_world.specs.Laws.{IsCommitOf, IsSerializable}
-use Rattle.erm_world.specs.World.{Fate, IsSession, Session, Stand, View, Work, history_of, made_by_all, made_in, made_upto, phase_at, phase_of, work_at, work_of}
+use Rattle.erm_world.specs.World.{Fate, Finished, IsSession, Session, Stand, View, Work, history_of, made_by_all, made_in, made_upto, phase_at, phase_of, work_at, work_of}
 use Rattle.erm_world.specs.World as world
 use Rattle.erm_world.proofs.Commits.{tells_commits}
-use Rattle.erm_maps.specs.Runs.{IsRunOf}
+use Rattle.erm_maps.specs.Runs.{IsAnswered, IsRunOf}
 use Rattle.erm_report.specs.declared.answer.Answer.{Answer}
 use Rattle.erm_script.specs.declared.script.Command.{Command}
 use Rattle.erm_script.specs.declared.script.Command.TheVariants as command
 use Rattle.erm_script.specs.declared.script.ScriptLine.{ScriptLine}
 use Rattle.erm_script.specs.Script.{IsInRange}
-use Rattle.erm_good_report.specs.Transactions.{Ending, Progress, Transaction, ended, heard, table_of, with_ending}
-use Rattle.erm_lines.specs.Executions.{DidFlush, DidMove, Move, close, flush, line, log, move_as, move_of}
+use Rattle.erm_good_report.specs.Transactions.{Ending, Progress, Transaction, ended, heard, nothing, table_of, with_ending}
+use Rattle.erm_lines.specs.Executions.{DidFlush, DidMove, IsOpened, Move, close, flush, line, log, move_as, move_of}
+use Rattle.erm_lines.specs.Told.{Tells, TellsNow}
 use Rattle.erm_lines.proofs.Moved.{log_flushes, log_of_none}
+use Rattle.erm_told.proofs.Executed.{knows_logged, knows_start, knows_still, knows_turn}
+use Rattle.erm_told.proofs.Lines.{turn_end, turn_line}
+use Rattle.erm_told.proofs.Sessions.{sealed_untold}
+use Rattle.erm_told_limits.proofs.Ran.{active_with}
 use Rattle.erm_causes.specs.Touched.{AreOfTables, Touches, WasClosed}
 use Rattle.erm_causes.proofs.Answered.{done_turned, now_active, operated_fine, operated_made, operated_turned}
 use Rattle.erm_causes.proofs.Begun.{CommitsKeep}
 use Rattle.erm_causes.proofs.Coloured.{KeepsTables}
-use Rattle.erm_causes.proofs.Fine.{FineNow, FineOne, FineOver, IsFine, Turned, history_grows, over_keeps, over_later, still_session, touches_nothing, touches_same, turned_then}
-use Rattle.erm_causes.proofs.Together.{together_one_more}
+use Rattle.erm_causes.proofs.Fine.{FineNow, FineOne, FineOver, IsFine, Turned, history_grows, number_told, over_keeps, over_later, still_session, touches_nothing, touches_same, turned_then}
+use Rattle.erm_causes.proofs.Together.{together_one_more, together_untold}
 use Rattle.erm_causes.proofs.Made.{made_by_one, made_done}
 use Rattle.erm_causes.proofs.Own.{TreeLaws}
-use Rattle.erm_causes.proofs.Quiet.{HasNow, Lined, Quiet, SameLines, SameNow, closed_quiet, lined}
+use Rattle.erm_causes.proofs.Quiet.{HasNow, Lined, Quiet, SameLines, SameNow, closed_quiet, lined, now_works}
 use Rattle.erm_causes.proofs.Quiet as quiet
+use Rattle.erm_causes.proofs.Snapshots.{LeavesNone, Starts, Watches, none_made, none_told}
+use Rattle.erm_causes.proofs.Snapshots as snapshots
 use Rattle.erm_told_limits.proofs.Given.{HistoryLaws}
 
 -- QUIET MOVES. The session goes on, and nothing is made.
@@ -55,11 +64,17 @@ itself_turned v t seat is = record {
 seal_turned : (v t : View) (seat stamp : ℕ) → DidSeal v seat stamp t → Turned v seat t
 seal_turned v t seat stamp did = own_turned v t seat (world.sealed (work_at v seat) stamp) did.own did.others did.opening
 
-quiet_turned : (v : View) (seat : ℕ) (asked : Option Command) (a : Answer) (t : View) → Quiet v seat asked a t → Turned v seat t
+pub watched_turned : (v t : View) (seat : ℕ) → Watches v seat t → Turned v seat t
+watched_turned v t seat (snapshots.looks is) = itself_turned v t seat is
+watched_turned v t seat (snapshots.watches x did) = own_turned v t seat (world.snapshot x) did.own did.others did.opening
+watched_turned v t seat (snapshots.ends number begin did) = done_turned v t seat (world.begun number begin) world.aborts did
+
+pub quiet_turned : (v : View) (seat : ℕ) (asked : Option Command) (a : Answer) (t : View) → Quiet v seat asked a t → Turned v seat t
 quiet_turned v seat asked a t (quiet.still is hears) = itself_turned v t seat is
-quiet_turned v seat asked a t (quiet.begins number begin idle works hears) = own_turned v t seat (world.active (world.begun number begin)) works.own works.others works.opening
+quiet_turned v seat asked a t (quiet.begins number begin idle room works hears) = own_turned v t seat (world.active (world.begun number begin)) works.own works.others works.opening
 quiet_turned v seat asked a t (quiet.seals stamp active did hears) = seal_turned v t seat stamp did
 quiet_turned v seat asked a t (quiet.done w fate ending now did closed hears) = done_turned v t seat w fate did
+quiet_turned v seat asked a t (quiet.watched starts did hears) = watched_turned v t seat did
 
 seal_made : (v t : View) (seat stamp : ℕ) → IsSession v seat → DidSeal v seat stamp t → (x : ℕ) → made_by_all t x ≡ made_by_all v x
 seal_made v t seat stamp session did x =
@@ -69,15 +84,23 @@ pub work_now : (stand : Stand) (w : Work) → HasNow stand w → work_of stand �
 work_now stand w (inl active) = ap work_of active
 work_now stand w (inr (stamp, sealed)) = ap work_of sealed
 
+watched_made : (v t : View) (seat : ℕ) → IsSession v seat → Starts v seat → Watches v seat t → (x : ℕ) → made_by_all t x ≡ made_by_all v x
+watched_made v t seat session starts (snapshots.looks is) x = ap (λ (y : View). made_by_all y x) is
+watched_made v t seat session starts (snapshots.watches y did) x =
+    omega (arith, made_by_one v t seat x session did.others did.opening, ap (λ (s : Session). made_in s x) did.own, none_made v seat x starts)
+watched_made v t seat session starts (snapshots.ends number begin did) x =
+    omega (arith, made_by_one v t seat x session did.others did.opening, made_done v t seat (world.begun number begin) world.aborts x did, none_made v seat x starts)
+
 quiet_made : (v : View) (seat : ℕ) (asked : Option Command) (a : Answer) (t : View) → IsSession v seat → Quiet v seat asked a t → (x : ℕ) → made_by_all t x ≡ made_by_all v x
 quiet_made v seat asked a t session (quiet.still is hears) x = ap (λ (y : View). made_by_all y x) is
-quiet_made v seat asked a t session (quiet.begins number begin idle works hears) x =
+quiet_made v seat asked a t session (quiet.begins number begin idle room works hears) x =
     let none : times_made (work_of (v.session seat).stand).made x ≡ 0 = ap (λ (stand : Stand). times_made (work_of stand).made x) idle in
     omega (arith, made_by_one v t seat x session works.others works.opening, ap (λ (s : Session). made_in s x) works.own, none)
 quiet_made v seat asked a t session (quiet.seals stamp active did hears) x = seal_made v t seat stamp session did x
 quiet_made v seat asked a t session (quiet.done w fate ending now did closed hears) x =
     let same : times_made (work_at v seat).made x ≡ times_made w.made x = ap (λ (y : Work). times_made y.made x) (work_now (v.session seat).stand w now) in
     omega (arith, made_by_one v t seat x session did.others did.opening, made_done v t seat w fate x did, same)
+quiet_made v seat asked a t session (quiet.watched starts did hears) x = watched_made v t seat session starts did x
 
 -- FINE. And its transactions touch what they did.
 module _ (table : ℕ → ℕ) where
@@ -115,7 +138,8 @@ module _ (table : ℕ → ℕ) where
   now_has (Some t) (world.sealed u stamp) w now has =
       let same : u ≡ w = work_now (world.sealed u stamp) w has in
       record { told = t; is = refl; touches = subst (λ (x : Work). Touches table t x) same now.0; keeps = subst (λ (x : Work). KeepsTables table x) same now.1 }
-  now_has None (world.snapshot s) w now has = absurd now
+  now_has None (world.snapshot s) w now (inl active) = cc
+  now_has None (world.snapshot s) w now (inr (stamp, sealed)) = cc
   now_has (Some t) (world.snapshot s) w now has = absurd now
 
   seal_now : (current : Option Transaction) (stand : Stand) (stamp : ℕ) → phase_of stand ≡ Active → FineNow table current stand → FineNow table current (world.sealed (work_of stand) stamp)
@@ -131,41 +155,71 @@ module _ (table : ℕ → ℕ) where
   })
 
   begun_fine : (v t : View) (seat number begin : ℕ) (p : Progress) (told : Transaction) → IsRunOf (world.begun number begin) [] → Works v seat (world.begun number begin) t
-      → IsFine table (history_of v) p (v.session seat) → IsFine table (history_of t) (record { over = p.over; current = Some told }) (t.session seat)
-  begun_fine v t seat number begin p told run works fine = subst (λ (s : Session). IsFine table (history_of t) (record { over = p.over; current = Some told }) s) (sym works.own) (record {
+      → IsFine table (history_of v) p (v.session seat) → IsFine table (history_of t) (record p { current = Some told }) (t.session seat)
+  begun_fine v t seat number begin p told run works fine = subst (λ (s : Session). IsFine table (history_of t) (record p { current = Some told }) s) (sym works.own) (record {
     over = over_later table (history_of v) (history_of t)
         (history_grows v t seat (own_turned v t seat (world.active (world.begun number begin)) works.own works.others works.opening)) p.over (v.session seat).over fine.over;
     now = (touches_nothing table told number begin, (λ rows sound fits are. are), ([], run));
   })
 
   done_fine : (v t : View) (seat : ℕ) (w : Work) (fate : Fate) (ending : Ending) (p : Progress) → HasNow (v.session seat).stand w → IsDone v seat w fate t → WasClosed (history_of t) ending w
-      → IsFine table (history_of v) p (v.session seat) → IsFine table (history_of t) (ended ending p) (t.session seat)
-  done_fine v t seat w fate ending p has did closed fine =
+      → TellsNow seat p.current (v.session seat).stand → IsFine table (history_of v) p (v.session seat) → IsFine table (history_of t) (ended ending p) (t.session seat)
+  done_fine v t seat w fate ending p has did closed tells fine =
       let now = now_has p.current (v.session seat).stand w fine.now has in
       let over = over_later table (history_of v) (history_of t) (history_grows v t seat (done_turned v t seat w fate did)) p.over (v.session seat).over fine.over in
+      let number = number_told seat p.current (v.session seat).stand w now.told tells (now_works (v.session seat).stand w has) now.is in
       let one : FineOne table (history_of t) (with_ending ending now.told) (record { work = w; fate = fate }) = record {
         one = record { touches = touches_same table now.told (with_ending ending now.told) w refl now.touches; closed = closed };
         keeps = λ stamp at. now.keeps;
       } in
       subst (λ (s : Session). IsFine table (history_of t) (ended ending p) s) (sym did.own) (record {
         over = subst (λ (r : Option Transaction). FineOver table (history_of t) (p.over ++ option_to_list (option_map (with_ending ending) r)) ((v.session seat).over ++ record { work = w; fate = fate } ∷ []))
-            (sym now.is) (together_one_more (FineOne table (history_of t)) p.over (v.session seat).over _ _ over one);
+            (sym now.is) (together_one_more (FineOne table (history_of t)) p.over (v.session seat).over (with_ending ending now.told) (record { work = w; fate = fate }) over number one);
         now = tt;
       })
 
+  -- a session without a transaction
+  none_fine : (h : History) (p : Progress) (s : Session) (ts : List Transaction) (current : Option Transaction) → p.over ≡ ts → p.current ≡ current → FineOver table h ts s.over
+      → FineNow table current s.stand → IsFine table h p s
+  none_fine h p s ts current over now so_over so_now = record {
+    over = subst (λ (list : List Transaction). FineOver table h list s.over) (sym over) so_over;
+    now = subst (λ (o : Option Transaction). FineNow table o s.stand) (sym now) so_now;
+  }
+
+  watched_fine : (v t : View) (seat : ℕ) (asked : Option Command) (a : Answer) (p : Progress) → Watches v seat t → LeavesNone asked a → p.current ≡ None
+      → IsFine table (history_of v) p (v.session seat) → IsFine table (history_of t) (heard seat asked a p) (t.session seat)
+  watched_fine v t seat asked a p (snapshots.looks is) hears none fine =
+      let heard_is = hears seat p none in
+      subst (λ (x : View). IsFine table (history_of x) (heard seat asked a p) (x.session seat)) (sym is)
+      (none_fine (history_of v) (heard seat asked a p) (v.session seat) p.over p.current heard_is.0 (heard_is.1 ∙ sym none) fine.over fine.now)
+  watched_fine v t seat asked a p (snapshots.watches x did) hears none fine =
+      let heard_is = hears seat p none in
+      subst (λ (s : Session). IsFine table (history_of t) (heard seat asked a p) s) (sym did.own)
+      (none_fine (history_of t) (heard seat asked a p) (record { over = (v.session seat).over; stand = world.snapshot x }) p.over None heard_is.0 heard_is.1
+      (over_later table (history_of v) (history_of t) (history_grows v t seat (watched_turned v t seat (snapshots.watches x did))) p.over (v.session seat).over fine.over) tt)
+  watched_fine v t seat asked a p (snapshots.ends number begin did) hears none fine =
+      let heard_is = hears seat p none in
+      let f : Finished = record { work = world.begun number begin; fate = world.aborts } in
+      subst (λ (s : Session). IsFine table (history_of t) (heard seat asked a p) s) (sym did.own)
+      (none_fine (history_of t) (heard seat asked a p) (record { over = (v.session seat).over ++ f ∷ []; stand = world.idle }) p.over None heard_is.0 heard_is.1
+      (together_untold (FineOne table (history_of t)) p.over (v.session seat).over f
+      (over_later table (history_of v) (history_of t) (history_grows v t seat (watched_turned v t seat (snapshots.ends number begin did))) p.over (v.session seat).over fine.over) refl) tt)
+
   quiet_fine : ((number begin : ℕ) → IsRunOf (world.begun number begin) []) → (v : View) (seat : ℕ) (asked : Option Command) (a : Answer) (t : View) (p : Progress) → IsSerializable sound_law t
-      → Quiet v seat asked a t → IsFine table (history_of v) p (v.session seat) → IsFine table (history_of t) (heard seat asked a p) (t.session seat)
-  quiet_fine run v seat asked a t p holds (quiet.still is hears) fine =
+      → TellsNow seat p.current (v.session seat).stand → Quiet v seat asked a t → IsFine table (history_of v) p (v.session seat) → IsFine table (history_of t) (heard seat asked a p) (t.session seat)
+  quiet_fine run v seat asked a t p holds tells (quiet.still is hears) fine =
       subst (λ (x : View). IsFine table (history_of x) (heard seat asked a p) (x.session seat)) (sym is)
       (same_fine (history_of v) p (heard seat asked a p) (v.session seat) (hears seat p) fine)
-  quiet_fine run v seat asked a t p holds (quiet.begins number begin idle works hears) fine =
+  quiet_fine run v seat asked a t p holds tells (quiet.begins number begin idle room works hears) fine =
       let heard_is = hears seat p in
       subst (λ (q : Progress). IsFine table (history_of t) q (t.session seat)) (sym heard_is.1)
       (begun_fine v t seat number begin p heard_is.0 (run number begin) works fine)
-  quiet_fine run v seat asked a t p holds (quiet.seals stamp active did hears) fine =
+  quiet_fine run v seat asked a t p holds tells (quiet.seals stamp active did hears) fine =
       same_fine (history_of t) p (heard seat asked a p) (t.session seat) (hears seat p) (seal_fine v t seat stamp p active did fine)
-  quiet_fine run v seat asked a t p holds (quiet.done w fate ending now did closed hears) fine =
-      subst (λ (q : Progress). IsFine table (history_of t) q (t.session seat)) (sym (hears seat p)) (done_fine v t seat w fate ending p now did (closed holds) fine)
+  quiet_fine run v seat asked a t p holds tells (quiet.done w fate ending now did closed hears) fine =
+      subst (λ (q : Progress). IsFine table (history_of t) q (t.session seat)) (sym (hears seat p)) (done_fine v t seat w fate ending p now did (closed holds) tells fine)
+  quiet_fine run v seat asked a t p holds tells (quiet.watched starts did hears) fine =
+      watched_fine v t seat asked a p did hears (none_told v seat p.current starts tells) fine
 
 -- SESSIONS. What is said is heard of its session alone.
 abbrev pub heard_one : ℕ → Option Command → Answer → (ℕ → Progress) → ℕ → Progress
@@ -180,6 +234,10 @@ heard_move flush p = p
 -- all sessions of a world are so
 abbrev pub AllFine : (ℕ → ℕ) → (ℕ → Progress) → View → Type 0
 AllFine table p v = (q : ℕ) → IsSession v q → IsFine table (history_of v) (p q) (v.session q)
+
+-- and what is told of them is so
+abbrev pub AllTold : (ℕ → Progress) → View → Type 0
+AllTold p v = (q : ℕ) → IsSession v q → Tells q (p q) (v.session q)
 
 pub session_before : (v t : View) (q : ℕ) → t.opening ≡ v.opening → IsSession t q → IsSession v q
 session_before v t q opening session = subst (λ (o : world.Opening). (0 < q) × (q ≤ o.sessions)) opening session
@@ -242,7 +300,7 @@ move_made v (log l a) t did x = omega (arith, flushed_made v t (log_flushes v t 
 move_made v (close seat a) t did x = omega (arith, quiet_made v seat None a t did.session (closed_quiet v seat a t did) x)
 move_made v flush t did x = omega (arith, flushed_made v t did x)
 
-lined_turned : (v t : View) (seat : ℕ) (c : Command) (a : Answer) → Lined v seat c a t → Turned v seat t
+pub lined_turned : (v t : View) (seat : ℕ) (c : Command) (a : Answer) → Lined v seat c a t → Turned v seat t
 lined_turned v t seat c a (quiet.quiet did) = quiet_turned v seat (Some c) a t did
 lined_turned v t seat c a (quiet.sealed_first stamp between active sealed did) =
     turned_then v between t seat (seal_turned v between seat stamp sealed) (quiet_turned between seat (Some c) a t did)
@@ -284,15 +342,41 @@ move_range l a range = by l.command
     by command.Checkpoint = range
     by c = range
 
+-- WHAT IS TOLD goes on with a seal, and with each move.
+pub seal_told : (v t : View) (seat stamp : ℕ) (p : Progress) → phase_at v seat ≡ Active → DidSeal v seat stamp t → TellsNow seat p.current (v.session seat).stand → TellsNow seat p.current (t.session seat).stand
+seal_told v t seat stamp p active did tells =
+    subst (λ (s : Session). TellsNow seat p.current s.stand) (sym did.own)
+    (sealed_untold seat stamp p.current (work_at v seat) (subst (λ (at : Stand). TellsNow seat p.current at) (active_with (v.session seat).stand active) tells))
+
+pub opened_told : (v : View) → IsOpened v → AllTold (λ q. nothing) v
+opened_told v opened q session = (knows_start v q (opened.idle q session)).tells
+
+module _ (run : (number begin : ℕ) → IsRunOf (world.begun number begin) []) (stay : (w u : Work) (steps : List Step) → Extends w u → IsAnswered w steps → IsAnswered u steps) where
+  pub move_told : (p : ℕ → Progress) (v : View) (m : Move) (t : View) → AllTold p v → DidMove v m t → AllTold (heard_move m p) t
+  move_told p v (line l a) t told did q session =
+      let turn = turn_line run stay v l a t did in
+      (knows_turn q l.session (Some l.command) a (p q) (phase_at v q) v t turn (record { tells = told q (session_before v t q turn.opening session); phase_is = refl })).tells
+  move_told p v (log l a) t told did q session =
+      let flushes = log_flushes v t l a did in
+      let before = session_before v t q flushes.opening session in
+      (knows_logged q l.session (Some l.command) a (p q) (phase_at v q) v t (log_of_none v t l a q did before.0) (flushes.session q before) (record { tells = told q before; phase_is = refl })).tells
+  move_told p v (close seat a) t told did q session =
+      let turn = turn_end v seat a t did in
+      (knows_turn q seat None a (p q) (phase_at v q) v t turn (record { tells = told q (session_before v t q turn.opening session); phase_is = refl })).tells
+  move_told p v flush t told did q session =
+      let before = session_before v t q did.opening session in
+      (knows_still q (p q) (phase_at v q) v t (did.session q before) (record { tells = told q before; phase_is = refl })).tells
+
 module _ (tree : TreeLaws) (laws : HistoryLaws) (run : (number begin : ℕ) → IsRunOf (world.begun number begin) []) (table : ℕ → ℕ) (p : ℕ → Progress) (v t : View)
-    (holds : IsSerializable sound_law t) (opened : AreOfTables table t.opening.rows) (fine : AllFine table p v) where
+    (holds : IsSerializable sound_law t) (opened : AreOfTables table t.opening.rows) (told : AllTold p v) (fine : AllFine table p v) where
   lined_fine : (seat : ℕ) (c : Command) (a : Answer) → IsSession v seat → IsInRange c → ((k : ℕ) → table_of c ≡ Some k → (x : ℕ) → made_by_all v x < made_by_all t x → table x ≡ k)
       → Lined v seat c a t → IsFine table (history_of t) (heard seat (Some c) a (p seat)) (t.session seat)
-  lined_fine seat c a session range made (quiet.quiet did) = quiet_fine table run v seat (Some c) a t (p seat) holds did (fine seat session)
+  lined_fine seat c a session range made (quiet.quiet did) = quiet_fine table run v seat (Some c) a t (p seat) holds (told seat session).now did (fine seat session)
   lined_fine seat c a session range made (quiet.sealed_first stamp between active sealed did) =
-      quiet_fine table run between seat (Some c) a t (p seat) holds did (seal_fine table v between seat stamp (p seat) active sealed (fine seat session))
+      quiet_fine table run between seat (Some c) a t (p seat) holds (seal_told v between seat stamp (p seat) active sealed (told seat session).now) did
+      (seal_fine table v between seat stamp (p seat) active sealed (fine seat session))
   lined_fine seat c a session range made (quiet.named k names active did) =
-      operated_fine tree laws table v t seat c a k session active names range holds opened (all_keep table p v fine) (made k names) (p seat) (fine seat session) did
+      operated_fine tree laws table v t seat c a k session active names range holds opened (all_keep table p v fine) (made k names) (p seat) (fine seat session) (told seat session).now did
 
   flushed_fine : DidFlush v t → AllFine table p t
   flushed_fine did q session =
@@ -311,7 +395,7 @@ module _ (tree : TreeLaws) (laws : HistoryLaws) (run : (number begin : ℕ) → 
       (flushed_fine (log_flushes v t l a did) q session)
   move_fine (close seat a) did range made =
       let it = closed_quiet v seat a t did in
-      all_turned table p v t seat None a (quiet_turned v seat None a t it) fine (quiet_fine table run v seat None a t (p seat) holds it (fine seat did.session))
+      all_turned table p v t seat None a (quiet_turned v seat None a t it) fine (quiet_fine table run v seat None a t (p seat) holds (told seat did.session).now it (fine seat did.session))
   move_fine flush did range made = flushed_fine did
 
 -- what was committed stays so

@@ -20,12 +20,14 @@ use Rattle.erm_world.specs.World as world
 use Rattle.erm_world.specs.Onward.{goes_itself, goes_then}
 use Rattle.erm_world.proofs.Lists.{∈-parts}
 use Rattle.erm_world.proofs.Txns.{stopped, went}
-use Rattle.erm_good_report.specs.Phases.{refusal_for, refusal_of}
-use Rattle.erm_lines.specs.Answers.{DidAsked, DidCommand, DidDecide, DidLine, DidOperation, WasRefusedAs}
+use Rattle.erm_good_report.specs.Phases.{HasNoSnapshot, NeedsReader, NeedsWriter, refusal_of}
+use Rattle.erm_lines.specs.Answers.{DidAskSnapshot, DidAsked, DidCommand, DidDecide, DidLine, DidOperation, WasRefusedAs}
 use Rattle.erm_lines.specs.Executions.{DidLog, DidLogLine, DidMove, FlushesTo, IsDecidedTo, IsExecution, IsOpened, IsPendingAt, line_moves, move_of}
 use Rattle.erm_lines.specs.Operations.{Ran}
-use Rattle.erm_lines.proofs.Moved.{asked_still, moved}
-use Rattle.erm_causes.proofs.Quiet.{wants_active}
+use Rattle.erm_lines.proofs.Moved.{active_where, asked_still, moved}
+use Rattle.erm_told.proofs.Lines.{in_either}
+use Rattle.erm_causes.proofs.Snapshots.{Watches, line_watches, starts_watches}
+use Rattle.erm_causes.proofs.Snapshots as snapshots
 
 -- The blocks of the transactions that are sealed lie in the log one behind another, up to its end. The place that is flushed lies within none of
 -- them, and what isn't decided is at or behind it.
@@ -139,6 +141,9 @@ one_steps v t seat others opening tail flushed own = record {
 idle_unsealed : (stand : Stand) (w : Work) (s : ℕ) → stand ≡ world.idle → stand ≡ world.sealed w s → ⊥
 idle_unsealed stand w s idle sealed = let no : world.idle ≡ world.sealed w s = sym idle ∙ sealed in cc
 
+snapshot_unsealed : (stand : Stand) (x : world.Snapshot) (w : Work) (s : ℕ) → stand ≡ world.snapshot x → stand ≡ world.sealed w s → ⊥
+snapshot_unsealed stand x w s watched sealed = let no : world.snapshot x ≡ world.sealed w s = sym watched ∙ sealed in cc
+
 active_unsealed : (stand : Stand) (u w : Work) (s : ℕ) → stand ≡ world.active u → stand ≡ world.sealed w s → ⊥
 active_unsealed stand u w s active sealed = let no : world.active u ≡ world.sealed w s = sym active ∙ sealed in cc
 
@@ -154,13 +159,17 @@ the_place s r is = cc
 only_one : (f g : Finished) → f ∈ (g ∷ []) → f ≡ g
 only_one f g m = ⊎_elim (λ (same : g ≡ f). sym same) (λ (later : f ∈ []). absurd (none_in_nil f later)) (∈-cons f g [] m)
 
--- one is active, and what is over stays
-active_sealed : (v t : View) (seat : ℕ) (u : Work) → (t.session seat).stand ≡ world.active u → (t.session seat).over ≡ (v.session seat).over → SealedAs v t seat
-active_sealed v t seat u active over = (stamps, λ w s sealed. absurd (active_unsealed (t.session seat).stand u w s active sealed))
+-- one isn't sealed, and what is over stays
+not_sealed : (v t : View) (seat : ℕ) → ((w : Work) (s : ℕ) → (t.session seat).stand ≡ world.sealed w s → ⊥) → (t.session seat).over ≡ (v.session seat).over → SealedAs v t seat
+not_sealed v t seat never over = (stamps, λ w s sealed. absurd (never w s sealed))
   where
     stamps : (w : Work) (s : ℕ) → HasStamp t seat w s → HasStamp v seat w s ⊎ IsNewAt v t w s
     stamps w s (inl (f, m, work, stamped)) = inl (inl (f, subst (λ (fs : List Finished). f ∈ fs) over m, work, stamped))
-    stamps w s (inr sealed) = absurd (active_unsealed (t.session seat).stand u w s active sealed)
+    stamps w s (inr sealed) = absurd (never w s sealed)
+
+-- one is active
+active_sealed : (v t : View) (seat : ℕ) (u : Work) → (t.session seat).stand ≡ world.active u → (t.session seat).over ≡ (v.session seat).over → SealedAs v t seat
+active_sealed v t seat u active over = not_sealed v t seat (λ w s sealed. active_unsealed (t.session seat).stand u w s active sealed) over
 
 -- one is over: where it has a stamp it was sealed with it
 done_sealed : (v t : View) (seat : ℕ) (u : Work) (fate : Fate) → (t.session seat).stand ≡ world.idle
@@ -189,6 +198,14 @@ is_done v t seat u fate did was =
 
 aborted : (v t : View) (seat : ℕ) (u : Work) → IsDone v seat u world.aborts t → Steps v t
 aborted v t seat u did = is_done v t seat u world.aborts did (λ s is. let no : None ≡ Some s = is in cc)
+
+-- a snapshot goes on, or is over
+watched_steps : (v t : View) (seat : ℕ) → Watches v seat t → Steps v t
+watched_steps v t seat (snapshots.looks is) = still_steps v t is
+watched_steps v t seat (snapshots.watches x did) =
+    one_steps v t seat did.others did.opening (omega (arith, did.tail)) did.flushed
+    (not_sealed v t seat (λ w s sealed. snapshot_unsealed (t.session seat).stand x w s (ap (λ (r : Session). r.stand) did.own) sealed) (ap (λ (r : Session). r.over) did.own))
+watched_steps v t seat (snapshots.ends number begin did) = aborted v t seat (world.begun number begin) did
 
 -- one is sealed at the end of the log
 sealed_steps : (v t : View) (seat stamp : ℕ) → DidSeal v seat stamp t → Steps v t
@@ -260,28 +277,35 @@ module _ (v t : View) (seat : ℕ) (before : Placed v) where
   begun_placed answer.NumbersEnd did = placed_then v t before (still_steps v t did.0)
   begun_placed a did = absurd did
 
-  operation_placed : (c : Command) (a : Answer) → refusal_for (Some Active) (phase_at v seat) ≡ None → DidOperation v seat c a t → Placed t
-  operation_placed c a free did = placed_then v t before (operated_steps v t seat c a (wants_active (phase_at v seat) free) did)
+  safe_placed : (a : Answer) → DidAskSnapshot v seat a t → Placed t
+  safe_placed (answer.LogEnd tail) did = placed_then v t before (still_steps v t did.0)
+  safe_placed answer.NumbersEnd did = placed_then v t before (still_steps v t did.0)
+  safe_placed a did = placed_then v t before (watched_steps v t seat (starts_watches v t seat a did))
 
-  commanded : (c : Command) (a : Answer) → refusal_of (phase_at v seat) c ≡ None → DidCommand v seat c a t → Placed t
-  commanded command.Begin a free did = begun_placed a did
-  commanded command.Seal (answer.Sealed stamp) free did = placed_then v t before (sealed_steps v t seat stamp did)
-  commanded command.Settle a free did = placed_then v t before (decided_steps v t seat a did)
-  commanded command.Commit a free did =
+  operation_placed : (c : Command) (a : Answer) → phase_at v seat ≡ Active → DidOperation v seat c a t → Placed t
+  operation_placed c a active did = placed_then v t before (operated_steps v t seat c a active did)
+
+  commanded : (c : Command) (a : Answer) → refusal_of (phase_at v seat) c ≡ None → HasNoSnapshot (phase_at v seat) → DidCommand v seat c a t → Placed t
+  commanded command.Begin a free plain did = begun_placed a did
+  commanded command.Safe a free plain did = safe_placed a did
+  commanded command.Seal (answer.Sealed stamp) free plain did = placed_then v t before (sealed_steps v t seat stamp did)
+  commanded command.Settle a free plain did = placed_then v t before (decided_steps v t seat a did)
+  commanded command.Commit a free plain did =
       placed_then did.between t (placed_then v did.between before (sealed_steps v did.between seat did.stamp did.sealed)) (decided_steps did.between t seat a did.decided)
-  commanded command.Abort answer.Aborted free did = placed_then v t before (aborted v t seat (work_at v seat) did)
-  commanded (command.Get k key) a free did = operation_placed (command.Get k key) a free did
-  commanded (command.Put k key value) a free did = operation_placed (command.Put k key value) a free did
-  commanded (command.Del k key) a free did = operation_placed (command.Del k key) a free did
-  commanded (command.Next k from) a free did = operation_placed (command.Next k from) a free did
-  commanded (command.Scan k low high) a free did = operation_placed (command.Scan k low high) a free did
-  commanded (command.Tidy k key) a free did = operation_placed (command.Tidy k key) a free did
-  commanded command.Durable a free did = placed_then v t before (still_steps v t (asked_still v t seat a did))
-  commanded c a free did = absurd did
+  commanded command.Abort answer.Aborted free plain did = placed_then v t before (aborted v t seat (work_at v seat) did)
+  commanded (command.Get k key) a free plain did = operation_placed (command.Get k key) a (active_where NeedsReader (phase_at v seat) tt plain free) did
+  commanded (command.Put k key value) a free plain did = operation_placed (command.Put k key value) a (active_where NeedsWriter (phase_at v seat) tt plain free) did
+  commanded (command.Del k key) a free plain did = operation_placed (command.Del k key) a (active_where NeedsWriter (phase_at v seat) tt plain free) did
+  commanded (command.Next k from) a free plain did = operation_placed (command.Next k from) a (active_where NeedsReader (phase_at v seat) tt plain free) did
+  commanded (command.Scan k low high) a free plain did = operation_placed (command.Scan k low high) a (active_where NeedsReader (phase_at v seat) tt plain free) did
+  commanded (command.Tidy k key) a free plain did = operation_placed (command.Tidy k key) a (active_where NeedsWriter (phase_at v seat) tt plain free) did
+  commanded command.Durable a free plain did = placed_then v t before (still_steps v t (asked_still v t seat a did))
+  commanded c a free plain did = absurd did
 
   asked : (c : Command) (a : Answer) (r : Option Answer) → refusal_of (phase_at v seat) c ≡ r → DidAsked r v seat c a t → Placed t
   asked c a (Some refusal) is did = placed_then v t before (still_steps v t did)
-  asked c a None is did = commanded c a is did
+  asked c a None is did =
+      in_either (Placed t) v t seat c a (λ plain done. commanded c a is plain done) (λ has done. placed_then v t before (watched_steps v t seat (line_watches v t seat c a has done))) did
 
 -- LINES OF THE LOG. What is flushed goes up to where all is decided, or stays.
 module _ (v t : View) (before : Placed v) where

@@ -1,6 +1,7 @@
 -- Moves that touch no object: a transaction begins, is sealed, or is over; or nothing happens.
-use Rattle.std.proofs.Common.{◌≡◌, ℕ, ◌+◌, ◌<◌, ◌≤◌, ◌⊎◌, ◌++◌, length, Option, Some, None, append-nil, inl, inr, refl, sym, subst, arith}
+use Rattle.std.proofs.Common.{◌≡◌, ℕ, ◌+◌, ◌<◌, ◌≤◌, ◌⊎◌, ◌++◌, length, Option, Some, None, append-nil, inl, inr, refl, sym, ap, subst, arith}
 use Rattle.std.specs.Option.{option_map, option_to_list}
+use Rattle.erm_model.specs.declared.limits.TheConstants.{STOP}
 use Rattle.erm_model.specs.declared.history.TransactionRecord.{TransactionRecord}
 use Rattle.erm_model.specs.declared.outcome.Phase.{Phase}
 use Rattle.erm_model.specs.declared.outcome.Phase.TheVariants.{Idle, Active, Sealed, Pending, Safe}
@@ -10,7 +11,7 @@ use Rattle.erm_node.specs.Sound.{sound_law}
 use Rattle.erm_world.specs.Calls.{DidSeal, IsDone, Works}
 use Rattle.erm_world.specs.Laws.{IsSerializable}
 use Rattle.erm_world.specs.Snapshots.{snapshot_not_idle}
-use Rattle.erm_world.specs.World.{Fate, Finished, HasStamp, IsSession, Session, Stand, View, Work, bare, history_of, phase_at, phase_of, record_of, stamp_of, work_at, work_of}
+use Rattle.erm_world.specs.World.{Fate, Finished, HasStamp, IsSession, IsWorking, Session, Stand, View, Work, bare, history_of, phase_at, phase_of, record_of, work_at}
 use Rattle.erm_world.specs.World as world
 use Rattle.erm_world.proofs.Lists.{∈-last}
 use Rattle.erm_report.specs.declared.answer.Answer.{Answer}
@@ -18,14 +19,19 @@ use Rattle.erm_report.specs.declared.answer.Answer.TheVariants as answer
 use Rattle.erm_script.specs.declared.script.Command.{Command}
 use Rattle.erm_script.specs.declared.script.Command.TheVariants as command
 use Rattle.erm_script.specs.declared.script.ScriptLine.{ScriptLine}
-use Rattle.erm_good_report.specs.Phases.{Closes, FitsRefusal, phase_asked, refusal_for, refusal_of}
+use Rattle.erm_good_report.specs.Phases.{Closes, FitsRefusal, HasNoSnapshot, Need, NeedsAny, NeedsReader, NeedsWriter, need_of, refusal_for, refusal_in, refusal_of}
+use Rattle.erm_good_report.proofs.Phases.{phase_refuses}
 use Rattle.erm_good_report.specs.Transactions.{Aborts, Commits, Ending, Excludes, Progress, Transaction, begun, ended, goes_on, heard, table_of, with_line, with_seal}
-use Rattle.erm_lines.specs.Answers.{DidAskDurable, DidAsked, DidClose, DidCommand, DidDecide, DidLine, DidOperation}
+use Rattle.erm_lines.specs.Answers.{DidAskDurable, DidAskSnapshot, DidAsked, DidClose, DidCommand, DidDecide, DidLine, DidOperation}
 use Rattle.erm_lines.specs.Executions.{DidEnd}
-use Rattle.erm_lines.proofs.Moved.{asked_still}
+use Rattle.erm_lines.specs.Whole.{is_snapshot}
+use Rattle.erm_lines.proofs.Moved.{active_where, asked_still}
+use Rattle.erm_lines.proofs.Watched.{idle_where, snapshot_there, start_where}
+use Rattle.erm_told.proofs.Lines.{in_either}
 use Rattle.erm_causes.specs.Touched.{IsClosedBy, WasClosed}
 use Rattle.erm_causes.proofs.Fine.{still_session}
 use Rattle.erm_causes.proofs.Operated.{Operated, operated}
+use Rattle.erm_causes.proofs.Snapshots.{LeavesNone, Starts, Watches, ended_bare, leaves_none, line_none, line_watches, starts_none, starts_watches}
 use Rattle.erm_told_limits.proofs.Ran.{active_with}
 
 -- a line that names no table, or no line
@@ -48,7 +54,7 @@ abbrev pub StillBy : Option Command → Answer → Type 0
 StillBy asked a = (seat : ℕ) (p : Progress) → SameLines p (heard seat asked a p)
 
 abbrev pub BeginsBy : Option Command → Answer → Type 0
-BeginsBy asked a = (seat : ℕ) (p : Progress) → (t : Transaction) × (heard seat asked a p ≡ record { over = p.over; current = Some t })
+BeginsBy asked a = (seat : ℕ) (p : Progress) → (t : Transaction) × (heard seat asked a p ≡ record p { current = Some t })
 
 abbrev pub DoneBy : Option Command → Answer → Ending → Type 0
 DoneBy asked a ending = (seat : ℕ) (p : Progress) → heard seat asked a p ≡ ended ending p
@@ -57,12 +63,17 @@ DoneBy asked a ending = (seat : ℕ) (p : Progress) → heard seat asked a p ≡
 abbrev pub HasNow : Stand → Work → Type 0
 HasNow stand w = (stand ≡ world.active w) ⊎ ((stamp : ℕ) × (stand ≡ world.sealed w stamp))
 
+pub now_works : (stand : Stand) (w : Work) → HasNow stand w → IsWorking stand w
+now_works stand w (inl active) = subst (λ (at : Stand). IsWorking at w) (sym active) refl
+now_works stand w (inr (stamp, sealed)) = subst (λ (at : Stand). IsWorking at w) (sym sealed) refl
+
 pub data Quiet (v : View) (seat : ℕ) (asked : Option Command) (a : Answer) (t : View) : Type 0 where
   still : t ≡ v → StillBy asked a → Quiet v seat asked a t
-  begins : (number begin : ℕ) → (v.session seat).stand ≡ world.idle → Works v seat (world.begun number begin) t → BeginsBy asked a → Quiet v seat asked a t
+  begins : (number begin : ℕ) → (v.session seat).stand ≡ world.idle → v.tail < STOP → Works v seat (world.begun number begin) t → BeginsBy asked a → Quiet v seat asked a t
   seals : (stamp : ℕ) → phase_at v seat ≡ Active → DidSeal v seat stamp t → StillBy asked a → Quiet v seat asked a t
   done : (w : Work) (fate : Fate) (ending : Ending) → HasNow (v.session seat).stand w → IsDone v seat w fate t
       → (IsSerializable sound_law t → WasClosed (history_of t) ending w) → DoneBy asked a ending → Quiet v seat asked a t
+  watched : Starts v seat → Watches v seat t → LeavesNone asked a → Quiet v seat asked a t
 
 -- a line that names no table leaves the lines
 pub same_line : (asked : Option Command) (a : Answer) (t : Transaction) → NamesNone asked → (with_line asked a t).lines ≡ t.lines
@@ -150,39 +161,17 @@ decided v t seat asked (answer.WaitRing flushed) session none did = still did.0 
 decided v t seat asked a session none did = absurd did
 
 -- LINES. A line's phase allowed it, or its refusal is heard as nothing.
-pub refusal_still : (wanted : Option Phase) (phase : Phase) (refusal : Answer) → refusal_for wanted phase ≡ Some refusal → (asked : Option Command) → StillBy asked refusal
-refusal_still (Some Idle) Active refusal is asked = let same : answer.NotIdle ≡ refusal = cc in subst (StillBy asked) same (λ q p. (refl, same_itself p.current))
-refusal_still (Some Idle) Sealed refusal is asked = let same : answer.NotIdle ≡ refusal = cc in subst (StillBy asked) same (λ q p. (refl, same_itself p.current))
-refusal_still (Some Active) Idle refusal is asked = let same : answer.NoTransaction ≡ refusal = cc in subst (StillBy asked) same (λ q p. (refl, same_itself p.current))
-refusal_still (Some Active) Sealed refusal is asked = let same : answer.IsSealed ≡ refusal = cc in subst (StillBy asked) same (λ q p. (refl, same_itself p.current))
-refusal_still (Some Sealed) Idle refusal is asked = let same : answer.NotSealed ≡ refusal = cc in subst (StillBy asked) same (λ q p. (refl, same_itself p.current))
-refusal_still (Some Sealed) Active refusal is asked = let same : answer.NotSealed ≡ refusal = cc in subst (StillBy asked) same (λ q p. (refl, same_itself p.current))
-refusal_still (Some Idle) Idle refusal is asked = let no : None ≡ Some refusal = is in cc
-refusal_still (Some Active) Active refusal is asked = let no : None ≡ Some refusal = is in cc
-refusal_still (Some Sealed) Sealed refusal is asked = let no : None ≡ Some refusal = is in cc
-refusal_still (Some Idle) Pending refusal is asked = let same : answer.NotIdle ≡ refusal = cc in subst (StillBy asked) same (λ q p. (refl, same_itself p.current))
-refusal_still (Some Idle) Safe refusal is asked = let same : answer.NotIdle ≡ refusal = cc in subst (StillBy asked) same (λ q p. (refl, same_itself p.current))
-refusal_still (Some Active) Pending refusal is asked = let same : answer.NoTransaction ≡ refusal = cc in subst (StillBy asked) same (λ q p. (refl, same_itself p.current))
-refusal_still (Some Active) Safe refusal is asked = let same : answer.NoTransaction ≡ refusal = cc in subst (StillBy asked) same (λ q p. (refl, same_itself p.current))
-refusal_still (Some Sealed) Pending refusal is asked = let same : answer.NotSealed ≡ refusal = cc in subst (StillBy asked) same (λ q p. (refl, same_itself p.current))
-refusal_still (Some Sealed) Safe refusal is asked = let same : answer.NotSealed ≡ refusal = cc in subst (StillBy asked) same (λ q p. (refl, same_itself p.current))
-refusal_still (Some Pending) phase refusal is asked = let no : None ≡ Some refusal = is in cc
-refusal_still (Some Safe) phase refusal is asked = let no : None ≡ Some refusal = is in cc
-refusal_still None phase refusal is asked = let no : None ≡ Some refusal = is in cc
+quiet_still : (refusal : Answer) → refusal_in refusal ≡ Some refusal → (asked : Option Command) → StillBy asked refusal
+quiet_still answer.NotIdle is asked = λ q p. (refl, same_itself p.current)
+quiet_still answer.NoTransaction is asked = λ q p. (refl, same_itself p.current)
+quiet_still answer.IsSealed is asked = λ q p. (refl, same_itself p.current)
+quiet_still answer.NotSealed is asked = λ q p. (refl, same_itself p.current)
+quiet_still answer.ReadOnly is asked = λ q p. (refl, same_itself p.current)
+quiet_still answer.NotSafe is asked = λ q p. (refl, same_itself p.current)
+quiet_still refusal is asked = absurd (cc)
 
-pub wants_active : (phase : Phase) → refusal_for (Some Active) phase ≡ None → phase ≡ Active
-wants_active Idle is = cc
-wants_active Active is = refl
-wants_active Sealed is = cc
-wants_active Pending is = cc
-wants_active Safe is = cc
-
-pub wants_idle : (phase : Phase) → refusal_for (Some Idle) phase ≡ None → phase ≡ Idle
-wants_idle Idle is = refl
-wants_idle Active is = cc
-wants_idle Sealed is = cc
-wants_idle Pending is = cc
-wants_idle Safe is = cc
+pub refusal_still : (need : Option Need) (phase : Phase) (refusal : Answer) → refusal_for need phase ≡ Some refusal → (asked : Option Command) → StillBy asked refusal
+refusal_still need phase refusal is asked = quiet_still refusal (phase_refuses need phase refusal is) asked
 
 pub idle_with : (stand : Stand) → phase_of stand ≡ Idle → stand ≡ world.idle
 idle_with world.idle is = refl
@@ -201,25 +190,31 @@ seal_heard None stamp = tt
 seal_heard (Some u) stamp = refl
 
 module _ (v t : View) (seat : ℕ) (session : IsSession v seat) where
-  begun_line : (a : Answer) → refusal_of (phase_at v seat) command.Begin ≡ None → DidCommand v seat command.Begin a t → Lined v seat command.Begin a t
-  begun_line (answer.Began begin) free did =
-      quiet (begins (length (v.session seat).over + 1) begin (idle_with (v.session seat).stand (wants_idle (phase_at v seat) free)) did.3 (λ q p. (begun q begin p, refl)))
-  begun_line (answer.LogEnd tail) free did = quiet (still did.0 (λ q p. same_goes_on (Some command.Begin) (answer.LogEnd tail) p refl))
-  begun_line answer.NumbersEnd free did = quiet (still did.0 (λ q p. same_goes_on (Some command.Begin) answer.NumbersEnd p refl))
-  begun_line a free did = absurd did
+  begun_line : (a : Answer) → phase_at v seat ≡ Idle → DidCommand v seat command.Begin a t → Lined v seat command.Begin a t
+  begun_line (answer.Began begin) idle did =
+      quiet (begins (length (v.session seat).over + 1) begin (idle_with (v.session seat).stand idle) did.1 did.3 (λ q p. (begun q begin p, refl)))
+  begun_line (answer.LogEnd tail) idle did = quiet (still did.0 (λ q p. same_goes_on (Some command.Begin) (answer.LogEnd tail) p refl))
+  begun_line answer.NumbersEnd idle did = quiet (still did.0 (λ q p. same_goes_on (Some command.Begin) answer.NumbersEnd p refl))
+  begun_line a idle did = absurd did
 
-  sealed_line : (a : Answer) → refusal_of (phase_at v seat) command.Seal ≡ None → DidCommand v seat command.Seal a t → Lined v seat command.Seal a t
-  sealed_line (answer.Sealed stamp) free did = quiet (seals stamp (wants_active (phase_at v seat) free) did (λ q p. (refl, seal_heard p.current stamp)))
-  sealed_line a free did = absurd did
+  safe_line : (a : Answer) → phase_at v seat ≡ Idle → DidAskSnapshot v seat a t → Lined v seat command.Safe a t
+  safe_line (answer.LogEnd tail) idle did = quiet (still did.0 (λ q p. same_goes_on (Some command.Safe) (answer.LogEnd tail) p refl))
+  safe_line answer.NumbersEnd idle did = quiet (still did.0 (λ q p. same_goes_on (Some command.Safe) answer.NumbersEnd p refl))
+  safe_line a idle did =
+      quiet (watched (inr (idle_with (v.session seat).stand idle, did.began.1)) (starts_watches v t seat a did) (leaves_none (Some command.Safe) a (starts_none v t seat a did)))
 
-  aborted_line : (a : Answer) → refusal_of (phase_at v seat) command.Abort ≡ None → DidCommand v seat command.Abort a t → Lined v seat command.Abort a t
-  aborted_line answer.Aborted free did =
-      quiet (done (work_at v seat) world.aborts Aborts (inl (active_with (v.session seat).stand (wants_active (phase_at v seat) free))) did (λ holds. tt) (λ q p. refl))
-  aborted_line a free did = absurd did
+  sealed_line : (a : Answer) → phase_at v seat ≡ Active → DidCommand v seat command.Seal a t → Lined v seat command.Seal a t
+  sealed_line (answer.Sealed stamp) active did = quiet (seals stamp active did (λ q p. (refl, seal_heard p.current stamp)))
+  sealed_line a active did = absurd did
 
-  committed_line : (a : Answer) → refusal_of (phase_at v seat) command.Commit ≡ None → DidCommand v seat command.Commit a t → Lined v seat command.Commit a t
-  committed_line a free did =
-      sealed_first did.stamp did.between (wants_active (phase_at v seat) free) did.sealed
+  aborted_line : (a : Answer) → phase_at v seat ≡ Active → DidCommand v seat command.Abort a t → Lined v seat command.Abort a t
+  aborted_line answer.Aborted active did =
+      quiet (done (work_at v seat) world.aborts Aborts (inl (active_with (v.session seat).stand active)) did (λ holds. tt) (λ q p. refl))
+  aborted_line a active did = absurd did
+
+  committed_line : (a : Answer) → phase_at v seat ≡ Active → DidCommand v seat command.Commit a t → Lined v seat command.Commit a t
+  committed_line a active did =
+      sealed_first did.stamp did.between active did.sealed
       (decided did.between t seat (Some command.Commit) a (still_session v did.between seat did.sealed.opening session) refl did.decided)
 
   named_line : (c : Command) (a : Answer) (k : ℕ) → table_of c ≡ Some k → phase_at v seat ≡ Active → DidOperation v seat c a t → Lined v seat c a t
@@ -231,26 +226,29 @@ module _ (v t : View) (seat : ℕ) (session : IsSession v seat) where
   durable_heard answer.NoReceipt did = λ q p. same_goes_on (Some command.Durable) answer.NoReceipt p refl
   durable_heard a did = absurd did
 
-  commanded : (c : Command) (a : Answer) → refusal_of (phase_at v seat) c ≡ None → DidCommand v seat c a t → Lined v seat c a t
-  commanded command.Begin a free did = begun_line a free did
-  commanded command.Seal a free did = sealed_line a free did
-  commanded command.Settle a free did = quiet (decided v t seat (Some command.Settle) a session refl did)
-  commanded command.Commit a free did = committed_line a free did
-  commanded command.Abort a free did = aborted_line a free did
-  commanded (command.Get k key) a free did = named_line (command.Get k key) a k refl (wants_active (phase_at v seat) free) did
-  commanded (command.Put k key value) a free did = named_line (command.Put k key value) a k refl (wants_active (phase_at v seat) free) did
-  commanded (command.Del k key) a free did = named_line (command.Del k key) a k refl (wants_active (phase_at v seat) free) did
-  commanded (command.Next k from) a free did = named_line (command.Next k from) a k refl (wants_active (phase_at v seat) free) did
-  commanded (command.Scan k low high) a free did = named_line (command.Scan k low high) a k refl (wants_active (phase_at v seat) free) did
-  commanded (command.Tidy k key) a free did = named_line (command.Tidy k key) a k refl (wants_active (phase_at v seat) free) did
-  commanded command.Durable a free did = quiet (still (asked_still v t seat a did) (durable_heard a did))
-  commanded command.Flush a free did = absurd did
-  commanded command.Checkpoint a free did = absurd did
+  commanded : (c : Command) (a : Answer) → refusal_of (phase_at v seat) c ≡ None → HasNoSnapshot (phase_at v seat) → DidCommand v seat c a t → Lined v seat c a t
+  commanded command.Begin a free plain did = begun_line a (idle_where (phase_at v seat) command.Begin free refl) did
+  commanded command.Safe a free plain did = safe_line a (start_where (phase_at v seat) command.Safe free refl plain) did
+  commanded command.Seal a free plain did = sealed_line a (active_where NeedsWriter (phase_at v seat) tt plain free) did
+  commanded command.Settle a free plain did = quiet (decided v t seat (Some command.Settle) a session refl did)
+  commanded command.Commit a free plain did = committed_line a (active_where NeedsReader (phase_at v seat) tt plain free) did
+  commanded command.Abort a free plain did = aborted_line a (active_where NeedsAny (phase_at v seat) tt plain free) did
+  commanded (command.Get k key) a free plain did = named_line (command.Get k key) a k refl (active_where NeedsReader (phase_at v seat) tt plain free) did
+  commanded (command.Put k key value) a free plain did = named_line (command.Put k key value) a k refl (active_where NeedsWriter (phase_at v seat) tt plain free) did
+  commanded (command.Del k key) a free plain did = named_line (command.Del k key) a k refl (active_where NeedsWriter (phase_at v seat) tt plain free) did
+  commanded (command.Next k from) a free plain did = named_line (command.Next k from) a k refl (active_where NeedsReader (phase_at v seat) tt plain free) did
+  commanded (command.Scan k low high) a free plain did = named_line (command.Scan k low high) a k refl (active_where NeedsReader (phase_at v seat) tt plain free) did
+  commanded (command.Tidy k key) a free plain did = named_line (command.Tidy k key) a k refl (active_where NeedsWriter (phase_at v seat) tt plain free) did
+  commanded command.Durable a free plain did = quiet (still (asked_still v t seat a did) (durable_heard a did))
+  commanded command.Flush a free plain did = absurd did
+  commanded command.Checkpoint a free plain did = absurd did
 
   asked_line : (c : Command) (a : Answer) (r : Option Answer) → refusal_of (phase_at v seat) c ≡ r → FitsRefusal r c a → DidAsked r v seat c a t → Lined v seat c a t
-  asked_line c a None is fits did = commanded c a is did
+  asked_line c a None is fits did =
+      in_either (Lined v seat c a t) v t seat c a (λ plain done. commanded c a is plain done)
+      (λ has done. quiet (watched (inl has) (line_watches v t seat c a has done) (leaves_none (Some c) a (line_none v t seat c a done)))) did
   asked_line c a (Some refusal) is fits did =
-      quiet (still did (subst (StillBy (Some c)) (sym fits) (refusal_still (phase_asked c) (phase_at v seat) refusal is (Some c))))
+      quiet (still did (subst (StillBy (Some c)) (sym fits) (refusal_still (need_of c) (phase_at v seat) refusal is (Some c))))
 
   closed_as : (a : Answer) (phase : Phase) → phase_at v seat ≡ phase → Closes phase a → DidClose phase v seat a t → Quiet v seat None a t
   closed_as a Idle is closes did = absurd did
@@ -258,8 +256,12 @@ module _ (v t : View) (seat : ℕ) (session : IsSession v seat) where
       done (work_at v seat) world.aborts Aborts (inl (active_with (v.session seat).stand is)) did (λ holds. tt) (λ q p. refl)
   closed_as a Active is closes did = absurd closes
   closed_as a Sealed is closes did = decided v t seat None a session tt did
-  closed_as a Pending is closes did = absurd did
-  closed_as a Safe is closes did = absurd did
+  closed_as answer.Aborted Pending is closes did =
+      let has = snapshot_there v seat (ap is_snapshot is) in watched (inl has) (ended_bare v t seat has did) (leaves_none None answer.Aborted refl)
+  closed_as a Pending is closes did = absurd closes
+  closed_as answer.Aborted Safe is closes did =
+      let has = snapshot_there v seat (ap is_snapshot is) in watched (inl has) (ended_bare v t seat has did) (leaves_none None answer.Aborted refl)
+  closed_as a Safe is closes did = absurd closes
 
 pub lined : (v : View) (l : ScriptLine) (a : Answer) (t : View) → DidLine v l a t → Lined v l.session l.command a t
 lined v l a t did = asked_line v t l.session did.session l.command a (refusal_of (phase_at v l.session) l.command) refl did.fits did.did

@@ -19,15 +19,16 @@ use Rattle.erm_world.specs.declared.stops.Wait.TheVariants as wait
 use Rattle.erm_world.specs.Calls.{DidSeal, Settled, IsAhead, IsDone, IsInTheWay, IsNewer, IsOwned}
 use Rattle.erm_world.specs.Face.{WasRefused}
 use Rattle.erm_world.specs.Laws.{IsSerializable}
-use Rattle.erm_world.specs.World.{Finished, IsCurrent, IsSession, Session, Stand, View, Work, history_of, made_by_all, phase_at, phase_of, size_of, work_at, work_of}
+use Rattle.erm_world.specs.World.{Finished, IsSession, Session, Stand, View, Work, history_of, made_by_all, phase_at, size_of, work_at, work_of}
 use Rattle.erm_world.specs.World as world
 use Rattle.erm_world.proofs.Lists.{∈-last}
 use Rattle.erm_good_report.specs.Opening.{InTurn}
-use Rattle.erm_good_report.specs.Phases.{refusal_of}
+use Rattle.erm_good_report.specs.Phases.{HasNoSnapshot, NeedsReader, refusal_of}
 use Rattle.erm_good_report.specs.Refusals.{HasNoWindowBefore, HasRefusalCause, HasWaitCause, HasWindowBefore, IsNewerBy, IsOwnedBy, MayHaveStamp, Moment, WaitsForRing, WaitsToRead, WaitsToSettle, WasOver, claims_of, current_of, flushed_at, most_words}
 use Rattle.erm_good_report.specs.Transactions.{Excludes, Exchange, Transaction, progress_of, table_of, with_line}
 use Rattle.erm_lines.specs.Answers.{DidCommand, DidDecide, WasRefusedAs, stop_told}
 use Rattle.erm_lines.specs.Operations.{AsksOf, FrontOf, WereCutOff}
+use Rattle.erm_lines.proofs.Moved.{active_where}
 use Rattle.erm_causes.specs.Touched.{AreOfTables, IsClosedBy, Touches}
 use Rattle.erm_causes.proofs.Answered.{done_turned, last_touches, now_active, out_fine, shut_closed, stayed_fine}
 use Rattle.erm_causes.proofs.Beside.{shows_closed_by}
@@ -36,12 +37,12 @@ use Rattle.erm_causes.proofs.Decided.{no_window_before, window_before}
 use Rattle.erm_causes.proofs.Early.{EarlyCommit, committed_before}
 use Rattle.erm_causes.proofs.Fine.{history_grows, still_session}
 use Rattle.erm_causes.proofs.Lines.{CutFine}
-use Rattle.erm_causes.proofs.Moments.{NowTold, current_of_sealed, now_told, the_told}
+use Rattle.erm_causes.proofs.Moments.{NowTold, current_of_active, current_of_sealed, now_told, the_told}
 use Rattle.erm_causes.proofs.Moves.{AllFine, all_keep}
-use Rattle.erm_causes.proofs.Operated.{Last, Shut, excluded_done, newer_done, owned_done}
+use Rattle.erm_causes.proofs.Operated.{Last, excluded_done, newer_done, owned_done}
 use Rattle.erm_causes.proofs.Operated as operated
 use Rattle.erm_causes.proofs.Own.{TreeLaws}
-use Rattle.erm_causes.proofs.Quiet.{same_line, wants_active}
+use Rattle.erm_causes.proofs.Quiet.{same_line}
 use Rattle.erm_told_limits.proofs.Ran.{Stays, active_with, ran}
 use Rattle.erm_told_limits.proofs.Given.{HistoryLaws}
 use Rattle.erm_causes.proofs.Waits.{Decides, IsDecision, Waited, excluded_named, named_active, newer_named, none_for_ring, owned_named, waited_ring, waited_seat}
@@ -118,6 +119,7 @@ claim_newer v t seat asked_make stamp refused = absurd refused
 -- a line of a table waits to read
 reads_wait : (m : Moment) (c : Command) (t : Transaction) (k seat seen : ℕ) → table_of c ≡ Some k → WaitsToRead m c t seat seen → HasWaitCause m c t seat seen
 reads_wait m command.Begin t k seat seen named waits = waits
+reads_wait m command.Safe t k seat seen named waits = waits
 reads_wait m command.Seal t k seat seen named waits = waits
 reads_wait m command.Settle t k seat seen named waits = let no : None ≡ Some k = named in cc
 reads_wait m command.Commit t k seat seen named waits = let no : None ≡ Some k = named in cc
@@ -149,12 +151,12 @@ module _ (tree : TreeLaws) (laws : HistoryLaws) (table : ℕ → ℕ) (m : Momen
     (holds : IsSerializable sound_law after) (opened : AreOfTables table after.opening.rows) (fine : AllFine table (λ q. progress_of q m.before) before)
     (made : (k : ℕ) → table_of c ≡ Some k → (x : ℕ) → made_by_all before x < made_by_all after x → table x ≡ k)
     (known : Known table m before) (stamps : KnowsStamps m before) (stamps_after : KnowsStamps m after)
-    (commits : (u : TransactionRecord) → u ∈ history_of before → EarlyCommit table m u) (free : refusal_of (phase_at before m.session) c ≡ None) where
+    (commits : (u : TransactionRecord) → u ∈ history_of before → EarlyCommit table m u) (free : refusal_of (phase_at before m.session) c ≡ None) (plain : HasNoSnapshot (phase_at before m.session)) where
   -- A line that names a table.
   module _ (k : ℕ) (named : table_of c ≡ Some k) (active : phase_at before m.session ≡ Active) (a : Answer) where
     own : NowTold table m.session (current_of m m.session) (work_at before m.session)
     own = now_told table m.session (current_of m m.session) (before.session m.session).stand (work_at before m.session) (known.tells m.session session) (known.fine m.session session)
-        (subst (λ (stand : Stand). IsCurrent stand (work_of stand)) (sym (active_with (before.session m.session).stand active)) refl)
+        (current_of_active (before.session m.session).stand (work_at before m.session) (active_with (before.session m.session).stand active))
 
     asked_there : (asked : Asked) (oid : ℕ) → AskedOf table k asked → (asked ≡ asked_read oid) ⊎ (asked ≡ asked_claim oid) → table oid ≡ k
     asked_there asked oid is (inl asks) = subst (λ (q : Asked). AskedOf table k q) asks is
@@ -246,11 +248,12 @@ module _ (tree : TreeLaws) (laws : HistoryLaws) (table : ℕ → ℕ) (m : Momen
   pub sealed_now : (between : View) (stamp : ℕ) → c ≡ command.Commit → DidSeal before m.session stamp between → (w : Work) (other : ℕ) → (between.session m.session).stand ≡ world.sealed w other
       → NowTold table m.session (current_of m m.session) w
   sealed_now between stamp is sealed w other stand =
-      let active : phase_at before m.session ≡ Active = wants_active (phase_at before m.session) (subst (λ (d : Command). refusal_of (phase_at before m.session) d ≡ None) is free) in
+      let active : phase_at before m.session ≡ Active =
+      active_where NeedsReader (phase_at before m.session) tt plain (subst (λ (d : Command). refusal_of (phase_at before m.session) d ≡ None) is free) in
       let same : w ≡ work_at before m.session = sealed_work (between.session m.session).stand w (work_at before m.session) other stand (ap (λ (s : Session). work_of s.stand) sealed.own) in
       subst (λ (x : Work). NowTold table m.session (current_of m m.session) x) (sym same)
       (now_told table m.session (current_of m m.session) (before.session m.session).stand (work_at before m.session) (known.tells m.session session) (known.fine m.session session)
-      (subst (λ (stand_is : Stand). IsCurrent stand_is (work_of stand_is)) (sym (active_with (before.session m.session).stand active)) refl))
+      (current_of_active (before.session m.session).stand (work_at before m.session) (active_with (before.session m.session).stand active)))
 
   module _ (u : Transaction) (current : current_of m m.session ≡ Some u) where
     as_told : (P : Transaction → Type 0) (w : Work) (now : NowTold table m.session (current_of m m.session) w) → P now.told → P u
@@ -259,7 +262,7 @@ module _ (tree : TreeLaws) (laws : HistoryLaws) (table : ℕ → ℕ) (m : Momen
     wait_seat_as : (other seen : ℕ) → Waited before m.session c (answer.WaitSeat other seen) (wait.Seat other seen) after → HasWaitCause m c (with_line (Some c) (answer.WaitSeat other seen) u) other seen
     wait_seat_as other seen (waits.named k names refused) =
         let a = answer.WaitSeat other seen in
-        let active = named_active (phase_at before m.session) c k names free in
+        let active = named_active (phase_at before m.session) c k names plain free in
         as_told (λ t. HasWaitCause m c (with_line (Some c) a t) other seen) (work_at before m.session) (own k names active a)
         (reads_wait m c (with_line (Some c) a (own k names active a).told) k other seen names (named_waits k names active a other seen refused))
     wait_seat_as other seen (waits.settled is (same, (w, stamp, stand, waiting))) =
@@ -275,8 +278,9 @@ module _ (tree : TreeLaws) (laws : HistoryLaws) (table : ℕ → ℕ) (m : Momen
         as_told (λ t. HasWaitCause m c (with_line (Some c) a t) other seen) w now
         (subst (λ (d : Command). HasWaitCause m d (with_line (Some c) a now.told) other seen) (sym is) waits_to)
 
-    pub wait_seat : (other seen : ℕ) → DidCommand before m.session c (answer.WaitSeat other seen) after → HasWaitCause m c (with_line (Some c) (answer.WaitSeat other seen) u) other seen
-    wait_seat other seen did = wait_seat_as other seen (waited_seat before after m.session c other seen did)
+    pub wait_seat : (other seen : ℕ) → (c ≡ command.Safe → ⊥) → DidCommand before m.session c (answer.WaitSeat other seen) after
+        → HasWaitCause m c (with_line (Some c) (answer.WaitSeat other seen) u) other seen
+    wait_seat other seen never did = wait_seat_as other seen (waited_seat before after m.session c other seen never did)
 
     -- or for the ring, which is full
     module _ (flushed : ℕ) (place : before.flushed ≡ flushed_at m)
@@ -318,12 +322,12 @@ module _ (tree : TreeLaws) (laws : HistoryLaws) (table : ℕ → ℕ) (m : Momen
     pub owned_cause : m.mode ≡ InTurn → (other number : ℕ) → DidCommand before m.session c (answer.Owned other number) after → IsOwnedBy m c other number
     owned_cause mode other number did =
         let it = owned_named before after m.session c other number did in
-        named_owned it.table it.names (named_active (phase_at before m.session) c it.table it.names free) (answer.Owned other number) mode other number it.refused
+        named_owned it.table it.names (named_active (phase_at before m.session) c it.table it.names plain free) (answer.Owned other number) mode other number it.refused
 
     pub newer_cause : (stamp : ℕ) → DidCommand before m.session c (answer.Newer stamp) after → IsNewerBy m c (with_line (Some c) (answer.Newer stamp) u) stamp
     newer_cause stamp did =
         let it = newer_named before after m.session c stamp did in
-        let active = named_active (phase_at before m.session) c it.table it.names free in
+        let active = named_active (phase_at before m.session) c it.table it.names plain free in
         as_told (λ t. IsNewerBy m c (with_line (Some c) (answer.Newer stamp) t) stamp) (work_at before m.session) (own it.table it.names active (answer.Newer stamp))
         (named_newer it.table it.names active (answer.Newer stamp) stamp it.refused)
 
@@ -366,6 +370,6 @@ module _ (tree : TreeLaws) (laws : HistoryLaws) (table : ℕ → ℕ) (m : Momen
     excluded_cause succ pred did =
         let a = answer.ExcludedEarly succ pred in
         let it = excluded_named before after m.session c succ pred did in
-        let active = named_active (phase_at before m.session) c it.table it.names free in
+        let active = named_active (phase_at before m.session) c it.table it.names plain free in
         as_told (λ t. WasShut m (with_line (Some c) a t) succ pred) (work_at before m.session) (own it.table it.names active a)
         (named_excluded it.table it.names active a succ pred it.refused)

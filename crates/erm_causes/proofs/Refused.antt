@@ -7,10 +7,10 @@ use Rattle.erm_model.specs.Member.{◌∈◌}
 use Rattle.erm_machine.proofs.Listed.{∈-second}
 use Rattle.erm_report.specs.declared.answer.Answer.{Answer}
 use Rattle.erm_script.specs.declared.script.Command.{Command}
-use Rattle.erm_world.specs.Calls.{IsAhead, IsInTheWay, IsNewer, IsOwned, IsSealedBelow, MayHaveRead, MayOverwrite}
+use Rattle.erm_world.specs.Calls.{IsAhead, IsInTheWay, IsNewer, IsOwned, IsSealedBelow}
 use Rattle.erm_world.specs.Calls as calls
 use Rattle.erm_world.specs.Works.{is_claimed}
-use Rattle.erm_world.specs.World.{IsCurrent, IsSession, Session, Stand, View, Work, history_of, phase_at, phase_of, work_at}
+use Rattle.erm_world.specs.World.{IsCurrent, IsSession, Session, View, Work, history_of, phase_at, phase_of, work_at}
 use Rattle.erm_world.specs.World as world
 use Rattle.erm_good_report.specs.Causes.{NamesTable, WritesTable}
 use Rattle.erm_good_report.specs.Opening.{InTurn, Mode}
@@ -23,7 +23,7 @@ use Rattle.erm_causes.proofs.Beside.{claimed_at, read_at, writes_name}
 use Rattle.erm_causes.proofs.Early.{EarlyCommit}
 use Rattle.erm_causes.proofs.Fine.{FineNow, names_more, writes_more}
 use Rattle.erm_causes.proofs.Lines.{lines_before}
-use Rattle.erm_causes.proofs.Moments.{NowTold, current_of_sealed, now_told}
+use Rattle.erm_causes.proofs.Moments.{NowTold, claims_work, current_of_sealed, now_told}
 use Rattle.erm_told_limits.proofs.Ran.{Stays}
 
 -- What is told at a moment of a world's sessions.
@@ -89,7 +89,7 @@ module _ (table : ℕ → ℕ) (m : Moment) (v : View) (known : Known table m v)
         let session = session_back at other stays.opening owned.session in
         let same = stays.others other owned.another in
         let now = now_told table other (current_of m other) (v.session other).stand owned.work (known.tells other session) (known.fine other session)
-        (subst (λ (s : Session). IsCurrent s.stand owned.work) same owned.current) in
+        (claims_work (v.session other).stand owned.work oid (subst (λ (s : Session). IsCurrent s.stand owned.work) same owned.current) owned.claims) in
         record {
           another = owned.another;
           other = now.told;

@@ -4,6 +4,7 @@ use Rattle.erm_model.specs.declared.history.TransactionRecord.{TransactionRecord
 use Rattle.erm_model.specs.declared.limits.TheConstants.{LEAST_BLOCK, WRITE_LIMIT}
 use Rattle.erm_model.specs.Member.{◌∈◌}
 use Rattle.erm_model.proofs.Members.{∈-behind}
+use Rattle.erm_model.specs.Run.{Step}
 use Rattle.erm_machine.proofs.Listed.{∈-head}
 use Rattle.erm_node.specs.Sound.{sound_law}
 use Rattle.erm_report.specs.declared.answer.Answer.{Answer}
@@ -12,13 +13,14 @@ use Rattle.erm_script.specs.declared.script.Command.{Command}
 use Rattle.erm_script.specs.declared.script.Command.TheVariants as command
 use Rattle.erm_script.specs.declared.script.ScriptLine.{ScriptLine}
 use Rattle.erm_script.specs.Script.{IsInRange}
+use Rattle.erm_world.specs.Going.{Extends}
 use Rattle.erm_world.specs.Laws.{IsSerializable}
-use Rattle.erm_world.specs.World.{IsSession, Session, View, Work, history_of, made_by_all, phase_at, work_at}
+use Rattle.erm_world.specs.World.{IsSession, View, Work, history_of, made_by_all, phase_at, work_at}
 use Rattle.erm_world.specs.World as world
-use Rattle.erm_maps.specs.Runs.{IsRunOf}
+use Rattle.erm_maps.specs.Runs.{IsAnswered, IsRunOf}
 use Rattle.erm_good_report.specs.GoodReport.{places_of}
 use Rattle.erm_good_report.specs.Opening.{InTurn, Opening}
-use Rattle.erm_good_report.specs.Phases.{Closed, refusal_in, refusal_of}
+use Rattle.erm_good_report.specs.Phases.{Closed, refusal_in}
 use Rattle.erm_good_report.specs.Phases as report
 use Rattle.erm_good_report.specs.Refusals.{HasCauses, HasLogCause, HasRefusalCause, HasUnfilledCause, Moment, claims_of, current_of, flushed_at, flushed_told, moment_at}
 use Rattle.erm_good_report.specs.Transactions.{Progress, Said, Transaction, nothing, progress_of, said_of, table_of, transactions_of, with_line}
@@ -38,14 +40,14 @@ use Rattle.erm_causes.proofs.Early.{EarlyCommit, over_later}
 use Rattle.erm_causes.proofs.Fine.{IsFine, fine_touches, still_session}
 use Rattle.erm_causes.proofs.Flushed.{answers_to, lines_told}
 use Rattle.erm_causes.proofs.Moments.{AtMoment, at_moment}
-use Rattle.erm_causes.proofs.Moves.{AllFine, move_opening, move_range, session_before}
+use Rattle.erm_causes.proofs.Moves.{AllFine, move_opening, move_range, opened_told, session_before}
 use Rattle.erm_causes.proofs.Own.{TreeLaws}
 use Rattle.erm_causes.proofs.Refusals.{excluded_cause, newer_cause, outcome_cause, owned_cause, wait_ring, wait_seat}
 use Rattle.erm_causes.proofs.Refused.{Known, KnowsStamps}
 use Rattle.erm_told_limits.specs.Limits.{AreInRange}
 use Rattle.erm_causes.proofs.Runs.{table_at, whole_run}
 use Rattle.erm_causes.proofs.Tables.{AreMovesInRange, TableOf, heard_said, opened_fine, run_fine, run_opening}
-use Rattle.erm_causes.proofs.Waits.{Allowed, allowed, committed_by, excluded_by}
+use Rattle.erm_causes.proofs.Waits.{Commanded, allowed, commanded, committed_by, excluded_by}
 
 -- the first lines are in range
 first_range : (script : List ScriptLine) (answers : List Answer) (i : ℕ) → AreInRange script → AreMovesInRange (line_moves (take i script) (take i answers))
@@ -64,7 +66,7 @@ not_logged v t command.Checkpoint (answer.Unfilled place) for did = for
 not_logged v t c a for did = did
 
 -- What is at hand at a line.
-pub record Ready (table : ℕ → ℕ) (m : Moment) (c : Command) (a : Answer) (before after : View) : Type 0 where
+pub record Ready (table : ℕ → ℕ) (m : Moment) (c : Command) (before after : View) : Type 0 where
   pub session : IsSession before m.session
   pub range : IsInRange c
   pub holds : IsSerializable sound_law after
@@ -75,15 +77,15 @@ pub record Ready (table : ℕ → ℕ) (m : Moment) (c : Command) (a : Answer) (
   pub stamps : KnowsStamps m before
   pub stamps_after : KnowsStamps m after
   pub commits : (u : TransactionRecord) → u ∈ history_of before → EarlyCommit table m u
-  pub allows : Allowed before m.session c a after
 
-module _ (tree : TreeLaws) (laws : HistoryLaws) (begun : (number begin : ℕ) → IsRunOf (world.begun number begin) []) (tell : ExecutionsTell) (go : ExecutionsGoOn) (few : ClaimsAreFew)
+module _ (tree : TreeLaws) (laws : HistoryLaws) (begun : (number begin : ℕ) → IsRunOf (world.begun number begin) [])
+    (stay : (w u : Work) (steps : List Step) → Extends w u → IsAnswered w steps → IsAnswered u steps) (tell : ExecutionsTell) (go : ExecutionsGoOn) (few : ClaimsAreFew)
     (v t : View) (script : List ScriptLine) (answers : List Answer) (run : IsCourse v script answers t) (closed : List Closed) (are : AreClosed run.closing closed) (opening : Opening) (starts : IsOpeningOf v opening) where
   abbrev all : List Transaction
   all = transactions_of v.opening.sessions (places_of script answers closed)
 
   of : TableOf (line_moves script answers ++ run.closing) v t (whole_run v t script answers run closed are)
-  of = table_at v t script answers run closed are tree laws begun
+  of = table_at v t script answers run closed are tree
 
   stamps_at : (m : Moment) (x : View) (rest : List Move) → m.all ≡ all → x.opening ≡ v.opening → IsExecution x rest t → KnowsStamps m x
   stamps_at m x rest same opened goes q session w stamp stand told session_is number_is u within u_session u_number =
@@ -114,8 +116,8 @@ module _ (tree : TreeLaws) (laws : HistoryLaws) (begun : (number begin : ℕ) �
 
     fine_there : AllFine of.table (λ q. progress_of q m.before) here.before
     fine_there q session =
-        let fine = run_fine tree laws begun of.table first (λ p. nothing) v here.before here.start (first_range script answers i run.ranges) of.opened here.right_first
-        (opened_fine tree laws begun of.table v run.opened) q session in
+        let fine = run_fine tree laws begun stay of.table first (λ p. nothing) v here.before here.start (first_range script answers i run.ranges) of.opened here.right_first
+        (opened_told v run.opened) (opened_fine tree laws begun stay of.table v run.opened) q session in
         subst (λ (p : Progress). IsFine of.table (history_of here.before) p (here.before.session q))
         (heard_said first (λ p. nothing) q ∙ ap (λ (said : List Said). progress_of q said) (said_first i script answers)) fine
 
@@ -152,8 +154,8 @@ module _ (tree : TreeLaws) (laws : HistoryLaws) (begun : (number begin : ℕ) �
           early = λ in_turn. found.over;
         }
 
-    ready : DidLine here.before l a here.after → refusal_in a ≡ None → Ready of.table m l.command a here.before here.after
-    ready did none = record {
+    ready : DidLine here.before l a here.after → Ready of.table m l.command here.before here.after
+    ready did = record {
       session = did.session;
       range = run.ranges l (i, at);
       holds = here.holds;
@@ -168,7 +170,6 @@ module _ (tree : TreeLaws) (laws : HistoryLaws) (begun : (number begin : ℕ) �
       stamps = stamps_at m here.before (move_of l a ∷ here.rest) refl opening_before (here.after, here.did, here.holds, here.goes);
       stamps_after = stamps_at m here.after here.rest refl opening_after here.goes;
       commits = commit_there;
-      allows = allowed here.before l a here.after none did;
     }
 
     -- no line of the log is refused for others
@@ -178,69 +179,87 @@ module _ (tree : TreeLaws) (laws : HistoryLaws) (begun : (number begin : ℕ) �
         (λ (did : DidLogLine here.before l a here.after). absurd (not_logged here.before here.after l.command a for did.did))
         (moved here.before l a here.after here.did)
 
+    -- a transaction's own line did what its command does
+    own_line : (did : DidLine here.before l a here.after) (none : refusal_in a ≡ None) (u : Transaction) → current_of m l.session ≡ Some u → Commanded here.before l.session l.command a here.after
+    own_line did none u current =
+        commanded here.before l.session l.command a here.after (current_of m l.session) u (told_there l.session did.session).0.now current (allowed here.before l a here.after none did)
+
   -- one that was refused for what another session does
   cause_of : (i : ℕ) (l : ScriptLine) (a : Answer) → slice_get script i ≡ Some l → slice_get answers i ≡ Some a → IsForOthers a → (u : Transaction)
       → current_of (moment_at InTurn opening script answers all i l) l.session ≡ Some u
       → HasRefusalCause (moment_at InTurn opening script answers all i l) l.command (with_line (Some l.command) a u) a
   cause_of i l (answer.WaitSeat other seen) at answered for u current =
-      let did = of_session i l (answer.WaitSeat other seen) at answered for in
-      let it = ready i l (answer.WaitSeat other seen) at answered did refl in
-      let there = here i l (answer.WaitSeat other seen) at answered in (
+      let a = answer.WaitSeat other seen in
+      let did = of_session i l a at answered for in
+      let it = ready i l a at answered did in
+      let by = own_line i l a at answered did refl u current in
+      let there = here i l a at answered in (
         refl,
         wait_seat tree laws of.table (moment_at InTurn opening script answers all i l) there.before there.after l.command it.session it.range it.holds it.opened it.fine it.made it.known
-            it.stamps it.stamps_after it.commits it.allows.free u current other seen it.allows.did,
+            it.stamps it.stamps_after it.commits by.free by.plain u current other seen by.never by.did,
       )
   cause_of i l (answer.WaitRing flushed) at answered for u current =
-      let did = of_session i l (answer.WaitRing flushed) at answered for in
-      let it = ready i l (answer.WaitRing flushed) at answered did refl in
-      let there = here i l (answer.WaitRing flushed) at answered in (
+      let a = answer.WaitRing flushed in
+      let did = of_session i l a at answered for in
+      let it = ready i l a at answered did in
+      let by = own_line i l a at answered did refl u current in
+      let there = here i l a at answered in (
         refl,
         wait_ring tree laws of.table (moment_at InTurn opening script answers all i l) there.before there.after l.command it.session it.range it.holds it.opened it.fine it.made it.known
-            it.stamps it.stamps_after it.commits it.allows.free u current flushed (flushed_there i l (answer.WaitRing flushed) at answered)
-            (few_there i l (answer.WaitRing flushed) at answered did u current) it.allows.did,
+            it.stamps it.stamps_after it.commits by.free by.plain u current flushed (flushed_there i l a at answered)
+            (few_there i l a at answered did u current) by.did,
       )
   cause_of i l (answer.Owned other number) at answered for u current =
-      let did = of_session i l (answer.Owned other number) at answered for in
-      let it = ready i l (answer.Owned other number) at answered did refl in
-      let there = here i l (answer.Owned other number) at answered in
+      let a = answer.Owned other number in
+      let did = of_session i l a at answered for in
+      let it = ready i l a at answered did in
+      let by = own_line i l a at answered did refl u current in
+      let there = here i l a at answered in
       owned_cause tree laws of.table (moment_at InTurn opening script answers all i l) there.before there.after l.command it.session it.range it.holds it.opened it.fine it.made it.known
-      it.stamps it.stamps_after it.commits it.allows.free u current refl other number it.allows.did
+      it.stamps it.stamps_after it.commits by.free by.plain u current refl other number by.did
   cause_of i l (answer.Newer stamp) at answered for u current =
-      let did = of_session i l (answer.Newer stamp) at answered for in
-      let it = ready i l (answer.Newer stamp) at answered did refl in
-      let there = here i l (answer.Newer stamp) at answered in
+      let a = answer.Newer stamp in
+      let did = of_session i l a at answered for in
+      let it = ready i l a at answered did in
+      let by = own_line i l a at answered did refl u current in
+      let there = here i l a at answered in
       newer_cause tree laws of.table (moment_at InTurn opening script answers all i l) there.before there.after l.command it.session it.range it.holds it.opened it.fine it.made it.known
-      it.stamps it.stamps_after it.commits it.allows.free u current stamp it.allows.did
+      it.stamps it.stamps_after it.commits by.free by.plain u current stamp by.did
   cause_of i l (answer.ExcludedEarly succ pred) at answered for u current =
-      let did = of_session i l (answer.ExcludedEarly succ pred) at answered for in
-      let it = ready i l (answer.ExcludedEarly succ pred) at answered did refl in
-      let there = here i l (answer.ExcludedEarly succ pred) at answered in
+      let a = answer.ExcludedEarly succ pred in
+      let did = of_session i l a at answered for in
+      let it = ready i l a at answered did in
+      let by = own_line i l a at answered did refl u current in
+      let there = here i l a at answered in
       excluded_cause tree laws of.table (moment_at InTurn opening script answers all i l) there.before there.after l.command it.session it.range it.holds it.opened it.fine it.made it.known
-      it.stamps it.stamps_after it.commits it.allows.free u current succ pred it.allows.did
+      it.stamps it.stamps_after it.commits by.free by.plain u current succ pred by.did
   cause_of i l (answer.Committed stamp succ pred) at answered for u current =
       let a = answer.Committed stamp succ pred in
       let did = of_session i l a at answered for in
-      let it = ready i l a at answered did refl in
+      let it = ready i l a at answered did in
+      let by = own_line i l a at answered did refl u current in
       let there = here i l a at answered in
       outcome_cause tree laws of.table (moment_at InTurn opening script answers all i l) there.before there.after l.command it.session it.range it.holds it.opened it.fine it.made it.known
-      it.stamps it.stamps_after it.commits it.allows.free u current a tt
-      (committed_by there.before there.after l.session l.command stamp succ pred (answers_to there.before l a there.after did it.allows.free) it.allows.did)
+      it.stamps it.stamps_after it.commits by.free by.plain u current a tt
+      (committed_by there.before there.after l.session l.command stamp succ pred (answers_to there.before l a there.after did by.free) by.did)
   cause_of i l (answer.Excluded stamp succ pred) at answered for u current =
       let a = answer.Excluded stamp succ pred in
       let did = of_session i l a at answered for in
-      let it = ready i l a at answered did refl in
+      let it = ready i l a at answered did in
+      let by = own_line i l a at answered did refl u current in
       let there = here i l a at answered in
       outcome_cause tree laws of.table (moment_at InTurn opening script answers all i l) there.before there.after l.command it.session it.range it.holds it.opened it.fine it.made it.known
-      it.stamps it.stamps_after it.commits it.allows.free u current a tt
-      (excluded_by there.before there.after l.session l.command stamp succ pred (answers_to there.before l a there.after did it.allows.free) it.allows.did)
+      it.stamps it.stamps_after it.commits by.free by.plain u current a tt
+      (excluded_by there.before there.after l.session l.command stamp succ pred (answers_to there.before l a there.after did by.free) by.did)
   cause_of i l a at answered for u current = absurd for
 
   pub refuses_for_others : RefusesForOthers opening script answers all
   refuses_for_others i l a at answered for told own =
       subst (λ (x : Transaction). HasRefusalCause (moment_at InTurn opening script answers all i l) l.command x a) (sym own.2) (cause_of i l a at answered for own.0 own.1)
 
-pub runs_refuse : TreeLaws → HistoryLaws → ((number begin : ℕ) → IsRunOf (world.begun number begin) []) → ExecutionsTell → ExecutionsGoOn → ClaimsAreFew → RunsRefuseForOthers
-runs_refuse tree laws begun tell go few v t script answers run closed opening are starts = refuses_for_others tree laws begun tell go few v t script answers run closed are opening starts
+pub runs_refuse : TreeLaws → HistoryLaws → ((number begin : ℕ) → IsRunOf (world.begun number begin) [])
+    → ((w u : Work) (steps : List Step) → Extends w u → IsAnswered w steps → IsAnswered u steps) → ExecutionsTell → ExecutionsGoOn → ClaimsAreFew → RunsRefuseForOthers
+runs_refuse tree laws begun stay tell go few v t script answers run closed opening are starts = refuses_for_others tree laws begun stay tell go few v t script answers run closed are opening starts
 
 -- each refusal is for others, for want of room, or needs no cause
 any_cause : (m : Moment) (l : ScriptLine) (a : Answer) (t : Transaction) → (IsForOthers a → HasRefusalCause m l.command t a) → (IsFull a → HasRefusalCause m l.command t a)

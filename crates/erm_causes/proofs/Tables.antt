@@ -6,18 +6,20 @@ use Rattle.erm_model.specs.declared.limits.TheConstants.{TABLES}
 use Rattle.erm_model.specs.declared.history.TransactionRecord.{TransactionRecord}
 use Rattle.erm_model.specs.Member.{◌∈◌}
 use Rattle.erm_model.specs.Rows.{Rows}
+use Rattle.erm_model.specs.Run.{Step}
 use Rattle.erm_node.specs.Sound.{IsSound, reached, sound_law}
 use Rattle.erm_tree.specs.Tables.{ObjectsHaveOneTable, reached_by}
 use Rattle.erm_tree.proofs.Standing.{reached-table}
+use Rattle.erm_world.specs.Going.{Extends}
 use Rattle.erm_world.specs.Laws.{IsSerializable}
-use Rattle.erm_world.specs.World.{IsSession, View, history_of, made_by_all}
+use Rattle.erm_world.specs.World.{View, Work, history_of, made_by_all}
 use Rattle.erm_world.specs.World as world
-use Rattle.erm_maps.specs.Runs.{IsRunOf}
+use Rattle.erm_maps.specs.Runs.{IsAnswered, IsRunOf}
 use Rattle.erm_good_report.specs.Transactions.{Progress, Said, heard, nothing}
 use Rattle.erm_lines.specs.Executions.{IsExecution, IsOpened, Move, close, flush, line, log, said_in}
 use Rattle.erm_causes.specs.Touched.{AreOfTables}
 use Rattle.erm_causes.proofs.Fine.{IsFine}
-use Rattle.erm_causes.proofs.Moves.{AllFine, IsMoveInRange, heard_move, move_fine, move_history, move_made, move_opening, table_in}
+use Rattle.erm_causes.proofs.Moves.{AllFine, AllTold, IsMoveInRange, heard_move, move_fine, move_history, move_made, move_opening, move_told, table_in}
 use Rattle.erm_causes.proofs.Own.{TreeLaws}
 use Rattle.erm_told_limits.proofs.Given.{HistoryLaws}
 
@@ -142,17 +144,19 @@ abbrev pub AreMovesInRange : List Move → Type 0
 AreMovesInRange [] = Unit {0}
 AreMovesInRange (m ∷ moves) = IsMoveInRange m × AreMovesInRange moves
 
-module _ (tree : TreeLaws) (laws : HistoryLaws) (begun : (number begin : ℕ) → IsRunOf (world.begun number begin) []) (table : ℕ → ℕ) where
+module _ (tree : TreeLaws) (laws : HistoryLaws) (begun : (number begin : ℕ) → IsRunOf (world.begun number begin) [])
+    (stay : (w u : Work) (steps : List Step) → Extends w u → IsAnswered w steps → IsAnswered u steps) (table : ℕ → ℕ) where
   pub run_fine : (moves : List Move) (p : ℕ → Progress) (v t : View) (run : IsExecution v moves t) → AreMovesInRange moves → AreOfTables table v.opening.rows
-      → AreRight table moves v t run → AllFine table p v → AllFine table (heard_moves moves p) t
-  run_fine [] p v t run range opened right fine = subst (AllFine table p) (sym run) fine
-  run_fine (m ∷ moves) p v t (u, did, holds, rest) range opened right fine =
+      → AreRight table moves v t run → AllTold p v → AllFine table p v → AllFine table (heard_moves moves p) t
+  run_fine [] p v t run range opened right told fine = subst (AllFine table p) (sym run) fine
+  run_fine (m ∷ moves) p v t (u, did, holds, rest) range opened right told fine =
       let opened_u : AreOfTables table u.opening.rows = subst (λ (o : world.Opening). AreOfTables table o.rows) (sym (move_opening v m u did)) opened in
-      run_fine moves (heard_move m p) u t rest range.1 opened_u right.1 (move_fine tree laws begun table p v u holds opened_u fine m did range.0 right.0)
+      run_fine moves (heard_move m p) u t rest range.1 opened_u right.1 (move_told begun stay p v m u told did)
+      (move_fine tree laws begun table p v u holds opened_u told fine m did range.0 right.0)
 
   -- in a world that was just opened nothing was touched
   pub opened_fine : (v : View) → IsOpened v → AllFine table (λ q. nothing) v
-  opened_fine v opened q session = subst (λ s. IsFine table (history_of v) nothing s) (sym (opened.idle q session)) (record { over = tt; now = tt })
+  opened_fine v opened q session = subst (λ s. IsFine table (history_of v) nothing s) (sym (opened.idle q session)) (record { over = refl; now = tt })
 
 -- what is heard of moves is what they say
 pub heard_said : (moves : List Move) (p : ℕ → Progress) (q : ℕ)

@@ -1,7 +1,7 @@
 -- Which lines may be refused for what other sessions do.
 use Rattle.std.proofs.Common.{◌≡◌, ℕ, Option, Some, None, refl, sym, ap, ◌∙◌, subst}
 use Rattle.erm_model.specs.declared.outcome.Phase.{Phase}
-use Rattle.erm_model.specs.declared.outcome.Phase.TheVariants.{Idle, Active, Sealed, Pending, Safe}
+use Rattle.erm_model.specs.declared.outcome.Phase.TheVariants.{Active}
 use Rattle.erm_model.specs.declared.row_stop.RowStop.{RowStop}
 use Rattle.erm_model.specs.declared.row_stop.RowStop.TheVariants as stop
 use Rattle.erm_report.specs.declared.answer.Answer.{Answer}
@@ -12,21 +12,27 @@ use Rattle.erm_script.specs.declared.script.ScriptLine.{ScriptLine}
 use Rattle.erm_world.specs.declared.stops.Wait.{Wait}
 use Rattle.erm_world.specs.declared.stops.Wait.TheVariants as wait
 use Rattle.erm_world.specs.Calls.{DidNotSettle, DidSeal}
-use Rattle.erm_world.specs.World.{View, phase_at}
-use Rattle.erm_good_report.specs.Phases.{FitsRefusal, IsAnswerTo, refusal_for, refusal_in, refusal_of, phase_asked}
-use Rattle.erm_good_report.specs.Transactions.{table_of}
-use Rattle.erm_lines.specs.Answers.{DidAsked, DidCommand, DidDecide, DidLine, WasRefusedAs, stop_told}
-use Rattle.erm_causes.proofs.Quiet.{wants_active}
+use Rattle.erm_world.specs.World.{Stand, View, phase_at}
+use Rattle.erm_good_report.specs.Phases.{FitsRefusal, HasNoSnapshot, IsAnswerTo, NeedsReader, NeedsWriter, need_of, refusal_in, refusal_of}
+use Rattle.erm_good_report.proofs.Phases.{phase_refuses}
+use Rattle.erm_good_report.specs.Transactions.{Transaction, table_of}
+use Rattle.erm_lines.specs.Answers.{DidAsked, DidCommand, DidIn, DidDecide, DidLine, WasRefusedAs, stop_told}
+use Rattle.erm_lines.specs.Told.{TellsNow}
+use Rattle.erm_lines.proofs.Moved.{active_where}
+use Rattle.erm_lines.proofs.Watched.{start_where}
+use Rattle.erm_told.proofs.Lines.{in_either}
+use Rattle.erm_told.proofs.Sessions.{now_none, now_watching}
+use Rattle.erm_causes.proofs.Quiet.{idle_with}
 
--- a line that names a table is allowed in an active session alone
-pub named_active : (phase : Phase) (c : Command) (k : ℕ) → table_of c ≡ Some k → refusal_of phase c ≡ None → phase ≡ Active
-named_active phase (command.Get n key) k named free = wants_active phase free
-named_active phase (command.Put n key value) k named free = wants_active phase free
-named_active phase (command.Del n key) k named free = wants_active phase free
-named_active phase (command.Next n from) k named free = wants_active phase free
-named_active phase (command.Scan n low high) k named free = wants_active phase free
-named_active phase (command.Tidy n key) k named free = wants_active phase free
-named_active phase c k named free = let no : None ≡ Some k = named in cc
+-- a line that names a table is allowed in an active session alone, where there is no snapshot
+pub named_active : (phase : Phase) (c : Command) (k : ℕ) → table_of c ≡ Some k → HasNoSnapshot phase → refusal_of phase c ≡ None → phase ≡ Active
+named_active phase (command.Get n key) k named plain free = active_where NeedsReader phase tt plain free
+named_active phase (command.Put n key value) k named plain free = active_where NeedsWriter phase tt plain free
+named_active phase (command.Del n key) k named plain free = active_where NeedsWriter phase tt plain free
+named_active phase (command.Next n from) k named plain free = active_where NeedsReader phase tt plain free
+named_active phase (command.Scan n low high) k named plain free = active_where NeedsReader phase tt plain free
+named_active phase (command.Tidy n key) k named plain free = active_where NeedsWriter phase tt plain free
+named_active phase c k named plain free = let no : None ≡ Some k = named in cc
 
 -- A line whose transaction waits: it names a table; or it decides the transaction, which it may have sealed first.
 pub data Waited (v : View) (seat : ℕ) (c : Command) (a : Answer) (w : Wait) (t : View) : Type 0 where
@@ -34,18 +40,21 @@ pub data Waited (v : View) (seat : ℕ) (c : Command) (a : Answer) (w : Wait) (t
   settled : c ≡ command.Settle → DidNotSettle v seat w t → Waited v seat c a w t
   committed : c ≡ command.Commit → (stamp : ℕ) (between : View) → DidSeal v seat stamp between → DidNotSettle between seat w t → Waited v seat c a w t
 
-pub waited_seat : (v t : View) (seat : ℕ) (c : Command) (other seen : ℕ) → DidCommand v seat c (answer.WaitSeat other seen) t → Waited v seat c (answer.WaitSeat other seen) (wait.Seat other seen) t
-waited_seat v t seat command.Settle other seen did = settled refl did
-waited_seat v t seat command.Commit other seen did = committed refl did.stamp did.between did.sealed did.decided
-waited_seat v t seat (command.Get n key) other seen did = named n refl did
-waited_seat v t seat (command.Put n key value) other seen did = named n refl did
-waited_seat v t seat (command.Del n key) other seen did = named n refl did
-waited_seat v t seat (command.Next n from) other seen did = named n refl did
-waited_seat v t seat (command.Scan n low high) other seen did = named n refl did
-waited_seat v t seat (command.Tidy n key) other seen did = named n refl did
-waited_seat v t seat c other seen did = absurd did
+pub waited_seat : (v t : View) (seat : ℕ) (c : Command) (other seen : ℕ) → (c ≡ command.Safe → ⊥) → DidCommand v seat c (answer.WaitSeat other seen) t
+    → Waited v seat c (answer.WaitSeat other seen) (wait.Seat other seen) t
+waited_seat v t seat command.Safe other seen never did = absurd (never refl)
+waited_seat v t seat command.Settle other seen never did = settled refl did
+waited_seat v t seat command.Commit other seen never did = committed refl did.stamp did.between did.sealed did.decided
+waited_seat v t seat (command.Get n key) other seen never did = named n refl did
+waited_seat v t seat (command.Put n key value) other seen never did = named n refl did
+waited_seat v t seat (command.Del n key) other seen never did = named n refl did
+waited_seat v t seat (command.Next n from) other seen never did = named n refl did
+waited_seat v t seat (command.Scan n low high) other seen never did = named n refl did
+waited_seat v t seat (command.Tidy n key) other seen never did = named n refl did
+waited_seat v t seat c other seen never did = absurd did
 
 pub waited_ring : (v t : View) (seat : ℕ) (c : Command) (flushed : ℕ) → DidCommand v seat c (answer.WaitRing flushed) t → Waited v seat c (answer.WaitRing flushed) (wait.Ring flushed) t
+waited_ring v t seat command.Safe flushed did = absurd did.asked
 waited_ring v t seat command.Settle flushed did = settled refl did
 waited_ring v t seat command.Commit flushed did = committed refl did.stamp did.between did.sealed did.decided
 waited_ring v t seat (command.Get n key) flushed did = named n refl did
@@ -97,6 +106,7 @@ pub record NamedRefused (v : View) (seat : ℕ) (c : Command) (a : Answer) (t : 
   pub refused : WasRefusedAs v seat c a t
 
 pub owned_named : (v t : View) (seat : ℕ) (c : Command) (other number : ℕ) → DidCommand v seat c (answer.Owned other number) t → NamedRefused v seat c (answer.Owned other number) t
+owned_named v t seat command.Safe other number did = absurd did.asked
 owned_named v t seat command.Settle other number did = absurd did
 owned_named v t seat command.Commit other number did = absurd did.decided
 owned_named v t seat (command.Get n key) other number did = record { table = n; names = refl; refused = did }
@@ -108,6 +118,7 @@ owned_named v t seat (command.Tidy n key) other number did = record { table = n;
 owned_named v t seat c other number did = absurd did
 
 pub newer_named : (v t : View) (seat : ℕ) (c : Command) (stamp : ℕ) → DidCommand v seat c (answer.Newer stamp) t → NamedRefused v seat c (answer.Newer stamp) t
+newer_named v t seat command.Safe stamp did = absurd did.asked
 newer_named v t seat command.Settle stamp did = absurd did
 newer_named v t seat command.Commit stamp did = absurd did.decided
 newer_named v t seat (command.Get n key) stamp did = record { table = n; names = refl; refused = did }
@@ -119,6 +130,7 @@ newer_named v t seat (command.Tidy n key) stamp did = record { table = n; names 
 newer_named v t seat c stamp did = absurd did
 
 pub excluded_named : (v t : View) (seat : ℕ) (c : Command) (succ pred : ℕ) → DidCommand v seat c (answer.ExcludedEarly succ pred) t → NamedRefused v seat c (answer.ExcludedEarly succ pred) t
+excluded_named v t seat command.Safe succ pred did = absurd did.asked
 excluded_named v t seat command.Settle succ pred did = absurd did
 excluded_named v t seat command.Commit succ pred did = absurd did.decided
 excluded_named v t seat (command.Get n key) succ pred did = record { table = n; names = refl; refused = did }
@@ -130,29 +142,9 @@ excluded_named v t seat (command.Tidy n key) succ pred did = record { table = n;
 excluded_named v t seat c succ pred did = absurd did
 
 -- an answer that is no refusal by a phase is that of a command which the phase allowed
-refusal_is : (wanted : Option Phase) (phase : Phase) (refusal : Answer) → refusal_for wanted phase ≡ Some refusal → refusal_in refusal ≡ Some refusal
-refusal_is (Some Idle) Active refusal is = let same : answer.NotIdle ≡ refusal = cc in subst (λ (a : Answer). refusal_in a ≡ Some a) same refl
-refusal_is (Some Idle) Sealed refusal is = let same : answer.NotIdle ≡ refusal = cc in subst (λ (a : Answer). refusal_in a ≡ Some a) same refl
-refusal_is (Some Active) Idle refusal is = let same : answer.NoTransaction ≡ refusal = cc in subst (λ (a : Answer). refusal_in a ≡ Some a) same refl
-refusal_is (Some Active) Sealed refusal is = let same : answer.IsSealed ≡ refusal = cc in subst (λ (a : Answer). refusal_in a ≡ Some a) same refl
-refusal_is (Some Sealed) Idle refusal is = let same : answer.NotSealed ≡ refusal = cc in subst (λ (a : Answer). refusal_in a ≡ Some a) same refl
-refusal_is (Some Sealed) Active refusal is = let same : answer.NotSealed ≡ refusal = cc in subst (λ (a : Answer). refusal_in a ≡ Some a) same refl
-refusal_is (Some Idle) Idle refusal is = let no : None ≡ Some refusal = is in cc
-refusal_is (Some Active) Active refusal is = let no : None ≡ Some refusal = is in cc
-refusal_is (Some Sealed) Sealed refusal is = let no : None ≡ Some refusal = is in cc
-refusal_is (Some Idle) Pending refusal is = let same : answer.NotIdle ≡ refusal = cc in subst (λ (a : Answer). refusal_in a ≡ Some a) same refl
-refusal_is (Some Idle) Safe refusal is = let same : answer.NotIdle ≡ refusal = cc in subst (λ (a : Answer). refusal_in a ≡ Some a) same refl
-refusal_is (Some Active) Pending refusal is = let same : answer.NoTransaction ≡ refusal = cc in subst (λ (a : Answer). refusal_in a ≡ Some a) same refl
-refusal_is (Some Active) Safe refusal is = let same : answer.NoTransaction ≡ refusal = cc in subst (λ (a : Answer). refusal_in a ≡ Some a) same refl
-refusal_is (Some Sealed) Pending refusal is = let same : answer.NotSealed ≡ refusal = cc in subst (λ (a : Answer). refusal_in a ≡ Some a) same refl
-refusal_is (Some Sealed) Safe refusal is = let same : answer.NotSealed ≡ refusal = cc in subst (λ (a : Answer). refusal_in a ≡ Some a) same refl
-refusal_is (Some Pending) phase refusal is = let no : None ≡ Some refusal = is in cc
-refusal_is (Some Safe) phase refusal is = let no : None ≡ Some refusal = is in cc
-refusal_is None phase refusal is = let no : None ≡ Some refusal = is in cc
-
 pub record Allowed (v : View) (seat : ℕ) (c : Command) (a : Answer) (t : View) : Type 0 where
   pub free : refusal_of (phase_at v seat) c ≡ None
-  pub did : DidCommand v seat c a t
+  pub did : DidIn (phase_at v seat) v seat c a t
 
 pub allowed : (v : View) (l : ScriptLine) (a : Answer) (t : View) → refusal_in a ≡ None → DidLine v l a t → Allowed v l.session l.command a t
 allowed v l a t none did = by (refusal_of (phase_at v l.session) l.command) refl did.fits did.did
@@ -160,4 +152,29 @@ allowed v l a t none did = by (refusal_of (phase_at v l.session) l.command) refl
     by : (r : Option Answer) → refusal_of (phase_at v l.session) l.command ≡ r → FitsRefusal r l.command a → DidAsked r v l.session l.command a t → Allowed v l.session l.command a t
     by None is fits did = record { free = is; did = did }
     by (Some refusal) is fits did =
-        let no : None ≡ Some refusal = sym none ∙ ap refusal_in fits ∙ refusal_is (phase_asked l.command) (phase_at v l.session) refusal is in cc
+        let no : None ≡ Some refusal = sym none ∙ ap refusal_in fits ∙ phase_refuses (need_of l.command) (phase_at v l.session) refusal is in cc
+
+-- That of a transaction is one of a session without a snapshot, and no `safe`.
+pub record Commanded (v : View) (seat : ℕ) (c : Command) (a : Answer) (t : View) : Type 0 where
+  pub free : refusal_of (phase_at v seat) c ≡ None
+  pub plain : HasNoSnapshot (phase_at v seat)
+  pub never : c ≡ command.Safe → ⊥
+  pub did : DidCommand v seat c a t
+
+none_current : (current : Option Transaction) (u : Transaction) (P : Type 0) → current ≡ None → current ≡ Some u → P
+none_current current u P none some = let no : None ≡ Some u = sym none ∙ some in absurd (cc)
+
+pub commanded : (v : View) (seat : ℕ) (c : Command) (a : Answer) (t : View) (current : Option Transaction) (u : Transaction) → TellsNow seat current (v.session seat).stand → current ≡ Some u
+    → Allowed v seat c a t → Commanded v seat c a t
+commanded v seat c a t current u tells is it =
+    in_either (Commanded v seat c a t) v t seat c a
+    (λ plain done. record {
+      free = it.free;
+      plain = plain;
+      never = λ asks.
+          let idle = idle_with (v.session seat).stand (start_where (phase_at v seat) c it.free asks plain) in
+          none_current current u ⊥ (now_none seat current (subst (λ (at : Stand). TellsNow seat current at) idle tells)) is;
+      did = done;
+    })
+    (λ has done. none_current current u (Commanded v seat c a t) (now_watching seat current has.0 (subst (λ (at : Stand). TellsNow seat current at) has.1 tells)) is)
+    it.did

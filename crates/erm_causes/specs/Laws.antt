@@ -10,6 +10,7 @@ use Rattle.erm_good_report.specs.GoodReport.{places_of}
 use Rattle.erm_good_report.specs.Opening.{InTurn, Opening}
 use Rattle.erm_good_report.specs.Phases.{Closed}
 use Rattle.erm_good_report.specs.Refusals.{HasLogCause, HasRefusalCause, HasUnfilledCause, IsOwn, moment_at, most_end}
+use Rattle.erm_good_report.specs.Snapshots.{SnapshotsAgree}
 use Rattle.erm_good_report.specs.Stamps.{DrawsUntold}
 use Rattle.erm_good_report.specs.Transactions.{Transaction, progress_of, said_of}
 use Rattle.erm_lines.specs.Executions.{AreClosed, IsCourse}
@@ -70,3 +71,7 @@ DrawsInReach opening script answers told = (i stamp : ℕ) (l : ScriptLine) → 
 
 abbrev pub RunsDrawInReach : Type 0
 RunsDrawInReach = OfCourses (λ opening script answers closed told. DrawsInReach opening script answers told)
+
+-- what a run so far owes of its snapshots
+abbrev pub CoursesHaveSafeSnapshots : Type 0
+CoursesHaveSafeSnapshots = OfCourses (λ opening script answers closed told. SnapshotsAgree (moment_at InTurn opening script answers told) opening script answers told)

@@ -46,12 +46,13 @@ pub record TouchesOne (table : ℕ → ℕ) (h : History) (t : Transaction) (f :
   pub touches : Touches table t f.work
   pub closed : WasClosed h t.ending f.work
 
--- This is so of transactions told and of those of the world that are over, each beside the other, in turn.
+-- What is over in the world is told, in turn, as the next transaction, which has its number, and this is so of the two; or it is told as none, as a
+-- snapshot is, and was aborted.
 abbrev pub Together : (Transaction → Finished → Type 0) → List Transaction → List Finished → Type 0
-Together so [] [] = Unit {0}
-Together so [] (f ∷ fs) = ⊥
-Together so (t ∷ ts) [] = ⊥
-Together so (t ∷ ts) (f ∷ fs) = so t f × Together so ts fs
+Together so ts [] = ts ≡ []
+Together so ts (f ∷ fs) =
+    ((t : Transaction) × (us : List Transaction) × (ts ≡ t ∷ us) × (t.number ≡ f.work.number) × so t f × Together so us fs)
+    ⊎ ((f.fate ≡ world.aborts) × Together so ts fs)
 
 -- those that are over, in turn
 abbrev pub TouchesOver : (ℕ → ℕ) → History → List Transaction → List Finished → Type 0
@@ -60,6 +61,7 @@ TouchesOver table h ts fs = Together (TouchesOne table h) ts fs
 -- the one in progress
 abbrev pub TouchesNow : (ℕ → ℕ) → Option Transaction → Stand → Type 0
 TouchesNow table None world.idle = Unit {0}
+TouchesNow table None (world.snapshot x) = Unit {0}
 TouchesNow table (Some t) (world.active w) = Touches table t w
 TouchesNow table (Some t) (world.sealed w stamp) = Touches table t w
 TouchesNow table current stand = ⊥

@@ -1,9 +1,10 @@
-//! The causes that a run shows: each object has one table, and two lines that touch one object name one table. Each law is the
-//! contract of a function that does nothing.
+//! The causes that a run shows: each object has one table, and two lines that touch one object name one table. And what a run owes of
+//! its snapshots: where each begins, why it is safe, waits or isn't safe, and its place in the serial order. Each law is the contract of
+//! a function that does nothing.
 #![tactic(auto)]
 
-ghost use Rattle.erm_causes.specs.Laws.{RunsDrawInReach, RunsRefuseForOthers, RunsTellLog, RunsTouchTables};
-ghost use Rattle.erm_lines.specs.Laws.{PartsHaveCauses, PartsRefuseWithCause, RunsHaveCauses, RunsRefuseWithCause};
+ghost use Rattle.erm_causes.specs.Laws.{CoursesHaveSafeSnapshots, RunsDrawInReach, RunsRefuseForOthers, RunsTellLog, RunsTouchTables};
+ghost use Rattle.erm_lines.specs.Laws.{PartsHaveCauses, PartsHaveSafeSnapshots, PartsRefuseWithCause, RunsAreSerialWithSnapshots, RunsHaveCauses, RunsHaveSafeSnapshots, RunsRefuseWithCause};
 
 /// Each object of a run has one table: that of the line that made it, or that whose tree reached it at the opening. Each
 /// transaction that the report tells has a line of the table of each object that it read, and one that writes in the table of each
@@ -18,6 +19,7 @@ pub fn runs_touch_tables()
     erm_tree::tables_stand_apart();
     erm_tree::calls_stay_in_their_table();
     erm_maps::begun_transactions_are_runs();
+    erm_maps::answers_stay();
 }
 
 /// Each commit that the report of a run tells has the causes of its window, and each exclusion those of its closed one.
@@ -48,6 +50,7 @@ pub fn runs_refuse_for_others()
     erm_tree::tables_stand_apart();
     erm_tree::calls_stay_in_their_table();
     erm_maps::begun_transactions_are_runs();
+    erm_maps::answers_stay();
     erm_told::executions_tell_sessions();
     erm_told::executions_go_on();
     erm_told_limits::claims_are_few();
@@ -93,4 +96,41 @@ pub fn parts_refuse_with_cause()
     runs_tell_log();
     erm_told_limits::stamps_are_in_reach();
     runs_draw_in_reach();
+}
+
+/// Each snapshot of a run so far begins at the end of the log and has the replies of the state there; and where a line tells that it is safe,
+/// waits or isn't safe, that has its cause.
+pub fn courses_have_safe_snapshots()
+    ensures { CoursesHaveSafeSnapshots }
+{
+    erm_told::executions_tell_sessions();
+    erm_told::executions_go_on();
+    erm_told::executions_keep_begins();
+    erm_told_limits::ends_are_in_reach();
+    erm_told_order::courses_keep_snapshots();
+}
+
+/// So it is in a whole run.
+pub fn runs_have_safe_snapshots()
+    ensures { RunsHaveSafeSnapshots }
+{
+    courses_have_safe_snapshots();
+}
+
+/// And in one that was cut off.
+pub fn parts_have_safe_snapshots()
+    ensures { PartsHaveSafeSnapshots }
+{
+    courses_have_safe_snapshots();
+}
+
+/// Run in the serial order of all, the commits that a report tells and its safe snapshots that ended give their replies.
+pub fn runs_are_serial_with_snapshots()
+    ensures { RunsAreSerialWithSnapshots }
+{
+    erm_told::executions_tell_sessions();
+    erm_told::executions_go_on();
+    erm_told::executions_keep_safe();
+    erm_told_limits::ends_are_in_reach();
+    erm_told_order::told_worlds_are_serial_with_snapshots();
 }

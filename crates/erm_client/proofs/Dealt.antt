@@ -11,7 +11,7 @@ use Rattle.erm_client.specs.declared.refusal.Refusal.{Refusal}
 use Rattle.erm_client.specs.Refusals.{refusal_told}
 use Rattle.erm_client.specs.Transcripts.{EndsWith, HasMore, IsAnswered, IsRefused, IsSame, IsTranscript, Starves}
 use Rattle.erm_client.specs.Transcripts as refused
-use Rattle.erm_good_report.specs.Transactions.{Commits, Ending, Progress, Said, Transaction, begun, ended, goes_on, heard, nothing, op_of, progress_of, said_of, step_of, steps_of, with_ending, with_line}
+use Rattle.erm_good_report.specs.Transactions.{Commits, Ending, Progress, Said, Transaction, begun, ended, heard, nothing, op_of, progress_of, said_of, step_of, steps_of, with_ending, with_line}
 use Rattle.erm_good_report.specs.Transactions as dealt
 use Rattle.erm_model.proofs.Members.{∈-push}
 use Rattle.erm_model.specs.declared.operation.Op.{Op}
@@ -124,6 +124,8 @@ module _ (Kind : List Step → Type 0) where
   all_heard session asked (answer.Newer stamp) p all kind =
       let now = option_map (with_line asked (answer.Newer stamp)) p.current in over_ended dealt.Aborts p.over now all (aborted now)
   all_heard session asked answer.Aborted p all kind = over_ended dealt.Aborts p.over p.current all (aborted p.current)
+  all_heard session asked answer.Ended p all kind = over_ended dealt.Aborts p.over p.current all (aborted p.current)
+  all_heard session asked (answer.Unsafe seat stamp) p all kind = over_ended dealt.Aborts p.over p.current all (aborted p.current)
   all_heard session asked a p all kind = all
 
   -- after a command was answered

@@ -104,6 +104,8 @@ heard_still session asked (answer.ExcludedEarly succ pred) p plain =
 heard_still session asked (answer.Owned seat number) p plain = ended_still dealt.Aborts p.over (option_map (with_line asked (answer.Owned seat number)) p.current) (λ t. refl)
 heard_still session asked (answer.Newer stamp) p plain = ended_still dealt.Aborts p.over (option_map (with_line asked (answer.Newer stamp)) p.current) (λ t. refl)
 heard_still session asked answer.Aborted p plain = ended_still dealt.Aborts p.over p.current (λ t. refl)
+heard_still session asked answer.Ended p plain = ended_still dealt.Aborts p.over p.current (λ t. refl)
+heard_still session asked (answer.Unsafe seat stamp) p plain = ended_still dealt.Aborts p.over p.current (λ t. refl)
 heard_still session asked a p plain = refl
 
 commits_still : (c d : Transcript) → dealings_of d ≡ dealings_of c → commits_told d ≡ commits_told c ++ []

@@ -1,8 +1,8 @@
 -- What a client's line is answered: what it asked for, or a refusal. It is never answered that it waits.
-use Rattle.std.proofs.Common.{◌≡◌, ℕ, Some, refl, sym, subst}
+use Rattle.std.proofs.Common.{◌≡◌, ℕ, Option, Some, None, refl, sym, subst}
 use Rattle.erm_client.specs.Refusals.{IsOfClient, MayTell, TellsAbort, TellsBegin, TellsCommit, TellsDone, TellsDurable, TellsFound, TellsPair, TellsValue}
 use Rattle.erm_good_report.specs.Phases.{FitsPhase, IsAnswerTo, refusal_of}
-use Rattle.erm_lines_at_once.specs.Answers.{DidAskedBeside, DidCommandBeside, DidLineBeside}
+use Rattle.erm_lines_at_once.specs.Answers.{DidAskedBeside, DidCommandBeside, DidInBeside, DidLineBeside, DidOfSnapshotBeside}
 use Rattle.erm_lines_at_once.specs.Operations.{DidOperationBeside, told_at_once}
 use Rattle.erm_model.specs.declared.operation.Reply.TheVariants as reply
 use Rattle.erm_model.specs.declared.outcome.Phase.{Phase}
@@ -87,6 +87,7 @@ module _ (f : View) (seat : ℕ) (v t : View) where
   commit (answer.Excluded stamp succ pred) fits did = refl
   commit (answer.WaitSeat other seen) fits did = absurd did.decided
   commit (answer.WaitRing flushed) fits did = absurd did.decided
+  commit answer.Ended fits did = absurd did.decided
   commit a fits did = absurd fits
 
   abort : (a : Answer) → IsAnswerTo command.Abort a → TellsAbort a
@@ -99,63 +100,93 @@ module _ (f : View) (seat : ℕ) (v t : View) where
   durable (answer.NotFlushed flushed) fits did = absurd did
   durable a fits did = absurd fits
 
-  -- where the session has no transaction, and where it is sealed
-  none : (Tells : Answer → Type 0) (a : Answer) → Tells answer.NoTransaction → a ≡ answer.NoTransaction → Tells a
-  none Tells a so is = subst (λ (x : Answer). Tells x) (sym is) so
+  -- of a session with a snapshot
+  value_seen : (table key : ℕ) (a : Answer) → IsAnswerTo (command.Get table key) a → DidOfSnapshotBeside f seat (command.Get table key) a v t → TellsValue a
+  value_seen table key (answer.Replied (reply.Value found)) fits did = tt
+  value_seen table key (answer.Replied r) fits did = absurd fits
+  value_seen table key a fits did = absurd did
 
-  of_sealed : (Tells : Answer → Type 0) (a : Answer) → Tells answer.IsSealed → a ≡ answer.IsSealed → Tells a
-  of_sealed Tells a so is = subst (λ (x : Answer). Tells x) (sym is) so
+  next_seen : (table from : ℕ) (a : Answer) → IsAnswerTo (command.Next table from) a → DidOfSnapshotBeside f seat (command.Next table from) a v t → TellsPair a
+  next_seen table from (answer.Replied (reply.Pair found)) fits did = tt
+  next_seen table from (answer.Replied r) fits did = absurd fits
+  next_seen table from a fits did = absurd did
 
-  busy : (a : Answer) → a ≡ answer.NotIdle → TellsBegin a
-  busy a is = subst (λ (x : Answer). TellsBegin x) (sym is) refl
+  scan_seen : (table low high : ℕ) (a : Answer) → IsAnswerTo (command.Scan table low high) a → DidOfSnapshotBeside f seat (command.Scan table low high) a v t → TellsFound a
+  scan_seen table low high (answer.Replied (reply.Found found)) fits did = tt
+  scan_seen table low high (answer.Replied r) fits did = absurd fits
+  scan_seen table low high a fits did = absurd did
 
-  may_tell : (phase : Phase) (c : Command) (a : Answer) → IsOfClient c → FitsPhase phase c a → DidAskedBeside (refusal_of phase c) f seat c a v t → MayTell c a
+  ended : (a : Answer) → DidOfSnapshotBeside f seat command.Commit a v t → TellsCommit a
+  ended answer.Ended did = refl
+  ended a did = absurd did
+
+  durable_seen : (a : Answer) → DidOfSnapshotBeside f seat command.Durable a v t → TellsDurable a
+  durable_seen (answer.Durable stamp) did = tt
+  durable_seen answer.NoReceipt did = refl
+  durable_seen a did = absurd did
+
+  -- what its phase refuses
+  refused : (Tells : Answer → Type 0) (refusal a : Answer) → Tells refusal → a ≡ refusal → Tells a
+  refused Tells refusal a so is = subst (λ (x : Answer). Tells x) (sym is) so
+
+  -- what a phase that allows a command knows of it
+  abbrev DidAskedIn : Phase → Option Answer → Command → Answer → Type 0
+  DidAskedIn phase None c a = DidInBeside phase f seat c a v t
+  DidAskedIn phase (Some refusal) c a = Unit {0}
+
+  asked_in : (refusal : Option Answer) (c : Command) (a : Answer) → DidAskedBeside refusal f seat c a v t → DidAskedIn (phase_at v seat) refusal c a
+  asked_in None c a did = did
+  asked_in (Some refusal) c a passes = tt
+
+  may_tell : (phase : Phase) (c : Command) (a : Answer) → IsOfClient c → FitsPhase phase c a → DidAskedIn phase (refusal_of phase c) c a → MayTell c a
   may_tell Idle command.Begin a of fits did = begin a fits
-  may_tell Active command.Begin a of fits did = busy a fits
-  may_tell Sealed command.Begin a of fits did = busy a fits
-  may_tell Idle (command.Get table key) a of fits did = none TellsValue a refl fits
+  may_tell Active command.Begin a of fits did = refused TellsBegin answer.NotIdle a refl fits
+  may_tell Sealed command.Begin a of fits did = refused TellsBegin answer.NotIdle a refl fits
+  may_tell Pending command.Begin a of fits did = refused TellsBegin answer.NotIdle a refl fits
+  may_tell Safe command.Begin a of fits did = refused TellsBegin answer.NotIdle a refl fits
+  may_tell Idle (command.Get table key) a of fits did = refused TellsValue answer.NoTransaction a refl fits
   may_tell Active (command.Get table key) a of fits did = value table key a fits did
-  may_tell Sealed (command.Get table key) a of fits did = of_sealed TellsValue a refl fits
-  may_tell Idle (command.Put table key value) a of fits did = none TellsDone a refl fits
+  may_tell Sealed (command.Get table key) a of fits did = refused TellsValue answer.IsSealed a refl fits
+  may_tell Pending (command.Get table key) a of fits did = refused TellsValue answer.NotSafe a refl fits
+  may_tell Safe (command.Get table key) a of fits did = value_seen table key a fits did
+  may_tell Idle (command.Put table key value) a of fits did = refused TellsDone answer.NoTransaction a refl fits
   may_tell Active (command.Put table key value) a of fits did = put table key value a fits did
-  may_tell Sealed (command.Put table key value) a of fits did = of_sealed TellsDone a refl fits
-  may_tell Idle (command.Del table key) a of fits did = none TellsDone a refl fits
+  may_tell Sealed (command.Put table key value) a of fits did = refused TellsDone answer.IsSealed a refl fits
+  may_tell Pending (command.Put table key value) a of fits did = refused TellsDone answer.ReadOnly a refl fits
+  may_tell Safe (command.Put table key value) a of fits did = refused TellsDone answer.ReadOnly a refl fits
+  may_tell Idle (command.Del table key) a of fits did = refused TellsDone answer.NoTransaction a refl fits
   may_tell Active (command.Del table key) a of fits did = del table key a fits did
-  may_tell Sealed (command.Del table key) a of fits did = of_sealed TellsDone a refl fits
-  may_tell Idle (command.Next table from) a of fits did = none TellsPair a refl fits
+  may_tell Sealed (command.Del table key) a of fits did = refused TellsDone answer.IsSealed a refl fits
+  may_tell Pending (command.Del table key) a of fits did = refused TellsDone answer.ReadOnly a refl fits
+  may_tell Safe (command.Del table key) a of fits did = refused TellsDone answer.ReadOnly a refl fits
+  may_tell Idle (command.Next table from) a of fits did = refused TellsPair answer.NoTransaction a refl fits
   may_tell Active (command.Next table from) a of fits did = next table from a fits did
-  may_tell Sealed (command.Next table from) a of fits did = of_sealed TellsPair a refl fits
-  may_tell Idle (command.Scan table low high) a of fits did = none TellsFound a refl fits
+  may_tell Sealed (command.Next table from) a of fits did = refused TellsPair answer.IsSealed a refl fits
+  may_tell Pending (command.Next table from) a of fits did = refused TellsPair answer.NotSafe a refl fits
+  may_tell Safe (command.Next table from) a of fits did = next_seen table from a fits did
+  may_tell Idle (command.Scan table low high) a of fits did = refused TellsFound answer.NoTransaction a refl fits
   may_tell Active (command.Scan table low high) a of fits did = scan table low high a fits did
-  may_tell Sealed (command.Scan table low high) a of fits did = of_sealed TellsFound a refl fits
-  may_tell Idle command.Commit a of fits did = none TellsCommit a refl fits
+  may_tell Sealed (command.Scan table low high) a of fits did = refused TellsFound answer.IsSealed a refl fits
+  may_tell Pending (command.Scan table low high) a of fits did = refused TellsFound answer.NotSafe a refl fits
+  may_tell Safe (command.Scan table low high) a of fits did = scan_seen table low high a fits did
+  may_tell Idle command.Commit a of fits did = refused TellsCommit answer.NoTransaction a refl fits
   may_tell Active command.Commit a of fits did = commit a fits did
-  may_tell Sealed command.Commit a of fits did = of_sealed TellsCommit a refl fits
-  may_tell Idle command.Abort a of fits did = none TellsAbort a refl fits
+  may_tell Sealed command.Commit a of fits did = refused TellsCommit answer.IsSealed a refl fits
+  may_tell Pending command.Commit a of fits did = refused TellsCommit answer.NotSafe a refl fits
+  may_tell Safe command.Commit a of fits did = ended a did
+  may_tell Idle command.Abort a of fits did = refused TellsAbort answer.NoTransaction a refl fits
   may_tell Active command.Abort a of fits did = abort a fits
-  may_tell Sealed command.Abort a of fits did = of_sealed TellsAbort a refl fits
+  may_tell Sealed command.Abort a of fits did = refused TellsAbort answer.IsSealed a refl fits
+  may_tell Pending command.Abort a of fits did = abort a fits
+  may_tell Safe command.Abort a of fits did = abort a fits
   may_tell Idle command.Durable a of fits did = durable a fits did
   may_tell Active command.Durable a of fits did = durable a fits did
   may_tell Sealed command.Durable a of fits did = durable a fits did
-  may_tell Pending command.Begin a of fits did = busy a fits
-  may_tell Safe command.Begin a of fits did = busy a fits
-  may_tell Pending (command.Get table key) a of fits did = none TellsValue a refl fits
-  may_tell Safe (command.Get table key) a of fits did = none TellsValue a refl fits
-  may_tell Pending (command.Put table key value) a of fits did = none TellsDone a refl fits
-  may_tell Safe (command.Put table key value) a of fits did = none TellsDone a refl fits
-  may_tell Pending (command.Del table key) a of fits did = none TellsDone a refl fits
-  may_tell Safe (command.Del table key) a of fits did = none TellsDone a refl fits
-  may_tell Pending (command.Next table from) a of fits did = none TellsPair a refl fits
-  may_tell Safe (command.Next table from) a of fits did = none TellsPair a refl fits
-  may_tell Pending (command.Scan table low high) a of fits did = none TellsFound a refl fits
-  may_tell Safe (command.Scan table low high) a of fits did = none TellsFound a refl fits
-  may_tell Pending command.Commit a of fits did = none TellsCommit a refl fits
-  may_tell Safe command.Commit a of fits did = none TellsCommit a refl fits
-  may_tell Pending command.Abort a of fits did = none TellsAbort a refl fits
-  may_tell Safe command.Abort a of fits did = none TellsAbort a refl fits
-  may_tell Pending command.Durable a of fits did = durable a fits did
-  may_tell Safe command.Durable a of fits did = durable a fits did
+  may_tell Pending command.Durable a of fits did = durable_seen a did
+  may_tell Safe command.Durable a of fits did = durable_seen a did
   may_tell phase c a of fits did = absurd of
 
 pub line_tells : (f : View) (l : ScriptLine) (a : Answer) (v t : View) → IsOfClient l.command → DidLineBeside f l a v t → MayTell l.command a
-line_tells f l a v t of did = may_tell f l.session v t (phase_at v l.session) l.command a of did.fits did.did
+line_tells f l a v t of did =
+    may_tell f l.session v t (phase_at v l.session) l.command a of did.fits
+    (asked_in f l.session v t (refusal_of (phase_at v l.session) l.command) l.command a did.did)

@@ -14,6 +14,9 @@ abbrev pub refusal_told : Answer → Option Refusal
 refusal_told answer.NotIdle = Some refusal.NotIdle
 refusal_told answer.NoTransaction = Some refusal.NoTransaction
 refusal_told answer.IsSealed = Some refusal.IsSealed
+refusal_told answer.ReadOnly = Some refusal.ReadOnly
+refusal_told answer.NotSafe = Some refusal.NotSafe
+refusal_told answer.Ended = Some refusal.Ended
 refusal_told (answer.LogEnd tail) = Some (refusal.LogEnd tail)
 refusal_told answer.NumbersEnd = Some refusal.NumbersEnd
 refusal_told (answer.Owned seat number) = Some (refusal.Owned seat number)
@@ -85,6 +88,7 @@ pub record IsUntold (a : Answer) (why : Refusal) : Type 0 where
 
 -- the commands that a client has
 abbrev pub IsOfClient : Command → Type 0
+IsOfClient command.Safe = ⊥
 IsOfClient (command.Tidy table key) = ⊥
 IsOfClient command.Seal = ⊥
 IsOfClient command.Settle = ⊥

@@ -17,7 +17,7 @@ use crate::replies::{
     Commit, abort_in, begin_in, commit_in, done_in, durable_in, found_in, pair_in, value_in,
 };
 use crate::{Refusal, Standing, Transcript};
-use erm_beside::SharedSession;
+use erm_beside::{SafeSession, SharedSession};
 use erm_model::{Pairs, Receipt, Reply, Seat, Stamp, TABLES, Value};
 use erm_report::Answer;
 use erm_script::{Command, ScriptLine};
@@ -54,7 +54,7 @@ pub struct Finished<S, T> {
     pub closed: Option<Answer>,
 }
 
-impl<'a, S: SharedSession, T: Turns> Client<'a, S, T> {
+impl<'a, S: SafeSession, T: Turns> Client<'a, S, T> {
     /// The client of a session, of this seat, that has committed nothing.
     pub fn new(
         alloc: Global,

@@ -9,7 +9,7 @@
 //! A transfer between two keys, which is begun again where another session was in its way:
 //!
 //! ```text
-//! fn transfer<S: SharedSession, T: Turns, R: Wait>(
+//! fn transfer<S: SafeSession, T: Turns, R: Wait>(
 //!     rt: &R,
 //!     client: &mut Client<'_, S, T>,
 //!     payer: u64,

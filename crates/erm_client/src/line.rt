@@ -8,7 +8,7 @@ ghost use Rattle.erm_threads.specs.Work.{WasEnded};
 ghost use Rattle.erm_worker.specs.Work.{GaveUp, IsReady, MayBeAsked, RanLine};
 ghost use Rattle.erm_world.specs.World.{View, phase_at};
 
-use erm_beside::SharedSession;
+use erm_beside::{SafeSession, SharedSession};
 use erm_model::{Phase, Receipt};
 use erm_report::Answer;
 use erm_script::ScriptLine;
@@ -31,7 +31,7 @@ pub fn give_up<S: SharedSession>(session: &mut S, shared: &S::Shared)
 
 /// Runs a line as the session's worker does: its answer, or `None` where the client was told to stop, before it or while it waited. `Err` where
 /// memory ran out.
-pub fn run_next<S: SharedSession, T: Turns, R: Wait>(
+pub fn run_next<S: SafeSession, T: Turns, R: Wait>(
     rt: &R,
     alloc: Global,
     session: &mut S,
@@ -58,9 +58,9 @@ pub fn run_next<S: SharedSession, T: Turns, R: Wait>(
     run_line(rt, alloc, session, shared, turns, line, receipt)
 }
 
-/// Closes a session behind its last line where it has a transaction: it is aborted, or decided where it is sealed. `None` where it had none, or the
-/// client was told to stop while it waited.
-pub fn end<S: SharedSession, T: Turns, R: Wait>(
+/// Closes a session behind its last line where it has a transaction: it is aborted, or decided where it is sealed. So is one with a snapshot, which is
+/// ended. `None` where it had none, or the client was told to stop while it waited.
+pub fn end<S: SafeSession, T: Turns, R: Wait>(
     rt: &R,
     session: &mut S,
     shared: &S::Shared,
@@ -74,8 +74,7 @@ pub fn end<S: SharedSession, T: Turns, R: Wait>(
     ensures waits { result ≡ None → phase_at (S.own session.new) (S.seat session.old) ≡ Sealed → T.told turns.new }
 {
     match session.phase(shared) {
-        Phase::Active => close_session(rt, session, shared, turns),
-        Phase::Sealed => close_session(rt, session, shared, turns),
-        _ => None,
+        Phase::Idle => None,
+        _ => close_session(rt, session, shared, turns),
     }
 }

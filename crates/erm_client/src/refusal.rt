@@ -18,6 +18,15 @@ pub enum Refusal {
     /// The transaction is sealed, and isn't decided.
     #[error("the session's transaction is sealed")]
     IsSealed,
+    /// The session was given with a snapshot, which only reads. It goes on as before.
+    #[error("the session has a snapshot, which only reads")]
+    ReadOnly,
+    /// The session was given with a snapshot, which isn't known to be safe. It goes on as before.
+    #[error("the session's snapshot isn't known to be safe")]
+    NotSafe,
+    /// The session was given with a snapshot, which has ended: there was nothing to commit.
+    #[error("the session's snapshot has ended, and committed nothing")]
+    Ended,
     /// No transaction begins any more, since the log has come as far as this, in words.
     #[error("the log has come to its end, at {tail}")]
     LogEnd { tail: Stamp },
@@ -69,6 +78,9 @@ pub fn refusal_in(answer: &Answer) -> Refusal
         Answer::NotIdle => Refusal::NotIdle,
         Answer::NoTransaction => Refusal::NoTransaction,
         Answer::IsSealed => Refusal::IsSealed,
+        Answer::ReadOnly => Refusal::ReadOnly,
+        Answer::NotSafe => Refusal::NotSafe,
+        Answer::Ended => Refusal::Ended,
         Answer::LogEnd { tail } => Refusal::LogEnd { tail: *tail },
         Answer::NumbersEnd => Refusal::NumbersEnd,
         Answer::Owned { seat, number } => Refusal::Owned {

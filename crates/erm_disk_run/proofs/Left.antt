@@ -1,7 +1,7 @@
 -- What is left at the end of a run, where all of its log is flushed.
 use Rattle.std.proofs.Common.{inl, ◌≡◌, ℕ, ◌+◌, ◌<◌, true, Bool, cond, nat_lt, List, [], ◌∷◌, refl, sym, ap, ◌∙◌, subst, arith}
 use Rattle.std.proofs.lemmas.Bool.Decides.{nat_tests}
-use Rattle.erm_model.specs.Committed.{Committed, IsStateBelow, RunsInOrder, below, rank_of, state_after}
+use Rattle.erm_model.specs.Committed.{Committed, IsStateBelow, below, rank_of, state_after}
 use Rattle.erm_model.specs.Database.{Database}
 use Rattle.erm_model.specs.Member.{◌∈◌}
 use Rattle.erm_model.specs.SerialOrder.{IsSerialOrder}
@@ -12,7 +12,6 @@ use Rattle.erm_outside.specs.Disk.{Step}
 use Rattle.erm_ckpt.specs.declared.slot.Slots.{Slots}
 use Rattle.erm_ckpt.specs.Recovered.{State, slots_of}
 use Rattle.erm_checkpoint.specs.Taken.{HoldsLog, state_at}
-use Rattle.erm_maps.proofs.Commits.{run_ends}
 use Rattle.erm_node.specs.Sound.{sound_law}
 use Rattle.erm_node.specs.TreeMap.{map_of_rows}
 use Rattle.erm_report.specs.declared.answer.Answer.{Answer}
@@ -48,10 +47,10 @@ OrdersAreOne = (commits one other : List Committed) → IsSerialOrder rank_of co
 
 -- the state below a place behind all commits is the end of their run
 pub run_state : OrdersAreOne → (cs order : List Committed) (m opening end : Database) (place : ℕ) (s : Database) → ((c : Committed) → c ∈ cs → c.stamp < place) → opening ≡ m
-    → IsStateBelow cs m place s → IsSerialOrder rank_of cs order → RunsInOrder order opening end → s ≡ end
-run_state one cs order m opening end place s less same is serial run =
+    → IsStateBelow cs m place s → IsSerialOrder rank_of cs order → end ≡ state_after order opening → s ≡ end
+run_state one cs order m opening end place s less same is serial ends =
     let orders : is.order ≡ order = one cs is.order order (subst (λ (ds : List Committed). IsSerialOrder rank_of ds is.order) (all_below place cs less) is.serial) serial in
-    is.state ∙ ap (λ (ds : List Committed). state_after ds m) orders ∙ ap (λ (n : Database). state_after order n) (sym same) ∙ sym (run_ends order opening end run.run)
+    is.state ∙ ap (λ (ds : List Committed). state_after ds m) orders ∙ ap (λ (n : Database). state_after order n) (sym same) ∙ sym ends
 
 -- the laws of what recovery meets then
 pub record AuditLaws : Type 0 where
@@ -69,9 +68,9 @@ module _ (laws : CourseLaws) (may : MayOpenAll) (one : OrdersAreOne) (audits : A
       (audits.logged v t script answers ran.course closed ran.are log ran.log_of ran.is)
 
   pub leaves : (slots : Slots) (old steps : List Step) → MeetsFound state log slots old steps → log.flushed ≡ log.tail → (order : List Committed)
-      (opening end : Database) → opening ≡ map_of_rows state.rows → IsSerialOrder rank_of told order → RunsInOrder order opening end → SlotsLeft answers slots old steps
+      (opening end : Database) → opening ≡ map_of_rows state.rows → IsSerialOrder rank_of told order → end ≡ state_after order opening → SlotsLeft answers slots old steps
       → RemovedAs answers state.at log.flushed old steps → Leaves told state answers end old steps
-  leaves slots old steps meets flushed order opening end same serial run left removed =
+  leaves slots old steps meets flushed order opening end same serial ends left removed =
       let h : HoldsLog sound_law.meets log slots steps = meets.tail.holds in
       let found : State = state_at log h.front in
       let to : found.at ≡ log.tail = h.to ∙ flushed in
@@ -89,7 +88,7 @@ module _ (laws : CourseLaws) (may : MayOpenAll) (one : OrdersAreOne) (audits : A
         low = omega (arith, begun, tail, to);
         above = above;
         map = run_state one told order (map_of_rows state.rows) opening end found.at (map_of_rows found.rows) above same
-            (state_front laws may state sessions v t log script answers closed ran h.front h.rest h.split) serial run;
+            (state_front laws may state sessions v t log script answers closed ran h.front h.rest h.split) serial ends;
         logged = λ best blocks recovers. audit_from_place audits.met state log ran.is start slots old steps meets best blocks recovers told has_commits all flushed;
         saved = left_saved answers slots old steps left h.pair h.names;
         spared = left_spared answers slots old steps left h.pair h.names;

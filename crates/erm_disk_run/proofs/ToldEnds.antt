@@ -1,11 +1,11 @@
 -- How a run on a disk ends, by what running its script over the world and the log answers.
-use Rattle.std.proofs.Common.{◌≡◌, ℕ, ◌+◌, ◌<◌, List, [], ◌∷◌, ◌++◌, length, Option, Some, None, Result, Ok, Err, Vec, IfOk, IfSome, OnOk, refl, sym, ap, ◌∙◌, subst, arith}
+use Rattle.std.proofs.Common.{◌≡◌, ℕ, ◌+◌, ◌<◌, ◌≤◌, List, [], ◌∷◌, ◌++◌, length, Option, Some, None, Result, Ok, Err, Vec, IfOk, IfSome, OnOk, refl, sym, ap, ◌∙◌, subst, arith}
 use Rattle.std.specs.List.{All}
 use Rattle.std.specs.declared.alloc.Global.{Global}
 use Rattle.std.proofs.lemmas.List.Elements.{All-cons}
 use Rattle.erm_model.specs.Member.{◌∈◌}
 use Rattle.erm_model.proofs.Members.{none_in_nil}
-use Rattle.erm_model.specs.declared.limits.TheConstants.{LAST_RUN, LEAST_BLOCK, STOP}
+use Rattle.erm_model.specs.declared.limits.TheConstants.{LAST_RUN, LEAST_BLOCK, SESSIONS, STOP}
 use Rattle.erm_block.specs.declared.block.Block.{Block}
 use Rattle.erm_outside.specs.Disk.{Step, Tells}
 use Rattle.erm_outside.specs.Faults.{Rose}
@@ -63,6 +63,7 @@ pub record StartsOn (limits : Limits) (state : State) (many : ℕ) (v : View) (b
   pub low : state.at < STOP
   pub run_low : state.run < LAST_RUN
   pub opened : OpensOn state many v
+  pub few : many ≤ SESSIONS
   pub limited : HasLimits limits v
   pub first : IsLogOf v begun
   pub opens : Tells (OpensAt state) before mid
@@ -75,15 +76,16 @@ pub record StartsOn (limits : Limits) (state : State) (many : ℕ) (v : View) (b
 abbrev pub opening_of : {W : Type 0} → Opened W → View → Opening
 opening_of o v = opening_at o.start (count_rows v.opening.rows) v.opening.first
 
-pub opened_on : {W : Type 0} (maps : MapsAreTold) (limits : Limits) → AreLimits limits → (before mid : Option (List Step)) (state : State) (many : ℕ) (v : View) (log : Log) (o : Opened W) → IsLogOf v log
+pub opened_on : {W : Type 0} (maps : MapsAreTold) (limits : Limits) → AreLimits limits → (before mid : Option (List Step)) (state : State) (many : ℕ) (v : View) (log : Log) (o : Opened W) → many ≤ SESSIONS → IsLogOf v log
     → WasOpened limits before mid state many v log o → StartsOn limits state many v log o.slots (opening_of o v) before mid
-opened_on maps limits are before mid state many v log o first was =
+opened_on maps limits are before mid state many v log o few first was =
     let opened = opens_on limits are state many v was.world.view in
     record {
       found = was.found;
       low = was.world.low;
       run_low = was.world.run_low;
       opened = opened;
+      few = few;
       limited = record { cells = was.world.view.cells; cuts = was.world.view.cuts };
       first = first;
       opens = tells_weaker (OpensLog state log o.slots) (OpensAt state) before mid (λ a b opens. (opens.pair, opens.keeps)) was.disk;
@@ -119,6 +121,7 @@ module _ (laws : DiskLaws) (limits : Limits) (state : State) (names : List (List
   runs_on : IsLogOf t log × IsLog IsSound log → (lines : List Line) → Moments → Acknowledged lines → RunsOn limits state (length names) v t begun log lines before mid after
   runs_on log_is lines moments acknowledged = record {
     opened = on.opened;
+    few = on.few;
     limited = on.limited;
     low = on.low;
     run_low = on.run_low;
@@ -136,6 +139,7 @@ module _ (laws : DiskLaws) (limits : Limits) (state : State) (names : List (List
   starved_on was = was_starved_on laws limits state names v was.view begun was.log script [] before mid after
       (record {
         opened = on.opened;
+        few = on.few;
         limited = on.limited;
         low = on.low;
         run_low = on.run_low;

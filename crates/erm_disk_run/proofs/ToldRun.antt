@@ -1,14 +1,17 @@
 -- A script that was run on a disk, wholly or up to a fault.
 use Rattle.std.proofs.Common.{◌≡◌, ℕ, ◌<◌, ◌≤◌, List, [], ◌∷◌, ◌++◌, length, Option, Some, None, IfSome, sym, ap, ◌∙◌, subst, arith}
 use Rattle.std.specs.FinMap.{from_entries}
+use Rattle.erm_model.specs.Committed.{Committed, RunsInOrder, rank_of, state_after}
 use Rattle.erm_model.specs.Database.{Database, entries_of}
-use Rattle.erm_model.specs.declared.limits.TheConstants.{LAST_RUN, STOP}
+use Rattle.erm_model.specs.SerialOrder.{IsSerialOrder}
+use Rattle.erm_model.specs.declared.limits.TheConstants.{LAST_RUN, SESSIONS, STOP}
 use Rattle.erm_block.specs.declared.block.Block.{Block}
 use Rattle.erm_outside.specs.Disk.{Step, Tells}
 use Rattle.erm_ckpt.specs.declared.slot.Slots.{Slots}
 use Rattle.erm_ckpt.specs.Recovered.{State}
 use Rattle.erm_checkpoint.specs.Taken.{state_at}
 use Rattle.erm_crash.specs.Kept.{KeepsBlocks}
+use Rattle.erm_maps.proofs.Commits.{run_ends}
 use Rattle.erm_node.specs.Sound.{sound_law}
 use Rattle.erm_recover.specs.Opening.{open_block}
 use Rattle.erm_report.specs.declared.answer.Answer.{Answer}
@@ -18,12 +21,13 @@ use Rattle.erm_world.specs.Log.{IsLog, Log}
 use Rattle.erm_world.specs.Whole.{IsLogOf}
 use Rattle.erm_world.specs.World.{View}
 use Rattle.erm_world.specs.World as world
-use Rattle.erm_good_report.specs.GoodReport.{IsGoodReport, OwesToAnswers, places_of}
+use Rattle.erm_good_report.specs.GoodReport.{IsGoodReport, OwesToAnswers, places_of, serial_of}
 use Rattle.erm_good_report.specs.Opening.{InTurn, Opening}
 use Rattle.erm_good_report.specs.Phases.{Closed}
 use Rattle.erm_good_report.specs.Transactions.{history_of, transactions_of}
-use Rattle.erm_lines.specs.Executions.{AreClosed, IsCourse, IsOpeningOf, closed_in}
-use Rattle.erm_lines.specs.Laws.{PartsCutFew, RunsCutFew}
+use Rattle.erm_lines.specs.Executions.{AreClosed, IsCourse, IsOpeningOf, IsRun, closed_in}
+use Rattle.erm_lines.specs.Laws.{PartsCutFew, RunsAreSerialWithSnapshots, RunsCutFew}
+use Rattle.erm_told.proofs.Differing.{stamps_differ}
 use Rattle.erm_told_crash.specs.Laws.{CoursesClose}
 use Rattle.erm_told_fronts.specs.Fronts.{CoursesRunInFronts}
 use Rattle.erm_invariant.specs.Commits.{EachFrontRuns}
@@ -33,6 +37,7 @@ use Rattle.erm_told_log.specs.Tail.{MeetsTail}
 use Rattle.erm_log_run.specs.Acknowledged.{AllLast}
 use Rattle.erm_log_run.specs.Runs.{IsCutReportOf, IsReportOf, WasCut, WasRun}
 use Rattle.erm_log_run.specs.Saving.{AreRemoved, AreSaved, MayBeRemoved, removed_to, removing_to, saved_at}
+use Rattle.erm_log_run.proofs.Good.{OrdersExist}
 use Rattle.erm_log_run.proofs.Held.{tells_both, tells_join, tells_weaker}
 use Rattle.erm_recover.specs.Waiting.{SinceSettled}
 use Rattle.erm_disk_run.specs.Crashes.{KeepsCommits, KeepsTold, Leaves, Outlives}
@@ -53,6 +58,8 @@ pub record DiskLaws : Type 0 where
   pub courses : CourseLaws
   pub may : MayOpenAll
   pub one : OrdersAreOne
+  pub orders : OrdersExist
+  pub serial : RunsAreSerialWithSnapshots
   pub audits : AuditLaws
   pub runs_few : RunsCutFew
   pub parts_few : PartsCutFew
@@ -83,6 +90,7 @@ meets_still state begun log first slots P before mid after opens moments still =
 -- to another, while each image at each moment recovered to what the log had gathered.
 pub record RunsOn (limits : Limits) (state : State) (many : ℕ) (v t : View) (begun log : Log) (lines : List Line) (before mid after : Option (List Step)) : Type 0 where
   pub opened : OpensOn state many v
+  pub few : many ≤ SESSIONS
   pub limited : HasLimits limits v
   pub low : state.at < STOP
   pub run_low : state.run < LAST_RUN
@@ -132,6 +140,19 @@ module _ (laws : DiskLaws) (limits : Limits) (state : State) (names : List (List
       subst (λ (n : ℕ). EachFrontRuns (history_of (transactions_of n (places_of script answers closed))) opening.map) on.opened.sessions
       (laws.fronts v t script answers course closed opening are of)
 
+  -- run in the order of the commits and of the snapshots among them, the map at the end is the one after the commits alone
+  map_after : (opening : Opening) → IsOpeningOf v opening → (answers : List Answer) (closed : List Closed) (run : IsRun v script answers t) → AreClosed run.closing closed
+      → (own order : List Committed) (end : Database) → RunsInOrder order opening.map end → IsSerialOrder rank_of (commits_told names script answers closed) own
+      → IsSerialOrder rank_of (serial_of (length names) (places_of script answers closed)) order → end ≡ state_after own opening.map
+  map_after opening of answers closed run are own order end runs commits all =
+      let sessions = on.opened.sessions in
+      let few = on.few in
+      let again = laws.serial v t script answers run closed opening are of (omega (arith, sessions, few)) own order
+      (subst (λ (n : ℕ). IsSerialOrder rank_of (history_of (transactions_of n (places_of script answers closed))) own) (sym sessions) commits)
+      (subst (λ (n : ℕ). IsSerialOrder rank_of (serial_of n (places_of script answers closed)) order) (sym sessions) all)
+      in
+      run_ends order opening.map end runs.run ∙ sym (run_ends order opening.map (state_after own opening.map) again.run)
+
   pub was_run_on : (slots : Slots) → t.flushed ≡ t.tail → Tells (MeetsFound state log slots) before after → (opening : Opening) → StartsFrom state opening → IsOpeningOf v opening
       → (was : WasRun v t opening names script lines) → IsReportOf opening names script was.answers was.closed lines → (first : Slots)
       → Tells (OpenedOlder state.at first) before mid → AreSaved (saved_at was.answers) mid first slots
@@ -152,8 +173,8 @@ module _ (laws : DiskLaws) (limits : Limits) (state : State) (names : List (List
     leaves =
         tells_weaker (λ old new. MeetsFound state log slots old new × (SlotsLeft answers slots old new × RemovedAs answers state.at log.flushed old new))
         (λ old new. Leaves (commits_told names script answers closed) state answers end old new) before after
-        (λ old new both. leaves laws.courses laws.may laws.one laws.audits state (length names) v t log script answers closed ran slots old new both.0 ends good.report.order opening.map end starts.map
-        good.order.serial good.order.run both.1.0 both.1.1)
+        (λ old new both. leaves laws.courses laws.may laws.one laws.audits state (length names) v t log script answers closed ran slots old new both.0 ends commits.0 opening.map end starts.map
+        commits.1 after_commits both.1.0 both.1.1)
         (tells_both (MeetsFound state log slots) (λ old new. SlotsLeft answers slots old new × RemovedAs answers state.at log.flushed old new) before after meets
         (tells_both (SlotsLeft answers slots) (RemovedAs answers state.at log.flushed) before after left removed));
   }
@@ -169,6 +190,19 @@ module _ (laws : DiskLaws) (limits : Limits) (state : State) (names : List (List
 
       end : Database
       end = from_entries (entries_of good.report.pairs)
+
+      -- the commits in their serial order, after which the map printed is
+      commits : (order : List Committed) × IsSerialOrder rank_of (commits_told names script answers closed) order
+      commits = laws.orders (commits_told names script answers closed) (stamps_differ (transactions_of (length names) (places_of script answers closed)) good.owes.stamps.differ)
+
+      after_commits : end ≡ state_after commits.0 opening.map
+      after_commits =
+          subst (λ (cs : List Closed). IsSerialOrder rank_of (commits_told names script answers cs) commits.0
+          → IsSerialOrder rank_of (serial_of (length names) (places_of script answers cs)) good.report.order → end ≡ state_after commits.0 opening.map) (sym report.closed_are)
+          (subst (λ (given : List Answer). IsSerialOrder rank_of (commits_told names script given was.closed) commits.0
+          → IsSerialOrder rank_of (serial_of (length names) (places_of script given was.closed)) good.report.order → end ≡ state_after commits.0 opening.map) (sym report.answers_are)
+          (map_after opening of was.answers was.closed was.run was.are commits.0 good.report.order end good.order.run))
+          commits.1 good.order.serial
 
       left : Tells (SlotsLeft answers slots) before after
       left = tells_join (OpenedOlder state.at first) (λ old new. AreSaved (saved_at answers) (Some new) first slots) (SlotsLeft answers slots) before mid after

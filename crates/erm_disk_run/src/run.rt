@@ -130,6 +130,7 @@ fn run_opened<W: StartWorld, D: Disk>(
     erm_told::parts_cut_few();
     erm_told_limits::cells_are_full();
     erm_tight::oids_are_full();
+    erm_causes::runs_are_serial_with_snapshots();
     erm_told_crash::logs_tell_states();
     erm_told_crash::courses_close_sessions();
     courses_owe_to_answers();

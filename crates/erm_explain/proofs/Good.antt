@@ -3,7 +3,6 @@ use Rattle.std.proofs.Common.{◌≡◌, ◌≢◌, ℕ, zero, suc, ◌+◌, ◌
 use Rattle.std.specs.Option.{option_map}
 use Rattle.std.proofs.lemmas.Bool.{cases_eq}
 use Rattle.erm_model.specs.declared.outcome.Phase.{Phase}
-use Rattle.erm_model.specs.declared.outcome.Phase.TheVariants.{Idle, Active, Sealed, Pending, Safe}
 use Rattle.erm_model.specs.Member.{◌∈◌}
 use Rattle.erm_report.specs.declared.answer.Answer.{Answer}
 use Rattle.erm_report.specs.declared.answer.Answer.TheVariants as answer
@@ -15,9 +14,10 @@ use Rattle.erm_script.specs.Script.{keyword_of}
 use Rattle.erm_good_report.specs.Causes.{HasNoWindow, NamesTable, WritesTable}
 use Rattle.erm_good_report.specs.GoodReport.{OwesToAnswers, places_of}
 use Rattle.erm_good_report.specs.Opening.{InTurn, Opening}
-use Rattle.erm_good_report.specs.Phases.{Closed, FitsPhase, FitsRefusal, IsAnswerTo, phase_asked, phase_of, refusal_for}
+use Rattle.erm_good_report.specs.Phases.{Closed, FitsPhase, IsAnswerTo, phase_of}
 use Rattle.erm_good_report.specs.Refusals.{HasNoWindowBefore, HasRefusalCause, IsNewerBy, IsOwn, IsOwnedBy, Moment, moment_at}
 use Rattle.erm_good_report.specs.Transactions.{Excludes, Exchange, Progress, Said, Transaction, heard, progress_of, said_of, table_of, transactions_of, with_ending, with_line}
+use Rattle.erm_good_report.proofs.Phases.{answers_so}
 use Rattle.erm_explain.specs.declared.cause.Cause.{Cause}
 use Rattle.erm_explain.specs.declared.cause.Cause.TheVariants.{Itself, Line, Window, Missing}
 use Rattle.erm_explain.specs.declared.links.Link.{Link}
@@ -26,7 +26,7 @@ use Rattle.erm_explain.specs.Named.{AreAll, AreCauses, IsCause, IsItself, NamesC
 use Rattle.erm_explain.proofs.Found.{at_within}
 use Rattle.erm_explain.proofs.Hearing.{progress_next}
 use Rattle.erm_explain.proofs.Naming.{∈-back, over_later, told_by_all}
-use Rattle.erm_explain.proofs.Sessions.{InTransaction, NeedsTransaction, has_one, in_place, none_alone, none_in_progress, of_log, told_some}
+use Rattle.erm_explain.proofs.Sessions.{InTransaction, NeedsTransaction, has_one, in_place, no_refusal, none_alone, none_in_progress, of_log, told_some}
 
 -- ---- what is named, where the report has the cause
 
@@ -69,25 +69,8 @@ stands (x ∷ xs) (suc k) within = stands xs k (omega (arith, within))
 
 -- ---- an answer that needs a transaction is one that its command may have
 
-gives : (asked : Option Phase) (phase : Phase) (c : Command) (a : Answer) → NeedsTransaction a → FitsRefusal (refusal_for asked phase) c a → IsAnswerTo c a
-gives None phase c a needs fits = fits
-gives (Some Idle) Idle c a needs fits = fits
-gives (Some Idle) Active c a needs fits = absurd (subst NeedsTransaction fits needs)
-gives (Some Idle) Sealed c a needs fits = absurd (subst NeedsTransaction fits needs)
-gives (Some Active) Idle c a needs fits = absurd (subst NeedsTransaction fits needs)
-gives (Some Active) Active c a needs fits = fits
-gives (Some Active) Sealed c a needs fits = absurd (subst NeedsTransaction fits needs)
-gives (Some Sealed) Idle c a needs fits = absurd (subst NeedsTransaction fits needs)
-gives (Some Sealed) Active c a needs fits = absurd (subst NeedsTransaction fits needs)
-gives (Some Sealed) Sealed c a needs fits = fits
-gives (Some Idle) Pending c a needs fits = absurd (subst NeedsTransaction fits needs)
-gives (Some Idle) Safe c a needs fits = absurd (subst NeedsTransaction fits needs)
-gives (Some Active) Pending c a needs fits = absurd (subst NeedsTransaction fits needs)
-gives (Some Active) Safe c a needs fits = absurd (subst NeedsTransaction fits needs)
-gives (Some Sealed) Pending c a needs fits = absurd (subst NeedsTransaction fits needs)
-gives (Some Sealed) Safe c a needs fits = absurd (subst NeedsTransaction fits needs)
-gives (Some Pending) phase c a needs fits = fits
-gives (Some Safe) phase c a needs fits = fits
+gives : (phase : Phase) (c : Command) (a : Answer) → NeedsTransaction a → FitsPhase phase c a → IsAnswerTo c a
+gives phase c a needs fits = (answers_so phase c a (no_refusal a needs) fits).1
 
 -- a line that is answered with its stamp that it is excluded names no table
 no_table : (c : Command) (stamp succ pred : ℕ) → IsAnswerTo c (answer.Excluded stamp succ pred) → table_of c ≡ None
@@ -171,15 +154,15 @@ module _ (opening : Opening) (script : List ScriptLine) (answers : List Answer) 
 
     not_alone : l.session ≡ 0 → ⊥
     not_alone none = elim (of_log l.command a (phase_of l.session (first place)) (alone place l at none) fits) as (λ _. ⊥) [
-      | inl flush ↦ (none_alone a needs).2 flush
-      | inr checkpoint ↦ (none_alone a needs).3 checkpoint
+      | inl flush ↦ (none_alone a needs).flush flush
+      | inr checkpoint ↦ (none_alone a needs).checkpoint checkpoint
     ]
 
     some : 0 < l.session
     some = elim (cases_eq l.session 0) as (λ _. 0 < l.session) [ inl none ↦ absurd (not_alone none) | inr other ↦ omega (arith, other) ]
 
     own : InTransaction (progress_of l.session (first place))
-    own = has_one l.command a (phase_of l.session (first place)) (progress_of l.session (first place)) needs fits (in_place script answers owes.phases place l.session)
+    own = has_one l.command a (phase_of l.session (first place)) (progress_of l.session (first place)) needs fits (owes.phases.snapshots place l a at told) (in_place script answers owes.phases place l.session)
 
     abbrev its : Transaction
     its = with_line (Some l.command) a own.0
@@ -216,7 +199,7 @@ module _ (opening : Opening) (script : List ScriptLine) (answers : List Answer) 
 
     shut : HasNoWindow all (its place l a at told tt) (Some stamp) succ pred
     shut =
-        let none = no_table l.command stamp succ pred (gives (phase_asked l.command) (phase_of l.session (first place)) l.command a tt (fits place l a at told tt)) in
+        let none = no_table l.command stamp succ pred (gives (phase_of l.session (first place)) l.command a tt (fits place l a at told tt)) in
         window_of all (its place l a at told tt) over (Some stamp) succ pred refl (sym (same_lines l.command a u none)) (owes.causes over in_all)
 
   shown : (place : ℕ) (l : ScriptLine) (a : Answer) → slice_get script place ≡ Some l → slice_get answers place ≡ Some a → IsRefusal a → (cause : Cause) → IsCause script answers place l a cause

@@ -16,9 +16,10 @@ use Rattle.erm_script.specs.declared.script.Command.TheVariants as command
 use Rattle.erm_script.specs.declared.script.ScriptLine.{ScriptLine}
 use Rattle.erm_script.specs.Keywords.{names_session}
 use Rattle.erm_script.specs.Script.{AreNumbered, AreSpelled, IsSpelled, keyword_of}
-use Rattle.erm_good_report.specs.Phases.{FitsPhase, IsAnswerTo, PhasesAgree, phase_after, phase_after_wait, phase_of}
+use Rattle.erm_good_report.specs.Phases.{FitsPhase, FitsSnapshot, IsAnswerTo, PhasesAgree, phase_after, phase_after_wait, phase_of, refusal_in}
 use Rattle.erm_good_report.specs.Transactions as report
-use Rattle.erm_good_report.specs.Transactions.{Ending, Progress, Said, Transaction, begun, ended, goes_on, heard, nothing, progress_of, said_of, transactions_of, with_ending, with_line, with_seal}
+use Rattle.erm_good_report.specs.Transactions.{Ending, Progress, Said, Transaction, begun, ended, goes_on, heard, nothing, own_snapshot, progress_of, reply_in, said_of, transactions_of, with_end, with_ending, with_line, with_seal}
+use Rattle.erm_good_report.specs.Windows.{IsReplied}
 use Rattle.erm_explain.proofs.Hearing.{progress_next, said_by, said_next}
 
 -- ---- scripts
@@ -56,7 +57,6 @@ alone_of_log g names (n ∷ ns) (k ∷ ks) spelled (suc i) l at alone = alone_of
 
 abbrev pub NeedsTransaction : Answer → Type 0
 NeedsTransaction (answer.Sealed stamp) = Unit {0}
-NeedsTransaction (answer.WaitSeat seat seen) = Unit {0}
 NeedsTransaction (answer.WaitRing flushed) = Unit {0}
 NeedsTransaction (answer.Owned seat number) = Unit {0}
 NeedsTransaction (answer.Newer stamp) = Unit {0}
@@ -64,19 +64,48 @@ NeedsTransaction (answer.Excluded stamp succ pred) = Unit {0}
 NeedsTransaction (answer.ExcludedEarly succ pred) = Unit {0}
 NeedsTransaction a = ⊥
 
-pub none_alone : (a : Answer) → NeedsTransaction a
-    → (IsAnswerTo command.Begin a → ⊥) × (IsAnswerTo command.Durable a → ⊥) × (IsAnswerTo command.Flush a → ⊥) × (IsAnswerTo command.Checkpoint a → ⊥)
-none_alone (answer.Sealed stamp) needs = (λ x. x, λ x. x, λ x. x, λ x. x)
-none_alone (answer.WaitSeat seat seen) needs = (λ x. x, λ x. x, λ x. x, λ x. x)
-none_alone (answer.WaitRing flushed) needs = (λ x. x, λ x. x, λ x. x, λ x. x)
-none_alone (answer.Owned seat number) needs = (λ x. x, λ x. x, λ x. x, λ x. x)
-none_alone (answer.Newer stamp) needs = (λ x. x, λ x. x, λ x. x, λ x. x)
-none_alone (answer.Excluded stamp succ pred) needs = (λ x. x, λ x. x, λ x. x, λ x. x)
-none_alone (answer.ExcludedEarly succ pred) needs = (λ x. x, λ x. x, λ x. x, λ x. x)
+-- a command that needs none has none of them
+pub record NoneAlone (a : Answer) : Type 0 where
+  pub begin : IsAnswerTo command.Begin a → ⊥
+  pub safe : IsAnswerTo command.Safe a → ⊥
+  pub durable : IsAnswerTo command.Durable a → ⊥
+  pub flush : IsAnswerTo command.Flush a → ⊥
+  pub checkpoint : IsAnswerTo command.Checkpoint a → ⊥
+
+pub none_alone : (a : Answer) → NeedsTransaction a → NoneAlone a
+none_alone (answer.Sealed stamp) needs = record { begin = λ x. x; safe = λ x. x; durable = λ x. x; flush = λ x. x; checkpoint = λ x. x }
+none_alone (answer.WaitRing flushed) needs = record { begin = λ x. x; safe = λ x. x; durable = λ x. x; flush = λ x. x; checkpoint = λ x. x }
+none_alone (answer.Owned seat number) needs = record { begin = λ x. x; safe = λ x. x; durable = λ x. x; flush = λ x. x; checkpoint = λ x. x }
+none_alone (answer.Newer stamp) needs = record { begin = λ x. x; safe = λ x. x; durable = λ x. x; flush = λ x. x; checkpoint = λ x. x }
+none_alone (answer.Excluded stamp succ pred) needs = record { begin = λ x. x; safe = λ x. x; durable = λ x. x; flush = λ x. x; checkpoint = λ x. x }
+none_alone (answer.ExcludedEarly succ pred) needs = record { begin = λ x. x; safe = λ x. x; durable = λ x. x; flush = λ x. x; checkpoint = λ x. x }
 none_alone a needs = absurd needs
 
+-- they are no refusals by a phase, and no replies
+pub no_refusal : (a : Answer) → NeedsTransaction a → refusal_in a ≡ None
+no_refusal (answer.Sealed stamp) needs = refl
+no_refusal (answer.WaitRing flushed) needs = refl
+no_refusal (answer.Owned seat number) needs = refl
+no_refusal (answer.Newer stamp) needs = refl
+no_refusal (answer.Excluded stamp succ pred) needs = refl
+no_refusal (answer.ExcludedEarly succ pred) needs = refl
+no_refusal a needs = absurd needs
+
+no_reply : (a : Answer) → NeedsTransaction a → reply_in a ≡ None
+no_reply (answer.Sealed stamp) needs = refl
+no_reply (answer.WaitRing flushed) needs = refl
+no_reply (answer.Owned seat number) needs = refl
+no_reply (answer.Newer stamp) needs = refl
+no_reply (answer.Excluded stamp succ pred) needs = refl
+no_reply (answer.ExcludedEarly succ pred) needs = refl
+no_reply a needs = absurd needs
+
+none_replied : (a : Answer) → NeedsTransaction a → IsReplied a → ⊥
+none_replied a needs is = let both : None ≡ Some is.0 = sym (no_reply a needs) ∙ is.1 in cc
+
 none_idle : (c : Command) (a : Answer) → NeedsTransaction a → FitsPhase Idle c a → ⊥
-none_idle command.Begin a needs fits = (none_alone a needs).0 fits
+none_idle command.Begin a needs fits = (none_alone a needs).begin fits
+none_idle command.Safe a needs fits = (none_alone a needs).safe fits
 none_idle (command.Get table key) a needs fits = subst NeedsTransaction fits needs
 none_idle (command.Put table key value) a needs fits = subst NeedsTransaction fits needs
 none_idle (command.Del table key) a needs fits = subst NeedsTransaction fits needs
@@ -87,13 +116,23 @@ none_idle command.Seal a needs fits = subst NeedsTransaction fits needs
 none_idle command.Settle a needs fits = subst NeedsTransaction fits needs
 none_idle command.Commit a needs fits = subst NeedsTransaction fits needs
 none_idle command.Abort a needs fits = subst NeedsTransaction fits needs
-none_idle command.Durable a needs fits = (none_alone a needs).1 fits
-none_idle command.Flush a needs fits = (none_alone a needs).2 fits
-none_idle command.Checkpoint a needs fits = (none_alone a needs).3 fits
+none_idle command.Durable a needs fits = (none_alone a needs).durable fits
+none_idle command.Flush a needs fits = (none_alone a needs).flush fits
+none_idle command.Checkpoint a needs fits = (none_alone a needs).checkpoint fits
 
--- nor has a snapshot, whose phase refuses what a transaction is asked
+-- nor has a snapshot, whose phase refuses what a transaction is asked, and whose looks are replied
+aborted : (a : Answer) → NeedsTransaction a → IsAnswerTo command.Abort a → ⊥
+aborted (answer.Sealed stamp) needs fits = fits
+aborted (answer.WaitRing flushed) needs fits = fits
+aborted (answer.Owned seat number) needs fits = fits
+aborted (answer.Newer stamp) needs fits = fits
+aborted (answer.Excluded stamp succ pred) needs fits = fits
+aborted (answer.ExcludedEarly succ pred) needs fits = fits
+aborted a needs fits = needs
+
 none_pending : (c : Command) (a : Answer) → NeedsTransaction a → FitsPhase Pending c a → ⊥
 none_pending command.Begin a needs fits = subst NeedsTransaction fits needs
+none_pending command.Safe a needs fits = (none_alone a needs).safe fits
 none_pending (command.Get table key) a needs fits = subst NeedsTransaction fits needs
 none_pending (command.Put table key value) a needs fits = subst NeedsTransaction fits needs
 none_pending (command.Del table key) a needs fits = subst NeedsTransaction fits needs
@@ -103,26 +142,27 @@ none_pending (command.Tidy table key) a needs fits = subst NeedsTransaction fits
 none_pending command.Seal a needs fits = subst NeedsTransaction fits needs
 none_pending command.Settle a needs fits = subst NeedsTransaction fits needs
 none_pending command.Commit a needs fits = subst NeedsTransaction fits needs
-none_pending command.Abort a needs fits = subst NeedsTransaction fits needs
-none_pending command.Durable a needs fits = (none_alone a needs).1 fits
-none_pending command.Flush a needs fits = (none_alone a needs).2 fits
-none_pending command.Checkpoint a needs fits = (none_alone a needs).3 fits
+none_pending command.Abort a needs fits = aborted a needs fits
+none_pending command.Durable a needs fits = (none_alone a needs).durable fits
+none_pending command.Flush a needs fits = (none_alone a needs).flush fits
+none_pending command.Checkpoint a needs fits = (none_alone a needs).checkpoint fits
 
-none_safe : (c : Command) (a : Answer) → NeedsTransaction a → FitsPhase Safe c a → ⊥
-none_safe command.Begin a needs fits = subst NeedsTransaction fits needs
-none_safe (command.Get table key) a needs fits = subst NeedsTransaction fits needs
-none_safe (command.Put table key value) a needs fits = subst NeedsTransaction fits needs
-none_safe (command.Del table key) a needs fits = subst NeedsTransaction fits needs
-none_safe (command.Next table from) a needs fits = subst NeedsTransaction fits needs
-none_safe (command.Scan table low high) a needs fits = subst NeedsTransaction fits needs
-none_safe (command.Tidy table key) a needs fits = subst NeedsTransaction fits needs
-none_safe command.Seal a needs fits = subst NeedsTransaction fits needs
-none_safe command.Settle a needs fits = subst NeedsTransaction fits needs
-none_safe command.Commit a needs fits = subst NeedsTransaction fits needs
-none_safe command.Abort a needs fits = subst NeedsTransaction fits needs
-none_safe command.Durable a needs fits = (none_alone a needs).1 fits
-none_safe command.Flush a needs fits = (none_alone a needs).2 fits
-none_safe command.Checkpoint a needs fits = (none_alone a needs).3 fits
+none_safe : (c : Command) (a : Answer) → NeedsTransaction a → FitsPhase Safe c a → FitsSnapshot Safe c a → ⊥
+none_safe command.Begin a needs fits looks = subst NeedsTransaction fits needs
+none_safe command.Safe a needs fits looks = subst NeedsTransaction fits needs
+none_safe (command.Get table key) a needs fits looks = none_replied a needs looks
+none_safe (command.Put table key value) a needs fits looks = subst NeedsTransaction fits needs
+none_safe (command.Del table key) a needs fits looks = subst NeedsTransaction fits needs
+none_safe (command.Next table from) a needs fits looks = none_replied a needs looks
+none_safe (command.Scan table low high) a needs fits looks = none_replied a needs looks
+none_safe (command.Tidy table key) a needs fits looks = subst NeedsTransaction fits needs
+none_safe command.Seal a needs fits looks = subst NeedsTransaction fits needs
+none_safe command.Settle a needs fits looks = subst NeedsTransaction fits needs
+none_safe command.Commit a needs fits looks = subst NeedsTransaction looks needs
+none_safe command.Abort a needs fits looks = aborted a needs fits
+none_safe command.Durable a needs fits looks = (none_alone a needs).durable fits
+none_safe command.Flush a needs fits looks = (none_alone a needs).flush fits
+none_safe command.Checkpoint a needs fits looks = (none_alone a needs).checkpoint fits
 
 -- ---- a session that isn't idle is in a transaction
 
@@ -143,12 +183,12 @@ stays_in Sealed p is = is
 stays_in Pending p is = tt
 stays_in Safe p is = tt
 
-pub has_one : (c : Command) (a : Answer) (phase : Phase) (p : Progress) → NeedsTransaction a → FitsPhase phase c a → IsIn phase p → InTransaction p
-has_one c a Idle p needs fits is = absurd (none_idle c a needs fits)
-has_one c a Active p needs fits is = is
-has_one c a Sealed p needs fits is = is
-has_one c a Pending p needs fits is = absurd (none_pending c a needs fits)
-has_one c a Safe p needs fits is = absurd (none_safe c a needs fits)
+pub has_one : (c : Command) (a : Answer) (phase : Phase) (p : Progress) → NeedsTransaction a → FitsPhase phase c a → FitsSnapshot phase c a → IsIn phase p → InTransaction p
+has_one c a Idle p needs fits looks is = absurd (none_idle c a needs fits)
+has_one c a Active p needs fits looks is = is
+has_one c a Sealed p needs fits looks is = is
+has_one c a Pending p needs fits looks is = absurd (none_pending c a needs fits)
+has_one c a Safe p needs fits looks is = absurd (none_safe c a needs fits looks)
 
 on : (c : Command) (a : Answer) (p : Progress) → InTransaction p → InTransaction (goes_on (Some c) a p)
 on c a p is = (with_line (Some c) a is.0, ap (option_map (with_line (Some c) a)) is.1)
@@ -160,25 +200,47 @@ on_in Sealed c a p is = on c a p is
 on_in Pending c a p is = tt
 on_in Safe c a p is = tt
 
-in_heard : (s : ℕ) (c : Command) (a : Answer) (phase : Phase) (p : Progress) → FitsPhase phase c a → IsIn phase p → IsIn (phase_after (Some c) a phase) (heard s (Some c) a p)
-in_heard s c (answer.Began begin) phase p fits is = (begun s begin p, refl)
-in_heard s c (answer.Sealed stamp) phase p fits is =
-    let it = has_one c (answer.Sealed stamp) phase p tt fits is in (with_seal stamp it.0, ap (option_map (with_seal stamp)) it.1)
-in_heard s c (answer.WaitSeat seat seen) phase p fits is =
-    stays_in (phase_after_wait (Some c) phase) (goes_on (Some c) (answer.WaitSeat seat seen) p) (on c (answer.WaitSeat seat seen) p (has_one c (answer.WaitSeat seat seen) phase p tt fits is))
-in_heard s c (answer.WaitRing flushed) phase p fits is =
-    stays_in (phase_after_wait (Some c) phase) (goes_on (Some c) (answer.WaitRing flushed) p) (on c (answer.WaitRing flushed) p (has_one c (answer.WaitRing flushed) phase p tt fits is))
-in_heard s c (answer.Committed stamp succ pred) phase p fits is = tt
-in_heard s c (answer.Excluded stamp succ pred) phase p fits is = tt
-in_heard s c (answer.ExcludedEarly succ pred) phase p fits is = tt
-in_heard s c (answer.Owned seat number) phase p fits is = tt
-in_heard s c (answer.Newer stamp) phase p fits is = tt
-in_heard s c answer.Aborted phase p fits is = tt
-in_heard s c answer.NotIdle phase p fits is = is
-in_heard s c answer.NoTransaction phase p fits is = is
-in_heard s c answer.IsSealed phase p fits is = is
-in_heard s c answer.NotSealed phase p fits is = is
-in_heard s c a phase p fits is = on_in phase c a p is
+-- a wait: a commit that waits is that of a transaction
+abbrev NoWait : Answer → Type 0
+NoWait (answer.WaitSeat seat seen) = ⊥
+NoWait a = Unit {0}
+
+commit_waits : (seat seen : ℕ) (phase : Phase) (p : Progress) → FitsPhase phase command.Commit (answer.WaitSeat seat seen) → FitsSnapshot phase command.Commit (answer.WaitSeat seat seen) → IsIn phase p → InTransaction p
+commit_waits seat seen Idle p fits looks is = absurd (subst NoWait (sym fits) tt)
+commit_waits seat seen Active p fits looks is = is
+commit_waits seat seen Sealed p fits looks is = is
+commit_waits seat seen Pending p fits looks is = absurd (subst NoWait (sym fits) tt)
+commit_waits seat seen Safe p fits looks is = absurd (subst NoWait (sym looks) tt)
+
+in_waits : (c : Command) (seat seen : ℕ) (phase : Phase) (p : Progress) → FitsPhase phase c (answer.WaitSeat seat seen) → FitsSnapshot phase c (answer.WaitSeat seat seen) → IsIn phase p
+    → IsIn (phase_after_wait (Some c) phase) (goes_on (Some c) (answer.WaitSeat seat seen) p)
+in_waits command.Commit seat seen phase p fits looks is = on command.Commit (answer.WaitSeat seat seen) p (commit_waits seat seen phase p fits looks is)
+in_waits command.Safe seat seen phase p fits looks is = tt
+in_waits c seat seen phase p fits looks is = on_in phase c (answer.WaitSeat seat seen) p is
+
+in_heard : (s : ℕ) (c : Command) (a : Answer) (phase : Phase) (p : Progress) → FitsPhase phase c a → FitsSnapshot phase c a → IsIn phase p → IsIn (phase_after (Some c) a phase) (heard s (Some c) a p)
+in_heard s c (answer.Began begin) phase p fits looks is = (begun s begin p, refl)
+in_heard s c (answer.Safe begin) phase p fits looks is = tt
+in_heard s c (answer.Sealed stamp) phase p fits looks is =
+    let it = has_one c (answer.Sealed stamp) phase p tt fits looks is in (with_seal stamp it.0, ap (option_map (with_seal stamp)) it.1)
+in_heard s c (answer.WaitSeat seat seen) phase p fits looks is = in_waits c seat seen phase p fits looks is
+in_heard s c (answer.WaitRing flushed) phase p fits looks is =
+    stays_in (phase_after_wait (Some c) phase) (goes_on (Some c) (answer.WaitRing flushed) p) (on c (answer.WaitRing flushed) p (has_one c (answer.WaitRing flushed) phase p tt fits looks is))
+in_heard s c (answer.Committed stamp succ pred) phase p fits looks is = tt
+in_heard s c (answer.Excluded stamp succ pred) phase p fits looks is = tt
+in_heard s c (answer.ExcludedEarly succ pred) phase p fits looks is = tt
+in_heard s c (answer.Owned seat number) phase p fits looks is = tt
+in_heard s c (answer.Newer stamp) phase p fits looks is = tt
+in_heard s c (answer.Unsafe seat stamp) phase p fits looks is = tt
+in_heard s c answer.Aborted phase p fits looks is = tt
+in_heard s c answer.Ended phase p fits looks is = tt
+in_heard s c answer.NotIdle phase p fits looks is = is
+in_heard s c answer.NoTransaction phase p fits looks is = is
+in_heard s c answer.IsSealed phase p fits looks is = is
+in_heard s c answer.NotSealed phase p fits looks is = is
+in_heard s c answer.ReadOnly phase p fits looks is = is
+in_heard s c answer.NotSafe phase p fits looks is = is
+in_heard s c a phase p fits looks is = on_in phase c a p is
 
 -- ---- a line that names no session begins nothing
 
@@ -188,6 +250,9 @@ Begins a = ⊥
 
 none_begun : (s : ℕ) (asked : Option Command) (a : Answer) (p : Progress) → (Begins a → ⊥) → p.current ≡ None → (heard s asked a p).current ≡ None
 none_begun s asked (answer.Began begin) p never none = absurd (never tt)
+none_begun s asked (answer.Safe begin) p never none = none
+none_begun s asked (answer.Unsafe seat stamp) p never none = refl
+none_begun s asked answer.Ended p never none = refl
 none_begun s asked (answer.Sealed stamp) p never none = ap (option_map (with_seal stamp)) none
 none_begun s asked (answer.Committed stamp succ pred) p never none = refl
 none_begun s asked (answer.Excluded stamp succ pred) p never none = refl
@@ -199,6 +264,8 @@ none_begun s asked answer.NotIdle p never none = none
 none_begun s asked answer.NoTransaction p never none = none
 none_begun s asked answer.IsSealed p never none = none
 none_begun s asked answer.NotSealed p never none = none
+none_begun s asked answer.ReadOnly p never none = none
+none_begun s asked answer.NotSafe p never none = none
 none_begun s asked a p never none = ap (option_map (with_line asked a)) none
 
 -- what fits a command of the log
@@ -241,11 +308,12 @@ module _ (script : List ScriptLine) (answers : List Answer) (phases : PhasesAgre
       stays : (slice_get script k ≡ None) ⊎ (slice_get answers k ≡ None) → IsIn (phase_of s (first (k + 1))) (progress_of s (first (k + 1)))
       stays ends = subst (λ (xs : List Said). IsIn (phase_of s xs) (progress_of s xs)) (sym (said_stays script answers k ends)) is
 
-      heard_in : (l : ScriptLine) (a : Answer) → FitsPhase (phase_of l.session (first k)) l.command a → (b : Bool) → (l.session == s) ≡ b
+      heard_in : (l : ScriptLine) (a : Answer) → FitsPhase (phase_of l.session (first k)) l.command a → FitsSnapshot (phase_of l.session (first k)) l.command a → (b : Bool) → (l.session == s) ≡ b
           → IsIn (cond b (phase_after (Some l.command) a (phase_of s (first k))) (phase_of s (first k))) (cond b (heard s (Some l.command) a (progress_of s (first k))) (progress_of s (first k)))
-      heard_in l a fits true e =
-          in_heard s l.command a (phase_of s (first k)) (progress_of s (first k)) (subst (λ (q : ℕ). FitsPhase (phase_of q (first k)) l.command a) (eqb-true l.session s e) fits) is
-      heard_in l a fits false e = is
+      heard_in l a fits looks true e =
+          in_heard s l.command a (phase_of s (first k)) (progress_of s (first k)) (subst (λ (q : ℕ). FitsPhase (phase_of q (first k)) l.command a) (eqb-true l.session s e) fits)
+          (subst (λ (q : ℕ). FitsSnapshot (phase_of q (first k)) l.command a) (eqb-true l.session s e) looks) is
+      heard_in l a fits looks false e = is
 
       by : (x : Option ScriptLine) (y : Option Answer) → slice_get script k ≡ x → slice_get answers k ≡ y → IsIn (phase_of s (first (k + 1))) (progress_of s (first (k + 1)))
       by None y at told = stays (inl at)
@@ -254,7 +322,7 @@ module _ (script : List ScriptLine) (answers : List Answer) (phases : PhasesAgre
           subst (λ (ph : Phase). IsIn ph (progress_of s (first (k + 1)))) (sym (phase_next s script answers k l a at told))
           (subst
           (λ (p : Progress). IsIn (cond (l.session == s) (phase_after (Some l.command) a (phase_of s (first k))) (phase_of s (first k))) p)
-          (sym (progress_next s script answers k l a at told)) (heard_in l a (phases.fits k l a at told) (l.session == s) refl))
+          (sym (progress_next s script answers k l a at told)) (heard_in l a (phases.fits k l a at told) (phases.snapshots k l a at told) (l.session == s) refl))
 
   pub in_place : (k s : ℕ) → IsIn (phase_of s (first k)) (progress_of s (first k))
   in_place zero s = tt
@@ -332,6 +400,11 @@ of_heard s asked answer.NotIdle p are = are
 of_heard s asked answer.NoTransaction p are = are
 of_heard s asked answer.IsSealed p are = are
 of_heard s asked answer.NotSealed p are = are
+of_heard s asked answer.ReadOnly p are = are
+of_heard s asked answer.NotSafe p are = are
+of_heard s asked (answer.Safe begin) p are = record { over = are.over; current = are.current }
+of_heard s asked (answer.Unsafe seat stamp) p are = of_ended s report.Aborts (record p { snapshot = Some (own_snapshot p) }) (record { over = are.over; current = are.current })
+of_heard s asked answer.Ended p are = of_ended s report.Aborts (record p { snapshot = option_map with_end p.snapshot }) (record { over = are.over; current = are.current })
 of_heard s asked a p are = of_on s asked a p are
 
 of_hears : (s : ℕ) (x : Said) (p : Progress) (b : Bool) → AreOf s p → AreOf s (cond b (heard s x.asked x.answer p) p)

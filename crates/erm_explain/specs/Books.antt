@@ -1,12 +1,12 @@
 -- What the books of a report tell of its transactions, as far as the report was read.
-use Rattle.std.specs.Prelude.{◌≡◌, ℕ, ◌==◌, ◌≤◌, if◌then◌else◌, List, map, length, take, slice_index, slice_index_or, Option, Some, None}
+use Rattle.std.specs.Prelude.{◌≡◌, ℕ, ◌+◌, ◌==◌, ◌≤◌, false, is_some, if◌then◌else◌, List, ◌++◌, map, length, take, slice_index, slice_index_or, Option, Some, None}
 use Rattle.std.specs.List.{filter, filter_map, slice_get}
-use Rattle.std.specs.Option.{option_and_then, option_map}
+use Rattle.std.specs.Option.{option_and_then, option_map, option_to_list}
 use Rattle.erm_model.specs.Member.{◌∈◌}
 use Rattle.erm_report.specs.declared.answer.Answer.{Answer}
 use Rattle.erm_script.specs.declared.script.ScriptLine.{ScriptLine}
 use Rattle.erm_good_report.specs.Transactions as report
-use Rattle.erm_good_report.specs.Transactions.{Exchange, Progress, Transaction, begun, ended, goes_on, heard, progress_of, said_of, with_seal}
+use Rattle.erm_good_report.specs.Transactions.{Exchange, Progress, Snapshot, Transaction, begun, ended, heard, progress_of, said_of, with_ending, with_line, with_seal}
 use Rattle.erm_explain.specs.declared.books.Books.{Books}
 use Rattle.erm_explain.specs.declared.books.TheConstants.{SEATS}
 use Rattle.erm_explain.specs.declared.told.Ending.{Ending}
@@ -40,11 +40,13 @@ transaction_of script answers t = record {
   ending = ending_of t.ending;
 }
 
--- the books have a session's transactions: those that are over, in turn, the one that isn't, and how many are over
+-- the books have a session's transactions: those that are over, in turn, the one that isn't, how many are over, with the snapshots, and whether there
+-- is a snapshot
 pub record HasProgress (script : List ScriptLine) (answers : List Answer) (books : Books) (session : ℕ) (p : Progress) : Type 0 where
   pub over : filter (λ t. t.session == session) (map (transaction_of script answers) books.over.items) ≡ p.over
   pub current : option_map (transaction_of script answers) (slice_index_or books.current.items session None) ≡ p.current
-  pub count : slice_index books.counts.items session ≡ length p.over
+  pub count : slice_index books.counts.items session ≡ length p.over + length p.snapshots
+  pub watched : slice_index_or books.watching.items session false ≡ is_some p.snapshot
 
 -- The line at this place was answered, and is one of the session's transaction with this number.
 pub record IsPlaceOf (script : List ScriptLine) (answers : List Answer) (session number place : ℕ) : Type 0 where
@@ -66,11 +68,12 @@ pub record ArePlaced (script : List ScriptLine) (answers : List Answer) (books :
   pub over : (t : Told) → t ∈ books.over.items → ArePlacesOf script answers t
   pub current : (session : ℕ) (t : Told) → slice_index_or books.current.items session None ≡ Some t → ArePlacesOf script answers t
 
--- there are books for each number of a session, the counts are of transactions that are there, and each session's transaction is its own
+-- there are books for each number of a session, the counts are of transactions and snapshots that are there, and each session's transaction is its own
 pub record AreSeats (books : Books) : Type 0 where
   pub current : length books.current.items ≡ SEATS
   pub counts : length books.counts.items ≡ SEATS
-  pub few : (session : ℕ) → slice_index books.counts.items session ≤ length books.over.items
+  pub watching : length books.watching.items ≡ SEATS
+  pub few : (session : ℕ) → slice_index books.counts.items session ≤ length books.over.items + length books.watched.items
   pub own : (session : ℕ) (t : Told) → slice_index_or books.current.items session None ≡ Some t → t.session ≡ session
 
 -- one session's progress becomes another, and those of the other sessions stay
@@ -90,10 +93,24 @@ Seals session stamp old new = (script : List ScriptLine) (answers : List Answer)
 abbrev pub Ends : ℕ → Ending → Books → Books → Type 0
 Ends session ending old new = (script : List ScriptLine) (answers : List Answer) → Moves script answers session (ended (ending_of ending)) old new
 
+-- the one alone; and its snapshot
+abbrev pub EndsOwn : ℕ → Ending → Books → Books → Type 0
+EndsOwn session ending old new = (script : List ScriptLine) (answers : List Answer)
+    → Moves script answers session (λ p. record p { over = p.over ++ option_to_list (option_map (with_ending (ending_of ending)) p.current); current = None }) old new
+
+abbrev pub EndsWatch : ℕ → Books → Books → Type 0
+EndsWatch session old new = (script : List ScriptLine) (answers : List Answer)
+    → Moves script answers session (λ p. record p { snapshots = p.snapshots ++ option_to_list p.snapshot; snapshot = None }) old new
+
+-- the session has a snapshot, whichever it is
+abbrev pub Watches : ℕ → Books → Books → Type 0
+Watches session old new = (script : List ScriptLine) (answers : List Answer) (snapshot : Progress → Snapshot)
+    → Moves script answers session (λ p. record p { snapshot = Some (snapshot p) }) old new
+
 -- the line at a place, with its answer, is one of the current transaction's, if it names a table
 abbrev pub Notes : ScriptLine → ℕ → Books → Books → Type 0
 Notes line place old new = (script : List ScriptLine) (answers : List Answer) (answer : Answer) → slice_get script place ≡ Some line → slice_get answers place ≡ Some answer
-    → Moves script answers line.session (goes_on (Some line.command) answer) old new
+    → Moves script answers line.session (λ p. record p { current = option_map (with_line (Some line.command) answer) p.current }) old new
 
 -- the line at a place was answered
 abbrev pub Hears : ScriptLine → ℕ → Answer → Books → Books → Type 0

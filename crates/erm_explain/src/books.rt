@@ -1,29 +1,34 @@
-//! Books of the transactions that a report tells of, line by line.
-ghost use Rattle.std.specs.Prelude.{ℕ, List, IfOk, OnOk};
+//! Books of the transactions and snapshots that a report tells of, line by line.
+ghost use Rattle.std.specs.Prelude.{◌≡◌, ℕ, List, Some, IfOk, OnOk};
 ghost use Rattle.erm_report.specs.declared.answer.Answer.{Answer as AnyAnswer};
 ghost use Rattle.erm_script.specs.declared.script.ScriptLine.{ScriptLine as AnyLine};
+ghost use Rattle.erm_good_report.specs.Phases.{asks_safe};
 ghost use Rattle.erm_good_report.specs.Transactions.{nothing};
-ghost use Rattle.erm_explain.specs.Books.{ArePlaced, AreSeats, Begins, Ends, HasProgress, Hears, KeepsPlaces, Notes, Seals};
+ghost use Rattle.erm_explain.specs.Books.{ArePlaced, AreSeats, Begins, Ends, EndsOwn, EndsWatch, HasProgress, Hears, KeepsPlaces, Notes, Seals, Watches};
 
 use crate::table_of;
 use crate::told::{Ending, Told};
 use erm_model::{Seat, Stamp};
 use erm_report::Answer;
-use erm_script::ScriptLine;
+use erm_script::{Command, ScriptLine};
 use std::alloc::{AllocError, Global};
 
 /// How many numbers of sessions there are, with that of a line that names none.
 pub const SEATS: usize = 256;
 
-/// The transactions that a report tells of, as far as it was read.
+/// The transactions that a report tells of, as far as it was read, and how many snapshots.
 #[derive(Drop)]
 pub struct Books {
     /// Those that are over, in the order of their ends.
     pub over: Vec<Told>,
     /// The one of each session that isn't over.
     pub current: Vec<Option<Told>>,
-    /// How many of each session are over.
+    /// How many transactions and snapshots of each session are over.
     pub counts: Vec<u64>,
+    /// The sessions of the snapshots that are over, in the order of their ends.
+    pub watched: Vec<Seat>,
+    /// Whether each session has a snapshot.
+    pub watching: Vec<bool>,
 }
 
 impl Books {
@@ -41,6 +46,8 @@ impl Books {
             over: Vec::new(alloc),
             current,
             counts: vec![in alloc; 0; SEATS]?,
+            watched: Vec::new(alloc),
+            watching: vec![in alloc; false; SEATS]?,
         })
     }
 
@@ -60,6 +67,18 @@ impl Books {
         let session = line.session;
         match *answer {
             Answer::Began(begin) => self.begin(alloc, session, begin),
+            Answer::Safe(_) => self.watch(session),
+            Answer::WaitSeat { .. } => {
+                self.note(line, place)?;
+                if asks_safe(&line.command) {
+                    self.watch(session);
+                }
+            }
+            Answer::Unsafe { .. } => {
+                self.watch(session);
+                self.end(session, Ending::Aborts)?;
+            }
+            Answer::Ended => self.end(session, Ending::Aborts)?,
             Answer::Sealed(stamp) => self.seal(session, stamp),
             Answer::Committed { stamp, succ, pred } => {
                 self.end(session, Ending::Commits { stamp, succ, pred })?;
@@ -82,7 +101,12 @@ impl Books {
                 self.end(session, Ending::Aborts)?;
             }
             Answer::Aborted => self.end(session, Ending::Aborts)?,
-            Answer::NotIdle | Answer::NoTransaction | Answer::IsSealed | Answer::NotSealed => {}
+            Answer::NotIdle
+            | Answer::NoTransaction
+            | Answer::IsSealed
+            | Answer::NotSealed
+            | Answer::ReadOnly
+            | Answer::NotSafe => {}
             _ => self.note(line, place)?,
         }
         Ok(())
@@ -136,11 +160,32 @@ impl Books {
         }
     }
 
-    // A session's current transaction is over.
+    // A session has a snapshot.
+    fn watch(&mut self, session: Seat)
+        requires { AreSeats self.old }
+        ensures seats { AreSeats self.new }
+        ensures watches { Watches session self.old self.new }
+        ensures placed { (script : List AnyLine) (answers : List AnyAnswer) → ArePlaced script answers self.old → ArePlaced script answers self.new }
+    {
+        self.watching[usize::from(session)] = true;
+    }
+
+    // A session's current transaction is over, and its snapshot.
     fn end(&mut self, session: Seat, ending: Ending) -> Result<(), AllocError>
         requires { AreSeats self.old }
         ensures seats { OnOk result (AreSeats self.new) }
         ensures ends { OnOk result (Ends session ending self.old self.new) }
+        ensures placed { OnOk result ((script : List AnyLine) (answers : List AnyAnswer) → ArePlaced script answers self.old → ArePlaced script answers self.new) }
+    {
+        self.end_own(session, ending)?;
+        self.end_watch(session)
+    }
+
+    // A session's current transaction is over.
+    fn end_own(&mut self, session: Seat, ending: Ending) -> Result<(), AllocError>
+        requires { AreSeats self.old }
+        ensures seats { OnOk result (AreSeats self.new) }
+        ensures ends { OnOk result (EndsOwn session ending self.old self.new) }
         ensures placed { OnOk result ((script : List AnyLine) (answers : List AnyAnswer) → ArePlaced script answers self.old → ArePlaced script answers self.new) }
     {
         let seat = usize::from(session);
@@ -152,4 +197,28 @@ impl Books {
         self.counts[seat] += 1;
         Ok(())
     }
+
+    // A session's snapshot is over.
+    fn end_watch(&mut self, session: Seat) -> Result<(), AllocError>
+        requires { AreSeats self.old }
+        ensures seats { OnOk result (AreSeats self.new) }
+        ensures ends { OnOk result (EndsWatch session self.old self.new) }
+        ensures placed { OnOk result ((script : List AnyLine) (answers : List AnyAnswer) → ArePlaced script answers self.old → ArePlaced script answers self.new) }
+    {
+        let seat = usize::from(session);
+        if !self.watching[seat] {
+            return Ok(());
+        }
+        self.watching[seat] = false;
+        self.watched.push(session)?;
+        self.counts[seat] += 1;
+        Ok(())
+    }
+}
+
+// Whether a line asks for a safe snapshot.
+fn asks_safe(command: &Command) -> bool
+    ensures { result ≡ asks_safe (Some command.now) }
+{
+    matches!(command, Command::Safe)
 }

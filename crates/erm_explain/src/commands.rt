@@ -16,6 +16,7 @@ pub fn table_of(command: &Command) -> Option<u8>
         | Command::Scan { table, .. }
         | Command::Tidy { table, .. } => Some(*table),
         Command::Begin
+        | Command::Safe
         | Command::Seal
         | Command::Settle
         | Command::Commit

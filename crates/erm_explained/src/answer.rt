@@ -144,6 +144,7 @@ fn outcome(words: &[&str]) -> Option<Answer> {
     let (first, stamp) = (word(words, 1), number(words, 2));
     let answer = match first {
         "begin" => Answer::Began(stamp),
+        "safe" => Answer::Safe(stamp),
         "sealed" => Answer::Sealed(stamp),
         "committed" => Answer::Committed {
             stamp,
@@ -160,6 +161,7 @@ fn outcome(words: &[&str]) -> Option<Answer> {
             pred: number(words, 5),
         },
         "aborted" => Answer::Aborted,
+        "ended" => Answer::Ended,
         _ => return None,
     };
     Some(answer)
@@ -181,8 +183,14 @@ fn refusal(words: &[&str]) -> Option<Answer> {
             seat: u8::try_from(number(words, 2)).unwrap_or(0),
             seen: last,
         },
+        "unsafe" => Answer::Unsafe {
+            seat: u8::try_from(number(words, 2)).unwrap_or(0),
+            stamp: last,
+        },
         "not" if second == "idle" => Answer::NotIdle,
         "not" if second == "sealed" => Answer::NotSealed,
+        "not" if second == "safe" => Answer::NotSafe,
+        "read" => Answer::ReadOnly,
         "no" if second == "transaction" => Answer::NoTransaction,
         "is" => Answer::IsSealed,
         "reads" => Answer::ReadsFull,

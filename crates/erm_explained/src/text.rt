@@ -170,7 +170,8 @@ fn push_command(out: &mut Vec<u8>, command: &Command) -> Result<(), AllocError>
         | Command::Abort
         | Command::Durable
         | Command::Flush
-        | Command::Checkpoint => Ok(()),
+        | Command::Checkpoint
+        | Command::Safe => Ok(()),
     }
 }
 

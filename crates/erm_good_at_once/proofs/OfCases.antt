@@ -18,6 +18,7 @@ use Rattle.erm_good_report.specs.Phases.{FitsPhase, PhasesAgree, phase_of}
 use Rattle.erm_good_report.specs.Refusals.{HasCause, IsInReach}
 use Rattle.erm_good_report.specs.Stamps.{Told, begin_told, stamp_printed}
 use Rattle.erm_good_report.specs.Transactions.{Said, Transaction, said_of}
+use Rattle.erm_good_report.proofs.Snapshots.{no_looks, no_safe, none_agree}
 use Rattle.erm_good_report.proofs.Parts.{all_pairs_from_test, each_place, pairs_pass, told_from_test, told_pass}
 use Rattle.erm_good_at_once.specs.Cases.{BeginsAgree, BegunAtOneMet, BegunBelowItsOwner, GapIsAllowed, HoleIsRefused, OutOfPhaseIsRefused, first_opening, lines_out_of_phase, lines_with_gap, lines_with_hole, names, said_met, said_named, script_with_gap}
 use Rattle.erm_good_at_once.specs.CutReports.{AreSerial, IsCutAtOnce, OwesInPart, answered_of, less, moment_in}
@@ -60,9 +61,9 @@ serial_of_none (c ∷ order) sorted =
     let there : Contains [] c = Contains-permutation (c ∷ order) [] c (IsPermutation-sym [] (c ∷ order) sorted.same) (0, omega arith, refl) in
     absurd (omega (arith, there.1))
 
-owes : OwesInPart first_opening script_with_gap (answered_of counts script_with_gap) (answer.NoTransaction ∷ []) []
+owes : OwesInPart first_opening script_with_gap (answered_of counts script_with_gap) (answer.NoTransaction ∷ []) [] []
 owes = record {
-  phases = record { fits = each_place (λ i l a. FitsPhase (phase_of l.session (take i (said_of (answered_of counts script_with_gap) (answer.NoTransaction ∷ [])))) l.command a) (answered_of counts script_with_gap) (answer.NoTransaction ∷ []) (refl, tt) };
+  phases = record { fits = each_place (λ i l a. FitsPhase (phase_of l.session (take i (said_of (answered_of counts script_with_gap) (answer.NoTransaction ∷ [])))) l.command a) (answered_of counts script_with_gap) (answer.NoTransaction ∷ []) (refl, tt); snapshots = no_looks (answered_of counts script_with_gap) (answer.NoTransaction ∷ []) refl };
   stamps = record {
     differ = λ i j d less within. absurd (omega arith);
     least = none_told _;
@@ -78,7 +79,11 @@ owes = record {
     untold_after = λ i j stamp s drawn. absurd (none_told (λ t. ⊥) drawn.whole drawn.of);
     untold_before = λ i j stamp s drawn. absurd (none_told (λ t. ⊥) drawn.whole drawn.of);
   };
-  rise = record { met = λ i j d less within. absurd (omega arith); named = none_told _ };
+  rise = record {
+    met = λ i j d less within. absurd (omega arith);
+    named = none_told _;
+    watched = λ i j session begin s a begins. absurd (no_safe (said_of (answered_of counts script_with_gap) (answer.NoTransaction ∷ [])) refl i begins.line begins.at begins.asks);
+  };
   snapshots = none_told _;
   serial = serial_of_none;
   causes = none_told _;
@@ -86,6 +91,7 @@ owes = record {
       (record { own = λ t is. tt; log = tt; unfilled = tt }, tt);
   reach = each_place (λ i l a. IsInReach (moment_in first_opening script_with_gap (answered_of counts script_with_gap) (answer.NoTransaction ∷ []) [] i l) l.command a) (answered_of counts script_with_gap) (answer.NoTransaction ∷ [])
       (record { begin = tt; drawn = tt }, tt);
+  safe = none_agree (moment_in first_opening script_with_gap (answered_of counts script_with_gap) (answer.NoTransaction ∷ []) []) first_opening (answered_of counts script_with_gap) (answer.NoTransaction ∷ []) [] refl;
 }
 
 cut_at_once : IsCutAtOnce first_opening names script_with_gap lines_with_gap

@@ -15,8 +15,9 @@ use Rattle.erm_good_report.specs.GoodReport.{answer_lines, places_of}
 use Rattle.erm_good_report.specs.Opening.{AtOnce, Opening}
 use Rattle.erm_good_report.specs.Phases.{Closed, Closes, PhasesAgree, phase_of}
 use Rattle.erm_good_report.specs.Refusals.{HasCause, IsInReach, Moment, moment_at}
+use Rattle.erm_good_report.specs.Snapshots.{SnapshotsAgree}
 use Rattle.erm_good_report.specs.Stamps.{StampsAgree}
-use Rattle.erm_good_report.specs.Transactions.{Transaction, history_of, said_of, steps_of, transactions_of}
+use Rattle.erm_good_report.specs.Transactions.{Transaction, ended_of, history_of, said_of, steps_of, transactions_of}
 use Rattle.erm_good_at_once.specs.Rising.{StampsRise}
 
 -- one line less of a session
@@ -32,23 +33,24 @@ answered_of counts (l ∷ ls) = if nat_lt 0 (counts l.session) then l ∷ answer
 abbrev pub moment_in : Opening → (whole part : List ScriptLine) → List Answer → List Transaction → ℕ → ScriptLine → Moment
 moment_in opening whole part answers all i l = record (moment_at AtOnce opening part answers all i l) { lines = whole }
 
--- run in each serial order of theirs, the commits told give their replies, from the opening's map on
-abbrev pub AreSerial : Opening → List Transaction → Type 0
-AreSerial opening told = (order : List Committed) → IsSerialOrder rank_of (history_of told) order → RunsInOrder order opening.map (state_after order opening.map)
+-- run in each serial order of theirs, commits and safe snapshots that ended give their replies, from the opening's map on
+abbrev pub AreSerial : Opening → List Committed → Type 0
+AreSerial opening placed = (order : List Committed) → IsSerialOrder rank_of placed order → RunsInOrder order opening.map (state_after order opening.map)
 
--- What the answers to a part of a script owe, of the transactions that they tell. No line tells their order; it is that of what they tell of their
--- windows, where their stamps differ.
-pub record OwesInPart (opening : Opening) (whole part : List ScriptLine) (answers : List Answer) (told : List Transaction) : Type 0 where
+-- What the answers to a part of a script owe, of the transactions that they tell, and of the safe snapshots that ended. No line tells their order; it is
+-- that of what they tell of their windows, and of their begin stamps, where the commits' stamps differ.
+pub record OwesInPart (opening : Opening) (whole part : List ScriptLine) (answers : List Answer) (told : List Transaction) (ended : List Committed) : Type 0 where
   pub phases : PhasesAgree part answers
   pub stamps : StampsAgree AtOnce opening told (said_of part answers)
   pub rise : StampsRise AtOnce told (said_of part answers)
   pub snapshots : (t : Transaction) → t ∈ told → HasSnapshotReplies (history_of told) opening.map t.begin (steps_of t)
-  pub serial : AreSerial opening told
+  pub serial : AreSerial opening (history_of told ++ ended)
   pub causes : (t : Transaction) → t ∈ told → HasCauseOf t.ending told t
   pub refusals : (i : ℕ) (l : ScriptLine) (a : Answer) → slice_get part i ≡ Some l → slice_get answers i ≡ Some a
       → HasCause (moment_in opening whole part answers told i l) l.command a
   pub reach : (i : ℕ) (l : ScriptLine) (a : Answer) → slice_get part i ≡ Some l → slice_get answers i ≡ Some a
       → IsInReach (moment_in opening whole part answers told i l) l.command a
+  pub safe : SnapshotsAgree (moment_in opening whole part answers told) opening part answers told
 
 -- A session that was closed though no line tells it: all its lines are answered, and leave it sealed.
 pub record IsUnseen (whole part : List ScriptLine) (answers : List Answer) (c : Closed) : Type 0 where
@@ -69,3 +71,4 @@ pub record IsCutAtOnce (opening : Opening) (names : List (List ℕ)) (script : L
   pub unseen : (c : Closed) → c ∈ closed → IsUnseen script (answered_of counts script) answers c
   pub owes : OwesInPart opening script (answered_of counts script) answers
       (transactions_of (length names) (places_of (answered_of counts script) answers closed))
+      (ended_of (length names) (places_of (answered_of counts script) answers closed))

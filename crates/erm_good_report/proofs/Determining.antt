@@ -1,12 +1,14 @@
 -- Two good reports of one script that have the same bytes.
-use Rattle.std.proofs.Common.{◌≡◌, ℕ, suc, List, [], ◌∷◌, ◌++◌, map, length, get_or, Option, Some, None, IfSome, take, refl, sym, ap, ◌∙◌, subst, append_assoc, arith}
+use Rattle.std.proofs.Common.{◌≡◌, ℕ, suc, Bool, true, false, nat_lt, List, [], ◌∷◌, ◌++◌, map, length, get_or, Option, Some, None, IfSome, take, refl, sym, ap, ◌∙◌, subst, append_assoc, arith}
 use Rattle.std.specs.List.{All, slice_get}
 use Rattle.std.proofs.lemmas.List.{map-append}
 use Rattle.std.proofs.lemmas.Option.{slice_get-get_or}
 use Rattle.std.proofs.lemmas.List.Elements.{All-nil, All-cons, All-head, All-tail, All-append, All-map}
+use Rattle.erm_model.specs.declared.limits.TheConstants.{LOG_END}
 use Rattle.erm_model.specs.declared.operation.Reply.TheVariants as reply
 use Rattle.erm_model.specs.declared.outcome.Phase.{Phase}
 use Rattle.erm_model.specs.declared.outcome.Phase.TheVariants as phase
+use Rattle.erm_model.specs.Committed.{Committed}
 use Rattle.erm_report.specs.declared.answer.Answer.{Answer}
 use Rattle.erm_report.specs.declared.answer.Answer.TheVariants as answer
 use Rattle.erm_report.specs.declared.line.Line.{Line}
@@ -18,9 +20,9 @@ use Rattle.erm_script.specs.declared.grammar.Grammar.{Grammar}
 use Rattle.erm_script.specs.declared.script.ScriptLine.{ScriptLine}
 use Rattle.erm_script.specs.Script.{name_of, IsScript}
 use Rattle.erm_good_report.specs.Determined.{IsReportOf, ReportsAreDetermined}
-use Rattle.erm_good_report.specs.GoodReport.{Report, answer_lines, close_line, commit_line, report_lines}
+use Rattle.erm_good_report.specs.GoodReport.{Report, answer_lines, close_line, line_in_order, order_line, report_lines}
 use Rattle.erm_good_report.specs.Opening.{Mode, Opening}
-use Rattle.erm_good_report.specs.Phases.{IsAnswerTo, FitsPhase, FitsRefusal, Closes, ClosesAgree, phase_of, phase_asked, refusal_for, refusal_of}
+use Rattle.erm_good_report.specs.Phases.{IsAnswerTo, FitsPhase, FitsRefusal, Closes, ClosesAgree, Need, NeedsAny, NeedsIdle, NeedsReader, NeedsSealed, NeedsSnapshot, NeedsWriter, need_of, phase_of, refusal_for, refusal_of}
 use Rattle.erm_good_report.specs.Transactions.{said_of}
 use Rattle.erm_good_report.proofs.Names.{names_are_words}
 
@@ -36,6 +38,7 @@ untold a c = a
 
 pair_none : (c : Command) → IsAnswerTo c (answer.Replied (reply.Pair None)) → none_of c ≡ answer.Replied (reply.Pair None)
 pair_none command.Begin is = absurd is
+pair_none command.Safe is = absurd is
 pair_none (command.Get table key) is = absurd is
 pair_none (command.Put table key value) is = absurd is
 pair_none (command.Del table key) is = absurd is
@@ -52,6 +55,7 @@ pair_none command.Checkpoint is = absurd is
 
 value_none : (c : Command) → IsAnswerTo c (answer.Replied (reply.Value None)) → none_of c ≡ answer.Replied (reply.Value None)
 value_none command.Begin is = refl
+value_none command.Safe is = refl
 value_none (command.Get table key) is = refl
 value_none (command.Put table key value) is = refl
 value_none (command.Del table key) is = refl
@@ -73,40 +77,45 @@ untold-answer (answer.Replied (reply.Pair None)) c is = pair_none c is
 untold-answer a c is = refl
 
 -- a phase's refusal is told as it is
-untold-refusal : (asked : Option Phase) (ph : Phase) (c : Command) → IfSome (refusal_for asked ph) (λ r. untold (answer_told r) c ≡ r)
+untold-refusal : (need : Option Need) (ph : Phase) (c : Command) → IfSome (refusal_for need ph) (λ r. untold (answer_told r) c ≡ r)
 untold-refusal None ph c = tt
-untold-refusal (Some phase.Idle) phase.Idle c = tt
-untold-refusal (Some phase.Idle) phase.Active c = refl
-untold-refusal (Some phase.Idle) phase.Sealed c = refl
-untold-refusal (Some phase.Idle) phase.Pending c = refl
-untold-refusal (Some phase.Idle) phase.Safe c = refl
-untold-refusal (Some phase.Active) phase.Idle c = refl
-untold-refusal (Some phase.Active) phase.Active c = tt
-untold-refusal (Some phase.Active) phase.Sealed c = refl
-untold-refusal (Some phase.Active) phase.Pending c = refl
-untold-refusal (Some phase.Active) phase.Safe c = refl
-untold-refusal (Some phase.Sealed) phase.Idle c = refl
-untold-refusal (Some phase.Sealed) phase.Active c = refl
-untold-refusal (Some phase.Sealed) phase.Sealed c = tt
-untold-refusal (Some phase.Sealed) phase.Pending c = refl
-untold-refusal (Some phase.Sealed) phase.Safe c = refl
-untold-refusal (Some phase.Pending) phase.Idle c = tt
-untold-refusal (Some phase.Pending) phase.Active c = tt
-untold-refusal (Some phase.Pending) phase.Sealed c = tt
-untold-refusal (Some phase.Pending) phase.Pending c = tt
-untold-refusal (Some phase.Pending) phase.Safe c = tt
-untold-refusal (Some phase.Safe) phase.Idle c = tt
-untold-refusal (Some phase.Safe) phase.Active c = tt
-untold-refusal (Some phase.Safe) phase.Sealed c = tt
-untold-refusal (Some phase.Safe) phase.Pending c = tt
-untold-refusal (Some phase.Safe) phase.Safe c = tt
+untold-refusal (Some NeedsIdle) phase.Idle c = tt
+untold-refusal (Some NeedsIdle) phase.Active c = refl
+untold-refusal (Some NeedsIdle) phase.Sealed c = refl
+untold-refusal (Some NeedsIdle) phase.Pending c = refl
+untold-refusal (Some NeedsIdle) phase.Safe c = refl
+untold-refusal (Some NeedsSnapshot) phase.Idle c = tt
+untold-refusal (Some NeedsSnapshot) phase.Active c = refl
+untold-refusal (Some NeedsSnapshot) phase.Sealed c = refl
+untold-refusal (Some NeedsSnapshot) phase.Pending c = tt
+untold-refusal (Some NeedsSnapshot) phase.Safe c = refl
+untold-refusal (Some NeedsReader) phase.Idle c = refl
+untold-refusal (Some NeedsReader) phase.Active c = tt
+untold-refusal (Some NeedsReader) phase.Sealed c = refl
+untold-refusal (Some NeedsReader) phase.Pending c = refl
+untold-refusal (Some NeedsReader) phase.Safe c = tt
+untold-refusal (Some NeedsWriter) phase.Idle c = refl
+untold-refusal (Some NeedsWriter) phase.Active c = tt
+untold-refusal (Some NeedsWriter) phase.Sealed c = refl
+untold-refusal (Some NeedsWriter) phase.Pending c = refl
+untold-refusal (Some NeedsWriter) phase.Safe c = refl
+untold-refusal (Some NeedsSealed) phase.Idle c = refl
+untold-refusal (Some NeedsSealed) phase.Active c = refl
+untold-refusal (Some NeedsSealed) phase.Sealed c = tt
+untold-refusal (Some NeedsSealed) phase.Pending c = refl
+untold-refusal (Some NeedsSealed) phase.Safe c = refl
+untold-refusal (Some NeedsAny) phase.Idle c = refl
+untold-refusal (Some NeedsAny) phase.Active c = tt
+untold-refusal (Some NeedsAny) phase.Sealed c = refl
+untold-refusal (Some NeedsAny) phase.Pending c = tt
+untold-refusal (Some NeedsAny) phase.Safe c = tt
 
 untold-either : (refusal : Option Answer) (c : Command) (a : Answer) → IfSome refusal (λ r. untold (answer_told r) c ≡ r) → FitsRefusal refusal c a → untold (answer_told a) c ≡ a
 untold-either None c a told is = untold-answer a c is
 untold-either (Some r) c a told same = subst (λ (b : Answer). untold (answer_told b) c ≡ b) (sym same) told
 
 untold-fits : (ph : Phase) (c : Command) (a : Answer) → FitsPhase ph c a → untold (answer_told a) c ≡ a
-untold-fits ph c a fits = untold-either (refusal_of ph c) c a (untold-refusal (phase_asked c) ph c) fits
+untold-fits ph c a fits = untold-either (refusal_of ph c) c a (untold-refusal (need_of c) ph c) fits
 
 -- two answers to one command of which the same is told are the same
 same_answer : (ph other : Phase) (c : Command) (a b : Answer) → FitsPhase ph c a → FitsPhase other c b → answer_told a ≡ answer_told b → a ≡ b
@@ -158,12 +167,21 @@ answer_told-closing ph a is = refl
 -- the lines of a report after the answers
 abbrev pub after_answers : List (List ℕ) → Report → List Line
 after_answers names r =
-    map (close_line names) r.closed ++ (line.Order (length r.order) ∷ map (commit_line names) r.order
+    map (close_line names) r.closed ++ (line.Order (length r.order) ∷ map (order_line names) r.order
     ++ (line.Map (length r.pairs) ∷ map line.Pair r.pairs ++ line.End ∷ []))
 
 pub report_lines_by_parts : (opening : Opening) (names : List (List ℕ)) (script : List ScriptLine) (r : Report) →
     report_lines opening names script r ≡ line.Open opening.stamp opening.run ∷ (answer_lines script r.answers ++ after_answers names r)
 report_lines_by_parts opening names script r = simp append_assoc
+
+-- a line of the order is told as it is, and its session has a word for its name
+order_told : (b : Bool) (names : List (List ℕ)) (c : Committed) → told (line_in_order b names c) ≡ line_in_order b names c
+order_told true names c = refl
+order_told false names c = refl
+
+order_named : (b : Bool) (names : List (List ℕ)) (c : Committed) → IsWord (name_of names c.session) → HasWordName (line_in_order b names c)
+order_named true names c word = word
+order_named false names c word = word
 
 told_append : (xs ys : List Line) → map told xs ≡ xs → map told ys ≡ ys → map told (xs ++ ys) ≡ xs ++ ys
 told_append xs ys p q = map-append told xs ys ∙ ap (λ zs. zs ++ map told ys) p ∙ ap (λ zs. xs ++ zs) q
@@ -175,11 +193,11 @@ told_after names script r c =
     let x = get_or r.closed k d in
     ap (λ a. line.Close (name_of names x.session) a)
     (answer_told-closing (phase_of x.session (said_of script r.answers)) x.answer (c.fits x (k, slice_get-get_or r.closed k d within)))) in
-    let commits = told_map (commit_line names) r.order (λ k d within. refl) in
+    let commits = told_map (order_line names) r.order (λ k d within. let c = get_or r.order k d in order_told (nat_lt c.stamp LOG_END) names c) in
     let pairs = told_map line.Pair r.pairs (λ k d within. refl) in
     let last : List Line = line.Map (length r.pairs) ∷ map line.Pair r.pairs ++ line.End ∷ [] in
-    told_append (map (close_line names) r.closed) (line.Order (length r.order) ∷ map (commit_line names) r.order ++ last) closes
-    (told_append (line.Order (length r.order) ∷ map (commit_line names) r.order) last (ap (λ ls. line.Order (length r.order) ∷ ls) commits)
+    told_append (map (close_line names) r.closed) (line.Order (length r.order) ∷ map (order_line names) r.order ++ last) closes
+    (told_append (line.Order (length r.order) ∷ map (order_line names) r.order) last (ap (λ ls. line.Order (length r.order) ∷ ls) commits)
     (told_append (line.Map (length r.pairs) ∷ map line.Pair r.pairs) (line.End ∷ []) (ap (λ ls. line.Map (length r.pairs) ∷ ls) pairs) refl))
 
 -- ---- the names in them
@@ -193,13 +211,13 @@ word_names : (stamp run : ℕ) (names : List (List ℕ)) (script : List ScriptLi
     All HasWordName (line.Open stamp run ∷ (answer_lines script r.answers ++ after_answers names r))
 word_names stamp run names script r words =
     let close = close_line names in
-    let commit = commit_line names in
+    let one = order_line names in
     let closes = All-map HasWordName close r.closed (λ k d within. words (get_or r.closed k d).session) in
-    let commits = All-map HasWordName commit r.order (λ k d within. words (get_or r.order k d).session) in
+    let ordered = All-map HasWordName one r.order (λ k d within. let c = get_or r.order k d in order_named (nat_lt c.stamp LOG_END) names c (words c.session)) in
     let pairs = All-map HasWordName line.Pair r.pairs (λ k d within. tt) in
     let end = All-cons HasWordName line.End [] tt (All-nil HasWordName) in
     let map_end = All-cons HasWordName (line.Map (length r.pairs)) _ tt (All-append HasWordName (map line.Pair r.pairs) (line.End ∷ []) pairs end) in
-    let order_end = All-cons HasWordName (line.Order (length r.order)) _ tt (All-append HasWordName (map commit r.order) _ commits map_end) in
+    let order_end = All-cons HasWordName (line.Order (length r.order)) _ tt (All-append HasWordName (map one r.order) _ ordered map_end) in
     All-cons HasWordName (line.Open stamp run) _ tt
     (All-append HasWordName (answer_lines script r.answers) (after_answers names r) (no_names script r.answers) (All-append HasWordName (map close r.closed) _ closes order_end))
 

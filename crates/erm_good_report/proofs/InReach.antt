@@ -16,42 +16,20 @@ use Rattle.erm_script.specs.declared.script.Command.TheVariants as command
 use Rattle.erm_script.specs.declared.script.ScriptLine.{ScriptLine}
 use Rattle.erm_good_report.specs.GoodReport.{OwesToAnswers, places_of}
 use Rattle.erm_good_report.specs.Opening.{Mode, Opening}
-use Rattle.erm_good_report.specs.Phases.{Closed, Closes, FitsPhase, FitsRefusal, IsAnswerTo, PhasesAgree, phase_after, phase_after_wait, phase_asked, phase_of, refusal_for}
+use Rattle.erm_good_report.specs.Phases.{Closed, Closes, FitsPhase, FitsSnapshot, IsAnswerTo, PhasesAgree, phase_after, phase_after_wait, phase_of, refusal_of}
 use Rattle.erm_good_report.specs.Refusals.{moment_at, most_end}
 use Rattle.erm_good_report.specs.Stamps.{DrawsUntold, IsWait, Told, stamp_drawn}
-use Rattle.erm_good_report.specs.Transactions.{Aborts, Commits, Ending, Excludes, Exchange, Progress, Said, Transaction, Unfinished, begun, ended, goes_on, heard, nothing, progress_of, said_of, stamp_of, stamp_of_ending, transactions_of, with_ending, with_line, with_seal}
+use Rattle.erm_good_report.specs.Transactions.{Aborts, Commits, Ending, Excludes, Exchange, Progress, Said, Transaction, Unfinished, begun, ended, goes_on, heard, nothing, own_snapshot, progress_of, said_of, stamp_of, stamp_of_ending, transactions_of, with_end, with_ending, with_line, with_seal}
 use Rattle.erm_good_report.specs.InReach.{AreInReach, CutOnesAreInReach, GoodOnesAreInReach, IsDrawnAt}
-use Rattle.erm_good_report.proofs.Places.{said_by}
+use Rattle.erm_good_report.proofs.Phases.{answers_so}
+use Rattle.erm_good_report.proofs.Places.{said_at, said_by}
 
--- ---- which answers a session that is idle has
+-- ---- answers of sealed transactions
 abbrev IsSeal : Answer → Type 0
 IsSeal (answer.Sealed stamp) = Unit {0}
 IsSeal (answer.WaitSeat seat seen) = Unit {0}
 IsSeal (answer.WaitRing flushed) = Unit {0}
 IsSeal a = ⊥
-
-none_alone : (a : Answer) → IsSeal a
-    → (IsAnswerTo command.Begin a → ⊥) × (IsAnswerTo command.Durable a → ⊥) × (IsAnswerTo command.Flush a → ⊥) × (IsAnswerTo command.Checkpoint a → ⊥)
-none_alone (answer.Sealed stamp) is = (λ x. x, λ x. x, λ x. x, λ x. x)
-none_alone (answer.WaitSeat seat seen) is = (λ x. x, λ x. x, λ x. x, λ x. x)
-none_alone (answer.WaitRing flushed) is = (λ x. x, λ x. x, λ x. x, λ x. x)
-none_alone a is = absurd is
-
-none_idle : (c : Command) (a : Answer) → IsSeal a → FitsPhase Idle c a → ⊥
-none_idle command.Begin a is fits = (none_alone a is).0 fits
-none_idle (command.Get table key) a is fits = subst IsSeal fits is
-none_idle (command.Put table key value) a is fits = subst IsSeal fits is
-none_idle (command.Del table key) a is fits = subst IsSeal fits is
-none_idle (command.Next table from) a is fits = subst IsSeal fits is
-none_idle (command.Scan table low high) a is fits = subst IsSeal fits is
-none_idle (command.Tidy table key) a is fits = subst IsSeal fits is
-none_idle command.Seal a is fits = subst IsSeal fits is
-none_idle command.Settle a is fits = subst IsSeal fits is
-none_idle command.Commit a is fits = subst IsSeal fits is
-none_idle command.Abort a is fits = subst IsSeal fits is
-none_idle command.Durable a is fits = (none_alone a is).1 fits
-none_idle command.Flush a is fits = (none_alone a is).2 fits
-none_idle command.Checkpoint a is fits = (none_alone a is).3 fits
 
 -- ---- an outcome is no refusal by a phase, and answers a settle or a commit
 abbrev IsDecided : Answer → Type 0
@@ -59,42 +37,12 @@ IsDecided (answer.Committed stamp succ pred) = Unit {0}
 IsDecided (answer.Excluded stamp succ pred) = Unit {0}
 IsDecided a = ⊥
 
-fits_command : (asked : Option Phase) (phase : Phase) (c : Command) (a : Answer) → IsDecided a → FitsRefusal (refusal_for asked phase) c a → IsAnswerTo c a
-fits_command None Idle c a is fits = fits
-fits_command None Active c a is fits = fits
-fits_command None Sealed c a is fits = fits
-fits_command None Pending c a is fits = fits
-fits_command None Safe c a is fits = fits
-fits_command (Some Idle) Idle c a is fits = fits
-fits_command (Some Idle) Active c a is fits = absurd (subst IsDecided fits is)
-fits_command (Some Idle) Sealed c a is fits = absurd (subst IsDecided fits is)
-fits_command (Some Idle) Pending c a is fits = absurd (subst IsDecided fits is)
-fits_command (Some Idle) Safe c a is fits = absurd (subst IsDecided fits is)
-fits_command (Some Active) Idle c a is fits = absurd (subst IsDecided fits is)
-fits_command (Some Active) Active c a is fits = fits
-fits_command (Some Active) Sealed c a is fits = absurd (subst IsDecided fits is)
-fits_command (Some Active) Pending c a is fits = absurd (subst IsDecided fits is)
-fits_command (Some Active) Safe c a is fits = absurd (subst IsDecided fits is)
-fits_command (Some Sealed) Idle c a is fits = absurd (subst IsDecided fits is)
-fits_command (Some Sealed) Active c a is fits = absurd (subst IsDecided fits is)
-fits_command (Some Sealed) Sealed c a is fits = fits
-fits_command (Some Sealed) Pending c a is fits = absurd (subst IsDecided fits is)
-fits_command (Some Sealed) Safe c a is fits = absurd (subst IsDecided fits is)
-fits_command (Some Pending) Idle c a is fits = fits
-fits_command (Some Pending) Active c a is fits = fits
-fits_command (Some Pending) Sealed c a is fits = fits
-fits_command (Some Pending) Pending c a is fits = fits
-fits_command (Some Pending) Safe c a is fits = fits
-fits_command (Some Safe) Idle c a is fits = fits
-fits_command (Some Safe) Active c a is fits = fits
-fits_command (Some Safe) Sealed c a is fits = fits
-fits_command (Some Safe) Pending c a is fits = fits
-fits_command (Some Safe) Safe c a is fits = fits
-
 may : (c : Command) (a : Answer) (phase : Phase) → IsDecided a → FitsPhase phase c a → IsAnswerTo c a
-may c a phase is fits = fits_command (phase_asked c) phase c a is fits
+may c (answer.Committed stamp succ pred) phase is fits = (answers_so phase c (answer.Committed stamp succ pred) refl fits).1
+may c (answer.Excluded stamp succ pred) phase is fits = (answers_so phase c (answer.Excluded stamp succ pred) refl fits).1
+may c a phase is fits = absurd is
 
-either_part : {X : Type 0} (xs ys : List X) (x : X) → x ∈ (xs ++ ys) → (x ∈ xs) ⊎ (x ∈ ys)
+pub either_part : {X : Type 0} (xs ys : List X) (x : X) → x ∈ (xs ++ ys) → (x ∈ xs) ⊎ (x ∈ ys)
 either_part [] ys x m = inr m
 either_part {X} (z ∷ xs) ys x (zero, at) = inl (zero, at)
 either_part (z ∷ xs) ys x (suc k, at) = elim (either_part xs ys x (k, at)) [ inl m ↦ inl (suc m.0, m.1) | inr m ↦ inr m ]
@@ -118,7 +66,8 @@ module _ (Reach : ℕ → Type 0) (Waited : ℕ → ℕ → Type 0) (q : ℕ) wh
   Stands Idle now = Unit {0}
   Stands Active now = (t : Transaction) × (now ≡ Some t)
   Stands Sealed now = (t : Transaction) × (now ≡ Some t) × IsSealed t
-  Stands phase now = ⊥
+  Stands Pending now = Unit {0}
+  Stands Safe now = Unit {0}
 
   record Holds (phase : Phase) (p : Progress) : Type 0 where
     over : (t : Transaction) → t ∈ p.over → IsFine t
@@ -147,8 +96,8 @@ module _ (Reach : ℕ → Type 0) (Waited : ℕ → ℕ → Type 0) (q : ℕ) wh
   stands_on asked a Idle now s = tt
   stands_on asked a Active now s = (with_line asked a s.0, ap (option_map (with_line asked a)) s.1)
   stands_on asked a Sealed now s = (with_line asked a s.0, ap (option_map (with_line asked a)) s.1, s.2)
-  stands_on asked a Pending now s = s
-  stands_on asked a Safe now s = s
+  stands_on asked a Pending now s = tt
+  stands_on asked a Safe now s = tt
 
   on : (phase : Phase) (asked : Option Command) (a : Answer) (p : Progress) → Holds phase p → Holds phase (goes_on asked a p)
   on phase asked a p h = record { over = h.over; now = now_on asked a p.current h.now; stands = stands_on asked a phase p.current h.stands }
@@ -157,12 +106,26 @@ module _ (Reach : ℕ → Type 0) (Waited : ℕ → ℕ → Type 0) (q : ℕ) wh
   seal_now stamp in_reach None was t is = absurd (cc)
   seal_now stamp in_reach (Some u) was t is = let same : with_seal stamp u ≡ t = cc in subst IsOpen same (in_reach, (was u refl).1)
 
-  has_one : (c : Command) (a : Answer) (phase : Phase) (now : Option Transaction) → IsSeal a → FitsPhase phase c a → Stands phase now → (t : Transaction) × (now ≡ Some t)
-  has_one c a Idle now is fits s = absurd (none_idle c a is fits)
-  has_one c a Active now is fits s = s
-  has_one c a Sealed now is fits s = (s.0, s.1)
-  has_one c a Pending now is fits s = absurd s
-  has_one c a Safe now is fits s = absurd s
+  -- a transaction that tells its seal is active, and one whose commit waits was
+  sealed_one : (c : Command) (stamp : ℕ) (phase : Phase) (now : Option Transaction) → IsAnswerTo c (answer.Sealed stamp) → refusal_of phase c ≡ None → Stands phase now
+      → (t : Transaction) × (now ≡ Some t)
+  sealed_one command.Seal stamp Idle now is free s = absurd (cc)
+  sealed_one command.Seal stamp Active now is free s = s
+  sealed_one command.Seal stamp Sealed now is free s = absurd (cc)
+  sealed_one command.Seal stamp Pending now is free s = absurd (cc)
+  sealed_one command.Seal stamp Safe now is free s = absurd (cc)
+  sealed_one c stamp phase now is free s = absurd is
+
+  seals : (c : Command) (stamp : ℕ) (phase : Phase) (now : Option Transaction) → FitsPhase phase c (answer.Sealed stamp) → Stands phase now → (t : Transaction) × (now ≡ Some t)
+  seals c stamp phase now fits s = let own = answers_so phase c (answer.Sealed stamp) refl fits in sealed_one c stamp phase now own.1 own.0 s
+
+  commit_one : (a : Answer) (phase : Phase) (now : Option Transaction) → IsSeal a → FitsPhase phase command.Commit a → FitsSnapshot phase command.Commit a → Stands phase now
+      → (t : Transaction) × (now ≡ Some t)
+  commit_one a Idle now is fits looks s = absurd (subst IsSeal fits is)
+  commit_one a Active now is fits looks s = s
+  commit_one a Sealed now is fits looks s = absurd (subst IsSeal fits is)
+  commit_one a Pending now is fits looks s = absurd (subst IsSeal fits is)
+  commit_one a Safe now is fits looks s = absurd (subst IsSeal looks is)
 
   same_sealed : (now : Option Transaction) → Stands Sealed now → (u : Transaction) → now ≡ Some u → IsSealed u
   same_sealed now s u is = let both : Some s.0 ≡ Some u = sym s.1 ∙ is in let same : s.0 ≡ u = cc in subst IsSealed same s.2
@@ -171,8 +134,8 @@ module _ (Reach : ℕ → Type 0) (Waited : ℕ → ℕ → Type 0) (q : ℕ) wh
   settled Idle a now is fits s u at = absurd (subst IsDecided fits is)
   settled Active a now is fits s u at = absurd (subst IsDecided fits is)
   settled Sealed a now is fits s u at = same_sealed now s u at
-  settled Pending a now is fits s u at = absurd s
-  settled Safe a now is fits s u at = absurd s
+  settled Pending a now is fits s u at = absurd (subst IsDecided fits is)
+  settled Safe a now is fits s u at = absurd (subst IsDecided fits is)
 
   commits_told : (stamp succ pred : ℕ) (c : Command) (phase : Phase) (now : Option Transaction) → FitsPhase phase c (answer.Committed stamp succ pred) → IsAnswerTo c (answer.Committed stamp succ pred)
       → IfSome (stamp_drawn (Some c) (answer.Committed stamp succ pred)) Reach → Stands phase now → (u : Transaction) → now ≡ Some u → Reach stamp ⊎ IsSealed u
@@ -186,41 +149,49 @@ module _ (Reach : ℕ → Type 0) (Waited : ℕ → ℕ → Type 0) (q : ℕ) wh
   excludes_told stamp succ pred command.Settle phase now fits may drawn s u is = inr (settled phase (answer.Excluded stamp succ pred) now tt fits s u is)
   excludes_told stamp succ pred c phase now fits may drawn s u is = absurd may
 
-  -- where a commit waits its transaction is sealed then; another line that waits leaves it as it is
-  waits_on : (c : Command) (a : Answer) (phase : Phase) (p : Progress) → IsSeal a → FitsPhase phase c a → (c ≡ command.Commit → (u : Transaction) → p.current ≡ Some u → Waited u.session u.number) → Holds phase p
+  -- where a commit waits its transaction is sealed then, and where a `safe` does its snapshot is pending; another line that waits leaves it as it is
+  waits_on : (c : Command) (a : Answer) (phase : Phase) (p : Progress) → IsSeal a → FitsPhase phase c a → FitsSnapshot phase c a → (c ≡ command.Commit → (u : Transaction) → p.current ≡ Some u → Waited u.session u.number) → Holds phase p
       → Holds (phase_after_wait (Some c) phase) (goes_on (Some c) a p)
-  waits_on command.Commit a phase p is fits waits h =
-      let one = has_one command.Commit a phase p.current is fits h.stands in
+  waits_on command.Commit a phase p is fits looks waits h =
+      let one = commit_one a phase p.current is fits looks h.stands in
       record {
         over = h.over;
         now = now_on (Some command.Commit) a p.current h.now;
         stands = (with_line (Some command.Commit) a one.0, ap (option_map (with_line (Some command.Commit) a)) one.1, inr (waits refl one.0 one.1));
       }
-  waits_on c a phase p is fits waits h = on phase (Some c) a p h
+  waits_on command.Safe a phase p is fits looks waits h = record { over = h.over; now = now_on (Some command.Safe) a p.current h.now; stands = tt }
+  waits_on c a phase p is fits looks waits h = on phase (Some c) a p h
 
-  hears : (c : Command) (a : Answer) (phase : Phase) (p : Progress) → FitsPhase phase c a → (IsWait a → c ≡ command.Commit → (u : Transaction) → p.current ≡ Some u → Waited u.session u.number)
+  hears : (c : Command) (a : Answer) (phase : Phase) (p : Progress) → FitsPhase phase c a → FitsSnapshot phase c a → (IsWait a → c ≡ command.Commit → (u : Transaction) → p.current ≡ Some u → Waited u.session u.number)
       → IfSome (stamp_drawn (Some c) a) Reach → Holds phase p → Holds (phase_after (Some c) a phase) (heard q (Some c) a p)
-  hears c (answer.Began begin) phase p fits waits drawn h =
+  hears c (answer.Began begin) phase p fits looks waits drawn h =
       record { over = h.over; now = λ t is. (let same : begun q begin p ≡ t = cc in subst IsOpen same (tt, tt)); stands = (begun q begin p, refl) }
-  hears c (answer.Sealed stamp) phase p fits waits drawn h =
-      let one = has_one c (answer.Sealed stamp) phase p.current tt fits h.stands in
+  hears c (answer.Sealed stamp) phase p fits looks waits drawn h =
+      let one = seals c stamp phase p.current fits h.stands in
       record { over = h.over; now = seal_now stamp drawn p.current h.now; stands = (with_seal stamp one.0, ap (option_map (with_seal stamp)) one.1, inl (stamp, refl)) }
-  hears c (answer.WaitSeat seat seen) phase p fits waits drawn h = waits_on c (answer.WaitSeat seat seen) phase p tt fits (waits tt) h
-  hears c (answer.WaitRing flushed) phase p fits waits drawn h = waits_on c (answer.WaitRing flushed) phase p tt fits (waits tt) h
-  hears c (answer.Committed stamp succ pred) phase p fits waits drawn h =
+  hears c (answer.WaitSeat seat seen) phase p fits looks waits drawn h = waits_on c (answer.WaitSeat seat seen) phase p tt fits looks (waits tt) h
+  hears c (answer.WaitRing flushed) phase p fits looks waits drawn h = waits_on c (answer.WaitRing flushed) phase p tt fits looks (waits tt) h
+  hears c (answer.Committed stamp succ pred) phase p fits looks waits drawn h =
       ends phase (Commits stamp succ pred) p h (commits_told stamp succ pred c phase p.current fits (may c (answer.Committed stamp succ pred) phase tt fits) drawn h.stands)
-  hears c (answer.Excluded stamp succ pred) phase p fits waits drawn h =
+  hears c (answer.Excluded stamp succ pred) phase p fits looks waits drawn h =
       ends phase (Excludes (Some stamp) succ pred) p h (excludes_told stamp succ pred c phase p.current fits (may c (answer.Excluded stamp succ pred) phase tt fits) drawn h.stands)
-  hears c (answer.ExcludedEarly succ pred) phase p fits waits drawn h =
+  hears c (answer.ExcludedEarly succ pred) phase p fits looks waits drawn h =
       ends phase (Excludes None succ pred) (goes_on (Some c) (answer.ExcludedEarly succ pred) p) (on phase (Some c) (answer.ExcludedEarly succ pred) p h) (λ u is. inl tt)
-  hears c (answer.Owned seat number) phase p fits waits drawn h = ends phase Aborts (goes_on (Some c) (answer.Owned seat number) p) (on phase (Some c) (answer.Owned seat number) p h) (λ u is. inl tt)
-  hears c (answer.Newer stamp) phase p fits waits drawn h = ends phase Aborts (goes_on (Some c) (answer.Newer stamp) p) (on phase (Some c) (answer.Newer stamp) p h) (λ u is. inl tt)
-  hears c answer.Aborted phase p fits waits drawn h = ends phase Aborts p h (λ u is. inl tt)
-  hears c answer.NotIdle phase p fits waits drawn h = h
-  hears c answer.NoTransaction phase p fits waits drawn h = h
-  hears c answer.IsSealed phase p fits waits drawn h = h
-  hears c answer.NotSealed phase p fits waits drawn h = h
-  hears c a phase p fits waits drawn h = on phase (Some c) a p h
+  hears c (answer.Owned seat number) phase p fits looks waits drawn h = ends phase Aborts (goes_on (Some c) (answer.Owned seat number) p) (on phase (Some c) (answer.Owned seat number) p h) (λ u is. inl tt)
+  hears c (answer.Newer stamp) phase p fits looks waits drawn h = ends phase Aborts (goes_on (Some c) (answer.Newer stamp) p) (on phase (Some c) (answer.Newer stamp) p h) (λ u is. inl tt)
+  hears c answer.Aborted phase p fits looks waits drawn h = ends phase Aborts p h (λ u is. inl tt)
+  hears c answer.NotIdle phase p fits looks waits drawn h = h
+  hears c answer.NoTransaction phase p fits looks waits drawn h = h
+  hears c answer.IsSealed phase p fits looks waits drawn h = h
+  hears c answer.NotSealed phase p fits looks waits drawn h = h
+  hears c answer.ReadOnly phase p fits looks waits drawn h = h
+  hears c answer.NotSafe phase p fits looks waits drawn h = h
+  hears c (answer.Safe begin) phase p fits looks waits drawn h = record { over = h.over; now = h.now; stands = tt }
+  hears c (answer.Unsafe seat stamp) phase p fits looks waits drawn h =
+      ends phase Aborts (record p { snapshot = Some (own_snapshot p) }) (record { over = h.over; now = h.now; stands = h.stands }) (λ u is. inl tt)
+  hears c answer.Ended phase p fits looks waits drawn h =
+      ends phase Aborts (record p { snapshot = option_map with_end p.snapshot }) (record { over = h.over; now = h.now; stands = h.stands }) (λ u is. inl tt)
+  hears c a phase p fits looks waits drawn h = on phase (Some c) a p h
 
   -- ---- line by line
   abbrev phase_from : Phase → List Said → Phase
@@ -231,6 +202,7 @@ module _ (Reach : ℕ → Type 0) (Waited : ℕ → ℕ → Type 0) (q : ℕ) wh
 
   record Lines (ls : List ScriptLine) (gs : List Answer) (phase : Phase) (p : Progress) : Type 0 where
     fits : (i : ℕ) (l : ScriptLine) (a : Answer) → slice_get ls i ≡ Some l → slice_get gs i ≡ Some a → l.session ≡ q → FitsPhase (phase_from phase (take i (said_of ls gs))) l.command a
+    looks : (i : ℕ) (l : ScriptLine) (a : Answer) → slice_get ls i ≡ Some l → slice_get gs i ≡ Some a → l.session ≡ q → FitsSnapshot (phase_from phase (take i (said_of ls gs))) l.command a
     waits : (i : ℕ) (l : ScriptLine) (a : Answer) → slice_get ls i ≡ Some l → slice_get gs i ≡ Some a → l.session ≡ q → IsWait a → l.command ≡ command.Commit → (u : Transaction)
         → (progress_from p (take i (said_of ls gs))).current ≡ Some u → Waited u.session u.number
     drawn : (i : ℕ) (l : ScriptLine) (a : Answer) → slice_get ls i ≡ Some l → slice_get gs i ≡ Some a → IfSome (stamp_drawn (Some l.command) a) Reach
@@ -240,11 +212,11 @@ module _ (Reach : ℕ → Type 0) (Waited : ℕ → ℕ → Type 0) (q : ℕ) wh
   walks (l ∷ ls) [] phase p lines h = h
   walks (l ∷ ls) (a ∷ gs) phase p lines h =
       walks ls gs (cond (l.session == q) (phase_after (Some l.command) a phase) phase) (cond (l.session == q) (heard q (Some l.command) a p) p)
-      (record { fits = λ i k b at told. lines.fits (suc i) k b at told; waits = λ i k b at told. lines.waits (suc i) k b at told; drawn = λ i k b at told. lines.drawn (suc i) k b at told })
+      (record { fits = λ i k b at told. lines.fits (suc i) k b at told; looks = λ i k b at told. lines.looks (suc i) k b at told; waits = λ i k b at told. lines.waits (suc i) k b at told; drawn = λ i k b at told. lines.drawn (suc i) k b at told })
       (step (l.session == q) refl)
     where
       step : (b : Bool) → (l.session == q) ≡ b → Holds (cond b (phase_after (Some l.command) a phase) phase) (cond b (heard q (Some l.command) a p) p)
-      step true is = let same = eqb-true l.session q is in hears l.command a phase p (lines.fits zero l a refl refl same) (lines.waits zero l a refl refl same) (lines.drawn zero l a refl refl) h
+      step true is = let same = eqb-true l.session q is in hears l.command a phase p (lines.fits zero l a refl refl same) (lines.looks zero l a refl refl same) (lines.waits zero l a refl refl same) (lines.drawn zero l a refl refl) h
       step false is = h
 
   -- ---- and behind them the sessions closed
@@ -257,8 +229,8 @@ module _ (Reach : ℕ → Type 0) (Waited : ℕ → ℕ → Type 0) (q : ℕ) wh
   sealed_at Idle now s is t e = absurd (cc)
   sealed_at Active now s is t e = absurd (cc)
   sealed_at Sealed now s is t e = same_sealed now s t e
-  sealed_at Pending now s is t e = absurd s
-  sealed_at Safe now s is t e = absurd s
+  sealed_at Pending now s is t e = absurd (cc)
+  sealed_at Safe now s is t e = absurd (cc)
 
   none_sealed : (t : Transaction) → None ≡ Some t → IsSealed t
   none_sealed t is = absurd (cc)
@@ -269,6 +241,8 @@ module _ (Reach : ℕ → Type 0) (Waited : ℕ → ℕ → Type 0) (q : ℕ) wh
       record { over = ended_fine (Commits stamp succ pred) p h.over (λ u is. ((h.now u is).0, inr (h.sealed refl u is))); now = none_now; sealed = λ is. none_sealed }
   closes Sealed (answer.Excluded stamp succ pred) p ok h =
       record { over = ended_fine (Excludes (Some stamp) succ pred) p h.over (λ u is. ((h.now u is).0, inr (h.sealed refl u is))); now = none_now; sealed = λ is. none_sealed }
+  closes Pending answer.Aborted p ok h = record { over = ended_fine Aborts p h.over (λ u is. ((h.now u is).0, inl tt)); now = none_now; sealed = λ is. none_sealed }
+  closes Safe answer.Aborted p ok h = record { over = ended_fine Aborts p h.over (λ u is. ((h.now u is).0, inl tt)); now = none_now; sealed = λ is. none_sealed }
   closes phase a p ok h = absurd ok
 
   abbrev said_close : Closed → Said
@@ -324,15 +298,6 @@ module _ (Reach : ℕ → Type 0) (Waited : ℕ → ℕ → Type 0) (q : ℕ) wh
   stamp_fine : (t : Transaction) → (Waited t.session t.number → (stamp : ℕ) → stamp_of t ≡ Some stamp → Reach stamp) → IsFine t → Told (λ a b. a ≡ b) t.sealed (stamp_of_ending t.ending) → IfSome (stamp_of t) Reach
   stamp_fine t then fine agree = stamp_by t.session t.number t.begin t.lines t.sealed t.ending (Waited t.session t.number) then fine.0 fine.1 agree
 
-said_at : (script : List ScriptLine) (answers : List Answer) (i : ℕ) (l : ScriptLine) (a : Answer) → slice_get script i ≡ Some l → slice_get answers i ≡ Some a → slice_get (said_of script answers) i ≡ Some (said_by l a)
-said_at [] answers i l a at told = absurd (cc)
-said_at (k ∷ script) [] i l a at told = absurd (cc)
-said_at (k ∷ script) (b ∷ answers) zero l a at told =
-    let line : k ≡ l = cc in
-    let given : b ≡ a = cc in
-    ap (λ (m : ScriptLine). Some (said_by m b)) line ∙ ap (λ (g : Answer). Some (said_by l g)) given
-said_at (k ∷ script) (b ∷ answers) (suc i) l a at told = said_at script answers i l a at told
-
 -- ---- the commit of this transaction waited at this line
 record WaitedAt (script : List ScriptLine) (answers : List Answer) (session number : ℕ) : Type 0 where
   place : ℕ
@@ -355,6 +320,7 @@ module _ (Reach : ℕ → Type 0) (script : List ScriptLine) (answers : List Ans
   own_lines : (q : ℕ) → Lines Reach (WaitedAt script answers) q script answers Idle nothing
   own_lines q = record {
     fits = λ i l a at told is. subst (λ (s : ℕ). FitsPhase (phase_of s (take i (said_of script answers))) l.command a) is (phases.fits i l a at told);
+    looks = λ i l a at told is. subst (λ (s : ℕ). FitsSnapshot (phase_of s (take i (said_of script answers))) l.command a) is (phases.snapshots i l a at told);
     waits = λ i l a at told is waits commits u now. record {
       place = i;
       line = l;

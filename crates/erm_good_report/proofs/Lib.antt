@@ -4,6 +4,10 @@ pub mod InReach
 pub mod Names
 pub mod OneWindow
 pub mod Parts
+pub mod Phases
+pub mod Placed
 pub mod Places
+pub mod SnapshotTests
+pub mod Snapshots
 pub mod StampTests
 pub mod WriteSkew

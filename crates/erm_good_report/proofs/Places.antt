@@ -32,6 +32,15 @@ place_at (l ∷ script) (a ∷ answers) (suc i) s at =
     let later = place_at script answers i s at in
     record { line = later.line; given = later.given; at = later.at; answered = later.answered; is = later.is }
 
+pub said_at : (script : List ScriptLine) (answers : List Answer) (i : ℕ) (l : ScriptLine) (a : Answer) → slice_get script i ≡ Some l → slice_get answers i ≡ Some a → slice_get (said_of script answers) i ≡ Some (said_by l a)
+said_at [] answers i l a at told = absurd (cc)
+said_at (k ∷ script) [] i l a at told = absurd (cc)
+said_at (k ∷ script) (b ∷ answers) zero l a at told =
+    let line : k ≡ l = cc in
+    let given : b ≡ a = cc in
+    ap (λ (m : ScriptLine). Some (said_by m b)) line ∙ ap (λ (g : Answer). Some (said_by l g)) given
+said_at (k ∷ script) (b ∷ answers) (suc i) l a at told = said_at script answers i l a at told
+
 -- AT ONCE no answer waits, since the cause of a wait is one of lines in turn.
 abbrev is_in_turn : Mode → Type 0
 is_in_turn InTurn = Unit {0}

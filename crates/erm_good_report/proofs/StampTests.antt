@@ -16,7 +16,7 @@ use Rattle.erm_good_report.specs.Stamps.{DrawsUntold, IsWait, LiesAbove, LiesBel
 use Rattle.erm_good_report.specs.Transactions.{Said, Transaction, progress_of, said_of, stamp_of}
 use Rattle.erm_good_report.proofs.Parts.{all_pairs_from_test, all_pass, pairs_pass, told_from_test, told_pass}
 
-least_from : (m n : ℕ) → nat_le m n ≡ true → m ≤ n
+pub least_from : (m n : ℕ) → nat_le m n ≡ true → m ≤ n
 least_from m n pass = grind (arith, nat_tests)
 
 less_from : (m n : ℕ) → nat_lt m n ≡ true → m < n
@@ -129,7 +129,7 @@ waiting (answer.WaitRing flushed) is = refl
 waiting a is = absurd is
 
 -- of an alternative whose first part fails the second one holds
-second_of : (a b : Bool) → (not a || b) ≡ true → a ≡ true → b ≡ true
+pub second_of : (a b : Bool) → (not a || b) ≡ true → a ≡ true → b ≡ true
 second_of true b pass is = pass
 second_of false b pass is = cc
 
@@ -148,7 +148,7 @@ at_from test k (y ∷ xs) pass (suc i) x at =
     let place : k + 1 + i ≡ k + suc i = omega arith in
     subst (λ n. test n x ≡ true) place (at_from test (k + 1) xs (second_true (test k y) (at_pass test (k + 1) xs) pass) i x at)
 
-at_place : {X : Type 0} (test : ℕ → X → Bool) (xs : List X) → at_pass test 0 xs ≡ true → (i : ℕ) (x : X) → slice_get xs i ≡ Some x → test i x ≡ true
+pub at_place : {X : Type 0} (test : ℕ → X → Bool) (xs : List X) → at_pass test 0 xs ≡ true → (i : ℕ) (x : X) → slice_get xs i ≡ Some x → test i x ≡ true
 at_place test xs pass i x at =
     let place : 0 + i ≡ i = omega arith in
     subst (λ n. test n x ≡ true) place (at_from test 0 xs pass i x at)
@@ -170,7 +170,7 @@ abbrev pub untold_pass : Side → List Transaction → List Said → Bool
 untold_pass side transactions said =
     at_pass (λ i line. not (untold_by line.asked line.answer) || own_pass side transactions said i line (progress_of line.session (take i said)).current) 0 said
 
-untold_from : (side : Side) (transactions : List Transaction) (said : List Said) → untold_pass side transactions said ≡ true → (i stamp : ℕ) (drawn : DrawsUntold transactions said i stamp) → (j : ℕ) (s : Said)
+pub untold_from : (side : Side) (transactions : List Transaction) (said : List Said) → untold_pass side transactions said ≡ true → (i stamp : ℕ) (drawn : DrawsUntold transactions said i stamp) → (j : ℕ) (s : Said)
     → slice_get said j ≡ Some s → side i drawn.line stamp j s ≡ true
 untold_from side transactions said pass i stamp drawn j s at =
     let line = drawn.line in
@@ -200,7 +200,7 @@ after_side i line stamp j s = not (nat_lt j i) || (not (not (s.session == line.s
 abbrev pub before_side : Side
 before_side i line stamp j s = not (nat_lt i j) || above_pass s stamp
 
-lies_below : (s : Said) (stamp : ℕ) → below_pass s stamp ≡ true → LiesBelow s stamp
+pub lies_below : (s : Said) (stamp : ℕ) → below_pass s stamp ≡ true → LiesBelow s stamp
 lies_below s stamp pass =
     let begins = some_pass (λ begin. nat_le begin stamp) (begin_told s.answer) in
     let places = some_pass (λ place. nat_le place stamp) (place_told s.answer) in
@@ -221,7 +221,7 @@ lies_above s stamp pass =
           (second_true begins draws pass);
     }
 
-less_to : (m n : ℕ) → m < n → nat_lt m n ≡ true
+pub less_to : (m n : ℕ) → m < n → nat_lt m n ≡ true
 less_to m n less = grind (arith, nat_tests)
 
 other_to : (m n : ℕ) → m ≢ n → not (m == n) ≡ true

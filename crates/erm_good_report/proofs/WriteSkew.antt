@@ -30,6 +30,7 @@ use Rattle.erm_good_report.specs.Windows.{IsCommit, IsTightAt}
 use Rattle.erm_good_report.specs.WriteSkew.{first_opening, names, script, answers, report_with, WriteSkewIsExcluded}
 use Rattle.erm_good_report.proofs.Decided.{AreOverBelow, no_window_over, own_window, window_over}
 use Rattle.erm_good_report.proofs.Parts.{each_in, each_place, all_pairs_from_test, all_pairs_of_two, all_pairs_of_none, told_pass, told_from_test}
+use Rattle.erm_good_report.proofs.Snapshots.{no_looks, none_agree}
 use Rattle.erm_good_report.proofs.StampTests.{begins_ascend, begins_stop, reach_from_test, stamps_ascend, stamps_begin, untold_after, untold_before, untold_in_reach}
 
 abbrev all_answers : List Answer
@@ -256,7 +257,7 @@ it_is_good = record {
   each = refl;
   closes = record { each = refl; fits = λ c (k, found). cc };
   owes = record {
-    phases = record { fits = phases };
+    phases = record { fits = phases; snapshots = no_looks script all_answers refl };
     stamps = stamps;
     snapshots = snapshots;
     causes = causes;
@@ -265,6 +266,7 @@ it_is_good = record {
       reach = reach_from_test (moment_at InTurn first_opening script all_answers told) script all_answers refl;
       untold = untold_in_reach InTurn first_opening script all_answers told refl;
     };
+    safe = none_agree (moment_at InTurn first_opening script all_answers told) first_opening script all_answers told refl;
   };
   order = order;
 }

@@ -1,7 +1,8 @@
 -- The good report: what a report owes to its script, for any number of sessions.
-use Rattle.std.specs.Prelude.{◌≡◌, ◌≢◌, ℕ, ◌≤◌, ◌⊎◌, List, [], ◌∷◌, ◌++◌, length, map, Option, Some, None, IfSome}
+use Rattle.std.specs.Prelude.{◌≡◌, ◌≢◌, ℕ, ◌≤◌, ◌⊎◌, Bool, true, false, nat_lt, List, [], ◌∷◌, ◌++◌, length, map, Option, Some, None, IfSome}
 use Rattle.std.specs.List.{All, AllPairs, slice_get}
 use Rattle.std.specs.FinMap.{from_entries}
+use Rattle.erm_model.specs.declared.limits.TheConstants.{LOG_END}
 use Rattle.erm_model.specs.declared.map.Pair.{Pair}
 use Rattle.erm_model.specs.declared.outcome.Phase.TheVariants.{Sealed}
 use Rattle.erm_model.specs.Committed.{Committed, HasSnapshotReplies, RunsInOrder, rank_of}
@@ -19,9 +20,10 @@ use Rattle.erm_script.specs.Script.{name_of}
 use Rattle.erm_good_report.specs.Causes.{HasCauseOf}
 use Rattle.erm_good_report.specs.Opening.{Mode, Opening}
 use Rattle.erm_good_report.specs.Phases.{Closed, Closes, ClosesAgree, PhasesAgree, phase_of}
-use Rattle.erm_good_report.specs.Refusals.{HasCauses}
+use Rattle.erm_good_report.specs.Refusals.{HasCauses, moment_at}
+use Rattle.erm_good_report.specs.Snapshots.{SnapshotsAgree}
 use Rattle.erm_good_report.specs.Stamps.{StampsAgree}
-use Rattle.erm_good_report.specs.Transactions.{Said, said_of, Transaction, transactions_of, history_of, steps_of}
+use Rattle.erm_good_report.specs.Transactions.{Said, said_of, Transaction, ended_of, transactions_of, history_of, steps_of}
 use Rattle.erm_good_report.specs.Windows.{IsTightAt}
 
 -- what the lines of a report say, part by part
@@ -37,18 +39,30 @@ answer_lines [] answers = []
 answer_lines (l ∷ ls) [] = []
 answer_lines (l ∷ ls) (a ∷ answers) = line.Answer l.line a ∷ answer_lines ls answers
 
--- the line of a session that was closed, and that of a commit
+-- the line of a session that was closed, that of a commit, and that of a safe snapshot that ended, whose stamp in the serial order is its begin
+-- stamp
 abbrev pub close_line : List (List ℕ) → Closed → Line
 close_line names c = line.Close (name_of names c.session) c.answer
 
 abbrev pub commit_line : List (List ℕ) → Committed → Line
 commit_line names c = line.Commit (name_of names c.session) c.number c.stamp c.succ c.pred
 
--- Report lines: the opening, an answer for each script line, the sessions closed, the order of commits, the map, the end.
+abbrev pub safe_line : List (List ℕ) → Committed → Line
+safe_line names c = line.Safe (name_of names c.session) c.number c.succ
+
+-- the line of one of the order: a commit has its stamp within the log, and a snapshot has one above it
+abbrev pub line_in_order : Bool → List (List ℕ) → Committed → Line
+line_in_order true names c = commit_line names c
+line_in_order false names c = safe_line names c
+
+abbrev pub order_line : List (List ℕ) → Committed → Line
+order_line names c = line_in_order (nat_lt c.stamp LOG_END) names c
+
+-- Report lines: the opening, an answer for each script line, the sessions closed, the order of commits and snapshots, the map, the end.
 abbrev pub report_lines : Opening → List (List ℕ) → List ScriptLine → Report → List Line
 report_lines opening names script r =
     line.Open opening.stamp opening.run ∷ answer_lines script r.answers ++ map (close_line names) r.closed
-    ++ line.Order (length r.order) ∷ map (commit_line names) r.order
+    ++ line.Order (length r.order) ∷ map (order_line names) r.order
     ++ line.Map (length r.pairs) ∷ map line.Pair r.pairs ++ line.End ∷ []
 
 -- the places of a report: the script's lines with their answers, then the sessions closed
@@ -56,20 +70,25 @@ abbrev pub places_of : List ScriptLine → List Answer → List Closed → List 
 places_of script answers closed = said_of script answers ++ map (λ c. record { session = c.session; asked = None; answer = c.answer }) closed
 
 -- What the answers and the ends of a report owe, of the transactions that they tell, whoever closed these: phases, stamps, snapshot
--- replies, the causes of commits and exclusions, and the causes of refusals.
+-- replies, the causes of commits and exclusions, the causes of refusals, and what is owed of snapshots that only read.
 pub record OwesToAnswers (mode : Mode) (opening : Opening) (script : List ScriptLine) (answers : List Answer) (told : List Transaction) : Type 0 where
   pub phases : PhasesAgree script answers
   pub stamps : StampsAgree mode opening told (said_of script answers)
   pub snapshots : (t : Transaction) → t ∈ told → HasSnapshotReplies (history_of told) opening.map t.begin (steps_of t)
   pub causes : (t : Transaction) → t ∈ told → HasCauseOf t.ending told t
   pub refusals : HasCauses mode opening script answers told
+  pub safe : SnapshotsAgree (moment_at mode opening script answers told) opening script answers told
 
--- Serial order: the order lines are the serial order of the transactions printed committed; run one after another in
--- that order from the opening's map, these give their printed replies and end in the map printed.
+-- Serial order: the order lines are the serial order of the transactions printed committed and the safe snapshots that ended;
+-- run one after another in that order from the opening's map, these give their printed replies and end in the map printed.
 pub record OrderAgrees (commits : List Committed) (opening : Database) (r : Report) : Type 0 where
   pub serial : IsSerialOrder rank_of commits r.order
   pub ascends : AscendByKey r.pairs
   pub run : RunsInOrder r.order opening (from_entries (entries_of r.pairs))
+
+-- what is in the serial order of a report: the transactions printed committed, and the safe snapshots that ended
+abbrev pub serial_of : ℕ → List Said → List Committed
+serial_of sessions said = history_of (transactions_of sessions said) ++ ended_of sessions said
 
 -- The good report of a script with these sessions. Its numbers and values fit their types, so that its bytes tell it.
 pub record IsGoodReport (mode : Mode) (opening : Opening) (names : List (List ℕ)) (script : List ScriptLine) (lines : List Line) : Type 0 where
@@ -79,7 +98,7 @@ pub record IsGoodReport (mode : Mode) (opening : Opening) (names : List (List �
   pub each : length report.answers ≡ length script
   pub closes : ClosesAgree (length names) (said_of script report.answers) report.closed
   pub owes : OwesToAnswers mode opening script report.answers (transactions_of (length names) (places_of script report.answers report.closed))
-  pub order : OrderAgrees (history_of (transactions_of (length names) (places_of script report.answers report.closed))) opening.map report
+  pub order : OrderAgrees (serial_of (length names) (places_of script report.answers report.closed)) opening.map report
 
 -- The windows of the transactions that are told are tight.
 abbrev pub HaveTightWindows : List Transaction → Type 0

@@ -5,6 +5,7 @@ pub mod InReach
 pub mod Opening
 pub mod Phases
 pub mod Refusals
+pub mod Snapshots
 pub mod Stamps
 pub mod Transactions
 pub mod Windows

@@ -22,10 +22,12 @@ stamp_told (answer.Committed stamp succ pred) = Some stamp
 stamp_told (answer.Excluded stamp succ pred) = Some stamp
 stamp_told a = None
 
--- the commit stamps that an answer prints: that of a session waited for, of a newer commit or of a durable one too
+-- the commit stamps that an answer prints: that of a session waited for, of a newer commit, of one that makes a snapshot unsafe, or of a durable
+-- one too; where a snapshot waits it is the begin word seen, which later begins are above as well
 abbrev pub stamp_printed : Answer → Option ℕ
 stamp_printed (answer.WaitSeat seat seen) = Some seen
 stamp_printed (answer.Newer stamp) = Some stamp
+stamp_printed (answer.Unsafe seat stamp) = Some stamp
 stamp_printed (answer.Durable stamp) = Some stamp
 stamp_printed a = stamp_told a
 

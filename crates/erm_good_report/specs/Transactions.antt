@@ -1,12 +1,13 @@
--- The transactions that a report speaks of, read off the script's lines and their answers alone.
-use Rattle.std.specs.Prelude.{ℕ, ◌+◌, ◌==◌, Bool, true, false, if◌then◌else◌, List, [], ◌∷◌, ◌++◌, length, Option, Some, None}
+-- The transactions and snapshots that a report speaks of, read off the script's lines and their answers alone.
+use Rattle.std.specs.Prelude.{ℕ, ◌+◌, ◌*◌, ◌-◌, ◌^◌, ◌==◌, Bool, true, false, if◌then◌else◌, List, [], ◌∷◌, ◌++◌, length, Option, Some, None}
 use Rattle.std.specs.List.{filter_map, flat_map, fold, range_with_len}
-use Rattle.std.specs.Option.{option_and_then, option_map, option_to_list}
+use Rattle.std.specs.Option.{option_and_then, option_map, option_map_or, option_to_list}
 use Rattle.erm_model.specs.declared.operation.Op.{Op}
 use Rattle.erm_model.specs.declared.operation.Op.TheVariants as op
 use Rattle.erm_model.specs.declared.operation.Reply.{Reply}
 use Rattle.erm_model.specs.Run.{Step}
 use Rattle.erm_model.specs.Committed.{Committed}
+use Rattle.erm_model.specs.Member.{◌∈◌}
 use Rattle.erm_report.specs.declared.answer.Answer.{Answer}
 use Rattle.erm_report.specs.declared.answer.Answer.TheVariants as answer
 use Rattle.erm_script.specs.declared.script.Command.{Command}
@@ -57,7 +58,7 @@ is_writer (command.Del table key) = true
 is_writer (command.Tidy table key) = true
 is_writer c = false
 
--- a line of a transaction that names a table, with its answer
+-- a line of a transaction or a snapshot that names a table, with its answer
 pub record Exchange : Type 0 where
   pub asked : Command
   pub answer : Answer
@@ -79,6 +80,14 @@ pub record Transaction : Type 0 where
   pub sealed : Option ℕ
   pub ending : Ending
 
+-- A snapshot that only reads (Ports and Grittner, 2012): its number in its session, its begin stamp where a line told that it is safe there,
+-- its lines that name a table, and whether it has its place in the serial order, since it ended.
+pub record Snapshot : Type 0 where
+  pub number : ℕ
+  pub begin : Option ℕ
+  pub lines : List Exchange
+  pub placed : Bool
+
 -- an operation that was answered, with its reply
 abbrev pub step_of : Exchange → Option Step
 step_of e = option_and_then (λ op. option_map (λ reply. record { op = op; reply = reply }) (reply_in e.answer)) (op_of e.asked)
@@ -87,22 +96,55 @@ step_of e = option_and_then (λ op. option_map (λ reply. record { op = op; repl
 abbrev pub steps_of : Transaction → List Step
 steps_of t = filter_map step_of t.lines
 
--- a session's transactions: those that are over, in turn, and the one that is not
+-- and those of a snapshot
+abbrev pub looks_of : Snapshot → List Step
+looks_of s = filter_map step_of s.lines
+
+-- a session's transactions: those that are over, in turn, and the one that is not; and its snapshots so
 pub record Progress : Type 0 where
   pub over : List Transaction
   pub current : Option Transaction
+  pub snapshots : List Snapshot
+  pub snapshot : Option Snapshot
 
--- no transaction yet
+-- no transaction and no snapshot yet
 abbrev pub nothing : Progress
-nothing = record { over = []; current = None }
+nothing = record { over = []; current = None; snapshots = []; snapshot = None }
+
+-- the number that the session's next transaction, or snapshot, takes: both are counted together
+abbrev pub next_number : Progress → ℕ
+next_number p = length p.over + length p.snapshots + 1
 
 -- the session's next transaction, with this begin stamp
 abbrev pub begun : ℕ → ℕ → Progress → Transaction
-begun session begin p = record { session = session; number = length p.over + 1; begin = begin; lines = []; sealed = None; ending = Unfinished }
+begun session begin p = record { session = session; number = next_number p; begin = begin; lines = []; sealed = None; ending = Unfinished }
 
--- a transaction after one more of its lines that name a table
+-- the session's snapshot, or the one that begins where it has none
+abbrev pub own_snapshot : Progress → Snapshot
+own_snapshot p = option_map_or (λ s. s) p.snapshot (record { number = next_number p; begin = None; lines = []; placed = false })
+
+-- a line with its answer, where it names a table
+abbrev pub exchange_of : Option Command → Answer → Option Exchange
+exchange_of asked a = option_and_then (λ c. option_map (λ table. record { asked = c; answer = a }) (table_of c)) asked
+
+-- a transaction after one more of its lines that name a table, and a snapshot
 abbrev pub with_line : Option Command → Answer → Transaction → Transaction
-with_line asked a t = record t { lines = t.lines ++ option_to_list (option_and_then (λ c. option_map (λ table. record { asked = c; answer = a }) (table_of c)) asked) }
+with_line asked a t = record t { lines = t.lines ++ option_to_list (exchange_of asked a) }
+
+abbrev pub with_look : Option Command → Answer → Snapshot → Snapshot
+with_look asked a s = record s { lines = s.lines ++ option_to_list (exchange_of asked a) }
+
+-- the snapshot of a session after one more line: a `safe` that waits begins it where there is none
+abbrev pub snapshot_after : Answer → Option Command → Progress → Option Snapshot
+snapshot_after (answer.WaitSeat seat seen) (Some command.Safe) p = Some (own_snapshot p)
+snapshot_after a asked p = option_map (with_look asked a) p.snapshot
+
+-- a snapshot that is safe, and one that has ended
+abbrev pub with_begin : ℕ → Snapshot → Snapshot
+with_begin begin s = record s { begin = Some begin }
+
+abbrev pub with_end : Snapshot → Snapshot
+with_end s = record s { placed = true }
 
 -- a transaction that was sealed, and one that has ended
 abbrev pub with_seal : ℕ → Transaction → Transaction
@@ -111,17 +153,26 @@ with_seal stamp t = record t { sealed = Some stamp }
 abbrev pub with_ending : Ending → Transaction → Transaction
 with_ending ending t = record t { ending = ending }
 
--- the current transaction gets this line; it is over
+-- the current transaction, or snapshot, gets this line; it is over
 abbrev pub goes_on : Option Command → Answer → Progress → Progress
-goes_on asked a p = record p { current = option_map (with_line asked a) p.current }
+goes_on asked a p = record p { current = option_map (with_line asked a) p.current; snapshot = snapshot_after a asked p }
 
 abbrev pub ended : Ending → Progress → Progress
-ended ending p = record { over = p.over ++ option_to_list (option_map (with_ending ending) p.current); current = None }
+ended ending p = record {
+  over = p.over ++ option_to_list (option_map (with_ending ending) p.current);
+  current = None;
+  snapshots = p.snapshots ++ option_to_list p.snapshot;
+  snapshot = None;
+}
 
--- A session's transactions after one more answer. A begin opens the next. A line that was answered, or refused otherwise than by
--- the session's phase, is a line of the current one, also where the refusal ends it. One that the phase refused is none.
+-- A session's transactions and snapshots after one more answer. A begin opens the next transaction, and a `safe` the next snapshot, where none
+-- is there. A line that was answered, or refused otherwise than by the session's phase, is a line of the current one, also where the refusal
+-- ends it. One that the phase refused is none.
 abbrev pub heard : ℕ → Option Command → Answer → Progress → Progress
 heard session asked (answer.Began begin) p = record p { current = Some (begun session begin p) }
+heard session asked (answer.Safe begin) p = record p { snapshot = Some (with_begin begin (own_snapshot p)) }
+heard session asked (answer.Unsafe seat stamp) p = ended Aborts (record p { snapshot = Some (own_snapshot p) })
+heard session asked answer.Ended p = ended Aborts (record p { snapshot = option_map with_end p.snapshot })
 heard session asked (answer.Sealed stamp) p = record p { current = option_map (with_seal stamp) p.current }
 heard session asked (answer.Committed stamp succ pred) p = ended (Commits stamp succ pred) p
 heard session asked (answer.Excluded stamp succ pred) p = ended (Excludes (Some stamp) succ pred) p
@@ -133,6 +184,8 @@ heard session asked answer.NotIdle p = p
 heard session asked answer.NoTransaction p = p
 heard session asked answer.IsSealed p = p
 heard session asked answer.NotSealed p = p
+heard session asked answer.ReadOnly p = p
+heard session asked answer.NotSafe p = p
 heard session asked a p = goes_on asked a p
 
 -- a session's transactions, as its own places of the report have them
@@ -142,6 +195,28 @@ progress_of session said = fold (λ p s. if s.session == session then heard sess
 -- all transactions of some sessions
 abbrev pub transactions_of : ℕ → List Said → List Transaction
 transactions_of sessions said = flat_map (λ session. (progress_of session said).over ++ option_to_list (progress_of session said).current) (range_with_len 1 sessions)
+
+-- a session has had this snapshot, or has it
+abbrev pub HasSnapshot : List Said → ℕ → Snapshot → Type 0
+HasSnapshot said session s = s ∈ ((progress_of session said).snapshots ++ option_to_list (progress_of session said).snapshot)
+
+-- The stamp that places a snapshot in the serial order beside others at its begin stamp: it is above those of all commits, and of two the one of
+-- the smaller session, and then number, comes first.
+abbrev pub rank_stamp : (session number : ℕ) → ℕ
+rank_stamp session number = 2 ^ 64 - 1 - (session * 2 ^ 32 + number)
+
+-- A snapshot at this stamp as the serial order has it: in front of all that committed there or has its turn there.
+abbrev pub placed_at : ℕ → Snapshot → ℕ → Committed
+placed_at session s begin =
+    record { session = session; number = s.number; begin = begin; stamp = rank_stamp session s.number; succ = begin; pred = 0; steps = looks_of s }
+
+-- a snapshot that ended
+abbrev pub ended_as : ℕ → Snapshot → Option Committed
+ended_as session s = if s.placed then option_map (placed_at session s) s.begin else None
+
+-- the snapshots of some sessions that ended
+abbrev pub ended_of : ℕ → List Said → List Committed
+ended_of sessions said = flat_map (λ session. filter_map (ended_as session) (progress_of session said).snapshots) (range_with_len 1 sessions)
 
 -- a transaction that committed
 abbrev pub committed_as : Ending → Transaction → Option Committed

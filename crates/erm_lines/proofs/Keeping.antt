@@ -14,16 +14,17 @@ use Rattle.erm_script.specs.declared.script.Command.{Command}
 use Rattle.erm_script.specs.declared.script.Command.TheVariants as command
 use Rattle.erm_script.specs.declared.script.ScriptLine.{ScriptLine}
 use Rattle.erm_world.specs.Calls.{DidSeal, IsDone}
-use Rattle.erm_world.specs.World.{Fate, IsSession, Opening, Session, Stand, View, Work, begun, phase_at, phase_of, work_at, work_of}
+use Rattle.erm_world.specs.World.{Fate, IsSession, Opening, Session, View, Work, begun, phase_at, phase_of, work_at, work_of}
 use Rattle.erm_world.specs.World as world
 use Rattle.erm_world.proofs.Txns.{stopped, went}
 use Rattle.erm_maps.specs.Runs.{IsRunOf}
-use Rattle.erm_good_report.specs.Phases.{refusal_for, refusal_of}
+use Rattle.erm_good_report.specs.Phases.{HasNoSnapshot, NeedsReader, NeedsWriter, refusal_of}
 use Rattle.erm_lines.specs.Answers.{DidAsked, DidClose, DidCommand, DidCommit, DidDecide, DidLine, DidOperation, WasRefusedAs}
 use Rattle.erm_lines.specs.Executions.{DidEnd, DidFlush, DidLogLine}
 use Rattle.erm_lines.specs.Operations.{DidCalls, Ran}
 use Rattle.erm_lines.specs.Whole.{AreRunsNow}
 use Rattle.erm_lines.proofs.Moved.{active_where, asked_still, log_flushes}
+use Rattle.erm_lines.proofs.Watched.{Watches, asked_snapshot, in_phase, safe_rests, watched}
 
 -- where a session is active, its transaction is the run of some operations
 abbrev IsRunNow : Session → Type 0
@@ -156,37 +157,40 @@ module _ (none : (number begin : ℕ) → IsRunOf (begun number begin) []) (v t 
   aborted_kept a did = absurd did
 
   module _ (session : IsSession v seat) where
-    operation_kept : (c : Command) (a : Answer) → refusal_for (Some Active) (phase_at v seat) ≡ None → DidOperation v seat c a t → Kept v t
-    operation_kept c a allowed did =
-        let active = active_where (phase_at v seat) allowed in
+    operation_kept : (c : Command) (a : Answer) → phase_at v seat ≡ Active → DidOperation v seat c a t → Kept v t
+    operation_kept c a active did =
         kept v t seat runs (operation_turns v t seat c a active (runs seat session active) did)
 
-    command_kept : (c : Command) (a : Answer) → refusal_of (phase_at v seat) c ≡ None → DidCommand v seat c a t → Kept v t
-    command_kept command.Begin a allowed did = begun_kept a did
-    command_kept command.Seal a allowed did = sealed_kept a did
-    command_kept command.Settle a allowed did = kept v t seat runs (decided_turns v t seat a did)
-    command_kept command.Commit a allowed did = kept v t seat runs (committed_turns v t seat a did)
-    command_kept command.Abort a allowed did = aborted_kept a did
-    command_kept (command.Get table key) a allowed did = operation_kept (command.Get table key) a allowed did
-    command_kept (command.Put table key value) a allowed did = operation_kept (command.Put table key value) a allowed did
-    command_kept (command.Del table key) a allowed did = operation_kept (command.Del table key) a allowed did
-    command_kept (command.Next table from) a allowed did = operation_kept (command.Next table from) a allowed did
-    command_kept (command.Scan table low high) a allowed did = operation_kept (command.Scan table low high) a allowed did
-    command_kept (command.Tidy table key) a allowed did = operation_kept (command.Tidy table key) a allowed did
-    command_kept command.Durable a allowed did = unchanged v t (asked_still v t seat a did) runs
-    command_kept command.Flush a allowed did = absurd did
-    command_kept command.Checkpoint a allowed did = absurd did
+    watched_kept : Watches v seat t → Kept v t
+    watched_kept it = kept v t seat runs (record { own = λ active. absurd (it.inactive active); others = it.others; opening = it.opening })
+
+    command_kept : (c : Command) (a : Answer) → refusal_of (phase_at v seat) c ≡ None → HasNoSnapshot (phase_at v seat) → DidCommand v seat c a t → Kept v t
+    command_kept command.Begin a allowed plain did = begun_kept a did
+    command_kept command.Safe a allowed plain did = watched_kept (asked_snapshot v t seat a (safe_rests (phase_at v seat) allowed) did)
+    command_kept command.Seal a allowed plain did = sealed_kept a did
+    command_kept command.Settle a allowed plain did = kept v t seat runs (decided_turns v t seat a did)
+    command_kept command.Commit a allowed plain did = kept v t seat runs (committed_turns v t seat a did)
+    command_kept command.Abort a allowed plain did = aborted_kept a did
+    command_kept (command.Get table key) a allowed plain did = operation_kept (command.Get table key) a (active_where NeedsReader (phase_at v seat) tt plain allowed) did
+    command_kept (command.Put table key value) a allowed plain did = operation_kept (command.Put table key value) a (active_where NeedsWriter (phase_at v seat) tt plain allowed) did
+    command_kept (command.Del table key) a allowed plain did = operation_kept (command.Del table key) a (active_where NeedsWriter (phase_at v seat) tt plain allowed) did
+    command_kept (command.Next table from) a allowed plain did = operation_kept (command.Next table from) a (active_where NeedsReader (phase_at v seat) tt plain allowed) did
+    command_kept (command.Scan table low high) a allowed plain did = operation_kept (command.Scan table low high) a (active_where NeedsReader (phase_at v seat) tt plain allowed) did
+    command_kept (command.Tidy table key) a allowed plain did = operation_kept (command.Tidy table key) a (active_where NeedsWriter (phase_at v seat) tt plain allowed) did
+    command_kept command.Durable a allowed plain did = unchanged v t (asked_still v t seat a did) runs
+    command_kept command.Flush a allowed plain did = absurd did
+    command_kept command.Checkpoint a allowed plain did = absurd did
 
     asked_kept : (c : Command) (a : Answer) (refusal : Option Answer) → refusal_of (phase_at v seat) c ≡ refusal → DidAsked refusal v seat c a t → Kept v t
     asked_kept c a (Some other) is did = unchanged v t did runs
-    asked_kept c a None is did = command_kept c a is did
+    asked_kept c a None is did = in_phase (Kept v t) v t seat c a (λ plain did. command_kept c a is plain did) (λ rests did. watched_kept (watched v t seat c a rests did)) did
 
   closed_kept : (phase : Phase) (a : Answer) → DidClose phase v seat a t → Kept v t
   closed_kept Idle a did = absurd did
   closed_kept Active a did = kept v t seat runs (done_turns v t seat (work_at v seat) world.aborts did)
   closed_kept Sealed a did = kept v t seat runs (decided_turns v t seat a did)
-  closed_kept Pending a did = absurd did
-  closed_kept Safe a did = absurd did
+  closed_kept Pending a did = kept v t seat runs (done_turns v t seat (work_at v seat) world.aborts did)
+  closed_kept Safe a did = kept v t seat runs (done_turns v t seat (work_at v seat) world.aborts did)
 
 -- LINES OF THE LOG. They leave the sessions.
 flush_keeps : (v t : View) → AreRunsNow v → DidFlush v t → Kept v t

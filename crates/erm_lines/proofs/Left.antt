@@ -9,10 +9,11 @@ use Rattle.erm_script.specs.declared.script.Command.TheVariants as command
 use Rattle.erm_world.specs.Calls.{DidSeal}
 use Rattle.erm_world.specs.Face.{Goes}
 use Rattle.erm_world.specs.World.{View, phase_at}
-use Rattle.erm_good_report.specs.Phases.{refusal_of}
+use Rattle.erm_good_report.specs.Phases.{HasNoSnapshot, NeedsReader, NeedsWriter, refusal_of}
 use Rattle.erm_lines.specs.Answers.{DidAsked, DidClose, DidCommand, DidCommit, DidDecide, DidOperation}
 use Rattle.erm_lines.specs.Laws.{ClosesLeaveTheLog, LinesLeaveTheLog}
 use Rattle.erm_lines.proofs.Moved.{active_where, asked_still}
+use Rattle.erm_lines.proofs.Watched.{Watches, asked_snapshot, in_phase, safe_rests, watched}
 use Rattle.erm_lines.proofs.Receipts.{operated_goes}
 
 abbrev Leaves : View → View → Type 0
@@ -47,31 +48,35 @@ module _ (v t : View) (seat : ℕ) where
   operated : (c : Command) (a : Answer) → phase_at v seat ≡ Active → DidOperation v seat c a t → Leaves v t
   operated c a active did = let goes : Goes v seat t = operated_goes v t seat c a active did in (goes.flushed, goes.pinned)
 
-  commanded : (c : Command) (a : Answer) → refusal_of (phase_at v seat) c ≡ None → DidCommand v seat c a t → Leaves v t
-  commanded command.Begin a allowed did = began a did
-  commanded (command.Get table key) a allowed did = operated (command.Get table key) a (active_where (phase_at v seat) allowed) did
-  commanded (command.Put table key value) a allowed did = operated (command.Put table key value) a (active_where (phase_at v seat) allowed) did
-  commanded (command.Del table key) a allowed did = operated (command.Del table key) a (active_where (phase_at v seat) allowed) did
-  commanded (command.Next table from) a allowed did = operated (command.Next table from) a (active_where (phase_at v seat) allowed) did
-  commanded (command.Scan table low high) a allowed did = operated (command.Scan table low high) a (active_where (phase_at v seat) allowed) did
-  commanded (command.Tidy table key) a allowed did = operated (command.Tidy table key) a (active_where (phase_at v seat) allowed) did
-  commanded command.Seal (answer.Sealed stamp) allowed did = sealed v t seat stamp did
-  commanded command.Settle a allowed did = decided v t seat a did
-  commanded command.Commit a allowed did = committed v t seat a did
-  commanded command.Abort answer.Aborted allowed did = (did.flushed, did.pinned)
-  commanded command.Durable a allowed did = unchanged v t (asked_still v t seat a did)
-  commanded c a allowed did = absurd did
+  left_so : Watches v seat t → Leaves v t
+  left_so it = (it.flushed, it.pinned)
+
+  commanded : (c : Command) (a : Answer) → refusal_of (phase_at v seat) c ≡ None → HasNoSnapshot (phase_at v seat) → DidCommand v seat c a t → Leaves v t
+  commanded command.Begin a allowed plain did = began a did
+  commanded command.Safe a allowed plain did = left_so (asked_snapshot v t seat a (safe_rests (phase_at v seat) allowed) did)
+  commanded (command.Get table key) a allowed plain did = operated (command.Get table key) a (active_where NeedsReader (phase_at v seat) tt plain allowed) did
+  commanded (command.Put table key value) a allowed plain did = operated (command.Put table key value) a (active_where NeedsWriter (phase_at v seat) tt plain allowed) did
+  commanded (command.Del table key) a allowed plain did = operated (command.Del table key) a (active_where NeedsWriter (phase_at v seat) tt plain allowed) did
+  commanded (command.Next table from) a allowed plain did = operated (command.Next table from) a (active_where NeedsReader (phase_at v seat) tt plain allowed) did
+  commanded (command.Scan table low high) a allowed plain did = operated (command.Scan table low high) a (active_where NeedsReader (phase_at v seat) tt plain allowed) did
+  commanded (command.Tidy table key) a allowed plain did = operated (command.Tidy table key) a (active_where NeedsWriter (phase_at v seat) tt plain allowed) did
+  commanded command.Seal (answer.Sealed stamp) allowed plain did = sealed v t seat stamp did
+  commanded command.Settle a allowed plain did = decided v t seat a did
+  commanded command.Commit a allowed plain did = committed v t seat a did
+  commanded command.Abort answer.Aborted allowed plain did = (did.flushed, did.pinned)
+  commanded command.Durable a allowed plain did = unchanged v t (asked_still v t seat a did)
+  commanded c a allowed plain did = absurd did
 
   asked : (c : Command) (a : Answer) (refusal : Option Answer) → refusal_of (phase_at v seat) c ≡ refusal → DidAsked refusal v seat c a t → Leaves v t
   asked c a (Some r) is same = unchanged v t same
-  asked c a None is did = commanded c a is did
+  asked c a None is did = in_phase (Leaves v t) v t seat c a (λ plain did. commanded c a is plain did) (λ rests did. left_so (watched v t seat c a rests did)) did
 
   closed : (phase : Phase) (a : Answer) → DidClose phase v seat a t → Leaves v t
   closed Idle a did = absurd did
   closed Active a did = (did.flushed, did.pinned)
   closed Sealed a did = decided v t seat a did
-  closed Pending a did = absurd did
-  closed Safe a did = absurd did
+  closed Pending a did = (did.flushed, did.pinned)
+  closed Safe a did = (did.flushed, did.pinned)
 
 pub lines_leave : LinesLeaveTheLog
 lines_leave v t l a did = asked v t l.session l.command a (refusal_of (phase_at v l.session) l.command) refl did.did

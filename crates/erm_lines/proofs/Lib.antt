@@ -8,4 +8,6 @@ pub mod Moved
 pub mod Receipts
 pub mod Refused
 pub mod Scanning
+pub mod Sighted
 pub mod Tidied
+pub mod Watched

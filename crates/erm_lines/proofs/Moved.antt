@@ -8,8 +8,8 @@ use Rattle.erm_script.specs.declared.script.Command.{Command}
 use Rattle.erm_script.specs.declared.script.Command.TheVariants as command
 use Rattle.erm_script.specs.declared.script.ScriptLine.{ScriptLine}
 use Rattle.erm_world.specs.World.{View, phase_at}
-use Rattle.erm_good_report.specs.Phases.{IsAnswerTo, refusal_for, refusal_of}
-use Rattle.erm_lines.specs.Answers.{DidAskDurable, DidAsked, DidLine}
+use Rattle.erm_good_report.specs.Phases.{HasNoSnapshot, IsAnswerTo, Need, NeedsAny, NeedsReader, NeedsWriter, refusal_for, refusal_of}
+use Rattle.erm_lines.specs.Answers.{DidAskDurable, DidAsked, DidIn, DidLine}
 use Rattle.erm_lines.specs.Executions.{DidFlush, DidLog, DidLogLine, DidMove, Move, move_as, move_of, said_in}
 
 -- it was run as one of these
@@ -21,6 +21,21 @@ moved v l a u did = by l.command did
     by command.Checkpoint is = inr is
     by c is = inl is
 
+-- in no phase a session runs a line of the log
+no_flush : (p : Phase) (v : View) (seat : ℕ) (a : Answer) (u : View) → DidIn p v seat command.Flush a u → ⊥
+no_flush Idle v seat a u did = did
+no_flush Active v seat a u did = did
+no_flush Sealed v seat a u did = did
+no_flush Pending v seat a u did = did
+no_flush Safe v seat a u did = did
+
+no_checkpoint : (p : Phase) (v : View) (seat : ℕ) (a : Answer) (u : View) → DidIn p v seat command.Checkpoint a u → ⊥
+no_checkpoint Idle v seat a u did = did
+no_checkpoint Active v seat a u did = did
+no_checkpoint Sealed v seat a u did = did
+no_checkpoint Pending v seat a u did = did
+no_checkpoint Safe v seat a u did = did
+
 -- a line of a session is run as its move
 pub line_moved : (v : View) (l : ScriptLine) (a : Answer) (u : View) → DidLine v l a u → DidMove v (move_of l a) u
 line_moved v l a u did = by l.command refl
@@ -29,8 +44,8 @@ line_moved v l a u did = by l.command refl
     asked c is = subst (λ (d : Command). DidAsked (refusal_of (phase_at v l.session) d) v l.session d a u) (sym is) did.did
 
     by : (c : Command) → c ≡ l.command → DidMove v (move_as c l a) u
-    by command.Flush is = absurd (asked command.Flush is)
-    by command.Checkpoint is = absurd (asked command.Checkpoint is)
+    by command.Flush is = absurd (no_flush (phase_at v l.session) v l.session a u (asked command.Flush is))
+    by command.Checkpoint is = absurd (no_checkpoint (phase_at v l.session) v l.session a u (asked command.Checkpoint is))
     by c is = did
 
 -- it says what was asked and answered
@@ -67,13 +82,31 @@ logged_fits v t c a did = absurd did
 pub log_of_none : (v t : View) (l : ScriptLine) (a : Answer) (seat : ℕ) → DidLogLine v l a t → 0 < seat → l.session ≢ seat
 log_of_none v t l a seat did above same = omega (arith, did.session, above, same)
 
--- a phase that refuses no command that asks for an active session is that
-pub active_where : (phase : Phase) → refusal_for (Some Active) phase ≡ None → phase ≡ Active
-active_where Idle is = cc
-active_where Active is = refl
-active_where Sealed is = cc
-active_where Pending is = cc
-active_where Safe is = cc
+-- what an active session has, besides others
+abbrev pub IsOfActive : Need → Type 0
+IsOfActive NeedsReader = Unit {0}
+IsOfActive NeedsWriter = Unit {0}
+IsOfActive NeedsAny = Unit {0}
+IsOfActive need = ⊥
+
+-- a phase without a snapshot that refuses nothing that needs this is that of an active session
+pub active_where : (need : Need) (phase : Phase) → IsOfActive need → HasNoSnapshot phase → refusal_for (Some need) phase ≡ None → phase ≡ Active
+active_where NeedsReader Idle of plain free = absurd (cc)
+active_where NeedsReader Active of plain free = refl
+active_where NeedsReader Sealed of plain free = absurd (cc)
+active_where NeedsReader Pending of plain free = absurd plain
+active_where NeedsReader Safe of plain free = absurd plain
+active_where NeedsWriter Idle of plain free = absurd (cc)
+active_where NeedsWriter Active of plain free = refl
+active_where NeedsWriter Sealed of plain free = absurd (cc)
+active_where NeedsWriter Pending of plain free = absurd plain
+active_where NeedsWriter Safe of plain free = absurd plain
+active_where NeedsAny Idle of plain free = absurd (cc)
+active_where NeedsAny Active of plain free = refl
+active_where NeedsAny Sealed of plain free = absurd (cc)
+active_where NeedsAny Pending of plain free = absurd plain
+active_where NeedsAny Safe of plain free = absurd plain
+active_where need phase of plain free = absurd of
 
 -- the question whether a commit is on the disk changes nothing
 pub asked_still : (v t : View) (seat : ℕ) (a : Answer) → DidAskDurable v seat a t → t ≡ v

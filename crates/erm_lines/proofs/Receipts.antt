@@ -1,5 +1,5 @@
 -- The receipt of a session's last commit, after each answer.
-use Rattle.std.proofs.Common.{◌≡◌, ◌≢◌, ℕ, zero, suc, ◌+◌, List, [], ◌∷◌, ◌++◌, append_assoc, Option, Some, None, Result, Ok, Err, IfOk, OnOk, refl, sym, ap, ◌∙◌, subst, ⊎_elim}
+use Rattle.std.proofs.Common.{◌≡◌, ◌≢◌, ℕ, zero, suc, ◌+◌, List, [], ◌∷◌, ◌++◌, append_assoc, Option, Some, None, Result, Ok, Err, IfOk, OnOk, inl, inr, refl, sym, ap, ◌∙◌, subst, ⊎_elim}
 use Rattle.erm_model.specs.declared.outcome.Outcome.TheVariants as outcome
 use Rattle.erm_model.specs.declared.outcome.Phase.{Phase}
 use Rattle.erm_model.specs.declared.outcome.Phase.TheVariants.{Active, Idle, Sealed, Pending, Safe}
@@ -21,11 +21,12 @@ use Rattle.erm_world.specs.World as world
 use Rattle.erm_world.specs.Onward.{goes_itself, goes_then}
 use Rattle.erm_world.proofs.Lists.{∈-parts}
 use Rattle.erm_world.proofs.Txns.{stopped, went}
-use Rattle.erm_good_report.specs.Phases.{Closes, HasNoSnapshot, phase_asked}
-use Rattle.erm_lines.specs.Answers.{DidClose, DidCommand, DidOperation, IsCommitted, IsReceiptOf, KeepsReceipt, WasRefusedAs}
+use Rattle.erm_good_report.specs.Phases.{Closes, HasNoSnapshot, NeedsReader, NeedsWriter, refusal_of}
+use Rattle.erm_lines.specs.Answers.{DidClose, DidCommand, DidOfSnapshot, DidOperation, IsCommitted, IsReceiptOf, KeepsReceipt, WasRefusedAs}
 use Rattle.erm_lines.specs.Executions.{DidEnd}
 use Rattle.erm_lines.specs.Operations.{Ran}
-use Rattle.erm_lines.proofs.Moved.{asked_still}
+use Rattle.erm_lines.proofs.Moved.{active_where, asked_still}
+use Rattle.erm_lines.proofs.Watched.{Watches, asked_snapshot, safe_rests, watched}
 
 only_one : (f g : Finished) → f ∈ (g ∷ []) → g ≡ f
 only_one f g (zero, at) = cc
@@ -128,39 +129,56 @@ grown_keeps v t seat r (face.ends w u begins over stands more) = done_keeps v t 
 pub operation_keeps : (v t : View) (seat : ℕ) (r : Option Receipt) (c : Command) (a : Answer) → phase_at v seat ≡ Active → DidOperation v seat c a t → KeepsReceipt v seat r t r
 operation_keeps v t seat r c a active did = grown_keeps v t seat r (operated_goes v t seat c a active did).own
 
+-- a line of a snapshot
+watched_keeps : (v t : View) (seat : ℕ) (r : Option Receipt) → Watches v seat t → KeepsReceipt v seat r t r
+watched_keeps v t seat r it = elim it.over as (λ _. KeepsReceipt v seat r t r) [
+  | inl same ↦ same_keeps v t seat r same
+  | inr more ↦ done_keeps v t seat r more.0 world.aborts (λ never. never) more.1
+]
+
+pub snapshot_keeps : (v t : View) (seat : ℕ) (r : Option Receipt) (c : Command) (a : Answer) → (phase_at v seat ≡ Active → ⊥) → DidOfSnapshot v seat c a t → KeepsReceipt v seat r t r
+snapshot_keeps v t seat r c a rests did = watched_keeps v t seat r (watched v t seat c a rests did)
+
+pub safe_keeps : (v t : View) (seat : ℕ) (r : Option Receipt) (a : Answer) → (phase_at v seat ≡ Active → ⊥) → DidCommand v seat command.Safe a t → KeepsReceipt v seat r t r
+safe_keeps v t seat r a rests did = watched_keeps v t seat r (asked_snapshot v t seat a rests did)
+
 -- each line that decides nothing
-pub line_keeps : (v t : View) (seat : ℕ) (r : Option Receipt) (c : Command) (a : Answer) → phase_asked c ≡ Some (phase_at v seat) → c ≢ command.Settle → c ≢ command.Commit → DidCommand v seat c a t
-    → KeepsReceipt v seat r t r
-line_keeps v t seat r command.Begin a asks not_settle not_commit did = begin_keeps v t seat r a did
-line_keeps v t seat r command.Seal a asks not_settle not_commit did = sealed_keeps v t seat r a did
-line_keeps v t seat r command.Abort a asks not_settle not_commit did = abort_keeps v t seat r a did
-line_keeps v t seat r command.Settle a asks not_settle not_commit did = absurd (not_settle refl)
-line_keeps v t seat r command.Commit a asks not_settle not_commit did = absurd (not_commit refl)
-line_keeps v t seat r (command.Get table key) a asks not_settle not_commit did = operation_keeps v t seat r (command.Get table key) a (cc) did
-line_keeps v t seat r (command.Put table key value) a asks not_settle not_commit did = operation_keeps v t seat r (command.Put table key value) a (cc) did
-line_keeps v t seat r (command.Del table key) a asks not_settle not_commit did = operation_keeps v t seat r (command.Del table key) a (cc) did
-line_keeps v t seat r (command.Next table from) a asks not_settle not_commit did = operation_keeps v t seat r (command.Next table from) a (cc) did
-line_keeps v t seat r (command.Scan table low high) a asks not_settle not_commit did = operation_keeps v t seat r (command.Scan table low high) a (cc) did
-line_keeps v t seat r (command.Tidy table key) a asks not_settle not_commit did = operation_keeps v t seat r (command.Tidy table key) a (cc) did
-line_keeps v t seat r command.Durable a asks not_settle not_commit did = still_keeps v t seat r (asked_still v t seat a did)
-line_keeps v t seat r c a asks not_settle not_commit did = absurd did
+pub line_keeps : (v t : View) (seat : ℕ) (r : Option Receipt) (c : Command) (a : Answer) → refusal_of (phase_at v seat) c ≡ None → HasNoSnapshot (phase_at v seat) → c ≢ command.Settle → c ≢ command.Commit
+    → DidCommand v seat c a t → KeepsReceipt v seat r t r
+line_keeps v t seat r command.Begin a free plain not_settle not_commit did = begin_keeps v t seat r a did
+line_keeps v t seat r command.Safe a free plain not_settle not_commit did = safe_keeps v t seat r a (safe_rests (phase_at v seat) free) did
+line_keeps v t seat r command.Seal a free plain not_settle not_commit did = sealed_keeps v t seat r a did
+line_keeps v t seat r command.Abort a free plain not_settle not_commit did = abort_keeps v t seat r a did
+line_keeps v t seat r command.Settle a free plain not_settle not_commit did = absurd (not_settle refl)
+line_keeps v t seat r command.Commit a free plain not_settle not_commit did = absurd (not_commit refl)
+line_keeps v t seat r (command.Get table key) a free plain not_settle not_commit did = operation_keeps v t seat r (command.Get table key) a (active_where NeedsReader (phase_at v seat) tt plain free) did
+line_keeps v t seat r (command.Put table key value) a free plain not_settle not_commit did = operation_keeps v t seat r (command.Put table key value) a (active_where NeedsWriter (phase_at v seat) tt plain free) did
+line_keeps v t seat r (command.Del table key) a free plain not_settle not_commit did = operation_keeps v t seat r (command.Del table key) a (active_where NeedsWriter (phase_at v seat) tt plain free) did
+line_keeps v t seat r (command.Next table from) a free plain not_settle not_commit did = operation_keeps v t seat r (command.Next table from) a (active_where NeedsReader (phase_at v seat) tt plain free) did
+line_keeps v t seat r (command.Scan table low high) a free plain not_settle not_commit did = operation_keeps v t seat r (command.Scan table low high) a (active_where NeedsReader (phase_at v seat) tt plain free) did
+line_keeps v t seat r (command.Tidy table key) a free plain not_settle not_commit did = operation_keeps v t seat r (command.Tidy table key) a (active_where NeedsWriter (phase_at v seat) tt plain free) did
+line_keeps v t seat r command.Durable a free plain not_settle not_commit did = still_keeps v t seat r (asked_still v t seat a did)
+line_keeps v t seat r c a free plain not_settle not_commit did = absurd did
 
 -- of an answer that was given
 pub if_answered : {E Q : Type 0} (P : Answer → Type 0) (result : Result Answer E) → ((a : Answer) → P a → Q) → IfOk result P → OnOk result Q
 if_answered P (Ok a) gives is = gives a is
 if_answered P (Err e) gives is = tt
 
--- an active session's transaction was given up, which closes the session
-pub aborted_ends : (v t : View) (seat : ℕ) → IsSession v seat → (phase_at v seat ≡ Idle → ⊥) → HasNoSnapshot (phase_at v seat) → (phase_at v seat ≡ Sealed → ⊥) → DidAbort v seat t → DidEnd v seat answer.Aborted t
-aborted_ends v t seat session busy plain unsealed did = by (phase_at v seat) refl
+-- a transaction or a snapshot was given up, which closes the session
+pub aborted_ends : (v t : View) (seat : ℕ) → IsSession v seat → (phase_at v seat ≡ Idle → ⊥) → (phase_at v seat ≡ Sealed → ⊥) → DidAbort v seat t → DidEnd v seat answer.Aborted t
+aborted_ends v t seat session busy unsealed did = by (phase_at v seat) refl
   where
+    closed : (phase : Phase) → phase_at v seat ≡ phase → Closes phase answer.Aborted → DidClose phase v seat answer.Aborted t → DidEnd v seat answer.Aborted t
+    closed phase is fits done = record {
+      session = session;
+      fits = subst (λ (p : Phase). Closes p answer.Aborted) (sym is) fits;
+      did = subst (λ (p : Phase). DidClose p v seat answer.Aborted t) (sym is) done;
+    }
+
     by : (phase : Phase) → phase_at v seat ≡ phase → DidEnd v seat answer.Aborted t
     by Idle is = absurd (busy is)
     by Sealed is = absurd (unsealed is)
-    by Pending is = absurd (subst HasNoSnapshot is plain)
-    by Safe is = absurd (subst HasNoSnapshot is plain)
-    by Active is = record {
-      session = session;
-      fits = subst (λ (p : Phase). Closes p answer.Aborted) (sym is) tt;
-      did = subst (λ (p : Phase). DidClose p v seat answer.Aborted t) (sym is) did;
-    }
+    by Active is = closed Active is tt did
+    by Pending is = closed Pending is tt did
+    by Safe is = closed Safe is tt did

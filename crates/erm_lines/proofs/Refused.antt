@@ -10,7 +10,7 @@ use Rattle.erm_script.specs.declared.script.Command.{Command}
 use Rattle.erm_script.specs.declared.script.Command.TheVariants as command
 use Rattle.erm_tree.specs.Change.{StopsChange, StopsPut}
 use Rattle.erm_world.specs.World.{View}
-use Rattle.erm_good_report.specs.Phases.{IsAnswerTo}
+use Rattle.erm_good_report.specs.Phases.{IsAnswerTo, IsOutcome}
 use Rattle.erm_lines.specs.Answers.{DidCommand, DidOperation, stop_told}
 use Rattle.erm_lines.specs.Operations.{AsksOf, FrontOf, WereCutOff}
 use Rattle.erm_lines.specs.Whole.{WasAnswered}
@@ -88,6 +88,14 @@ tidy_fits table key =
 pub put_fits : (table key : ℕ) (value : List ℕ) (stop : RowStop) → StopsPut stop → IfSome (stop_told stop) (λ a. IsAnswerTo (command.Put table key value) a)
 put_fits table key value =
     of_put (λ a. IsAnswerTo (command.Put table key value) a) (λ seat seen. tt, tt, λ succ pred. tt) (λ seat number. tt, λ stamp. tt, tt, λ drawn. tt) (λ drawn. tt)
+
+-- an outcome answers a commit
+pub commit_fits : (a : Answer) → IsOutcome a → IsAnswerTo command.Commit a
+commit_fits (answer.Committed stamp succ pred) is = tt
+commit_fits (answer.Excluded stamp succ pred) is = tt
+commit_fits (answer.WaitSeat seat seen) is = tt
+commit_fits (answer.WaitRing flushed) is = tt
+commit_fits a is = absurd is
 
 module _ (v : View) (seat : ℕ) (c : Command) (t : View) where
   refused_did : (stop : RowStop) → WereCutOff v seat (FrontOf c) (AsksOf c) stop t → IfSome (stop_told stop) (λ a. DidOperation v seat c a t)

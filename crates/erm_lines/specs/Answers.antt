@@ -14,12 +14,15 @@ use Rattle.erm_script.specs.declared.script.Command.{Command}
 use Rattle.erm_script.specs.declared.script.Command.TheVariants as command
 use Rattle.erm_script.specs.declared.script.ScriptLine.{ScriptLine}
 use Rattle.erm_world.specs.declared.stops.BeginStop.TheVariants as begin
+use Rattle.erm_world.specs.declared.stops.SafeStop.TheVariants as safe
 use Rattle.erm_world.specs.declared.stops.Wait.TheVariants as wait
 use Rattle.erm_world.specs.Calls.{DidAbort, DidBegin, DidNotSettle, DidSeal, DidSettle, MayNotBegin}
-use Rattle.erm_world.specs.World.{Fate, Finished, IsSession, View, phase_at, size_of}
+use Rattle.erm_world.specs.Safe.{DidBeginSafe, DidNotSafe, DidSafe}
+use Rattle.erm_world.specs.World.{Fate, Finished, IsSession, View, phase_at, size_of, work_at}
 use Rattle.erm_world.specs.World as world
 use Rattle.erm_good_report.specs.Phases.{FitsPhase, refusal_of}
 use Rattle.erm_good_report.specs.Transactions.{op_of}
+use Rattle.erm_lines.specs.Looks.{DidLook}
 use Rattle.erm_lines.specs.Operations.{AsksOf, DidCalls, FrontOf, WereCutOff, WholeOf}
 
 -- what a refusal is answered as; one for want of memory isn't answered
@@ -94,11 +97,32 @@ DidAskDurable v seat (answer.NotFlushed flushed) t =
 DidAskDurable v seat answer.NoReceipt t = (t ≡ v) × ((f : Finished) → f ∈ (v.session seat).over → IsCommitted f.fate → ⊥)
 DidAskDurable v seat a t = ⊥
 
--- the session's phase allowed the command, and it was answered so
+-- the session's snapshot, which isn't known to be safe yet, was asked whether it is: the answer that it is tells its begin stamp
+abbrev pub DidAskSafe : View → ℕ → Answer → View → Type 0
+DidAskSafe v seat (answer.Safe stamp) t = DidSafe v seat t × (stamp ≡ (work_at v seat).begin)
+DidAskSafe v seat (answer.WaitSeat other seen) t = DidNotSafe v seat (safe.NotYet other seen) t
+DidAskSafe v seat (answer.Unsafe other stamp) t = DidNotSafe v seat (safe.Unsafe other stamp) t
+DidAskSafe v seat a t = ⊥
+
+-- a snapshot was begun, and then asked so
+pub record DidBeginAndAsk (v : View) (seat : ℕ) (a : Answer) (t : View) : Type 0 where
+  pub begin : ℕ
+  pub between : View
+  pub began : DidBeginSafe v seat begin between
+  pub asked : DidAskSafe between seat a t
+
+-- an idle session was asked for a safe snapshot
+abbrev pub DidAskSnapshot : View → ℕ → Answer → View → Type 0
+DidAskSnapshot v seat (answer.LogEnd tail) t = MayNotBegin v seat (begin.LogEnd tail) t
+DidAskSnapshot v seat answer.NumbersEnd t = MayNotBegin v seat begin.NumbersEnd t
+DidAskSnapshot v seat a t = DidBeginAndAsk v seat a t
+
+-- the session's phase, in which it has no snapshot, allowed the command, and it was answered so
 abbrev pub DidCommand : View → ℕ → Command → Answer → View → Type 0
 DidCommand v seat command.Begin (answer.Began stamp) t = DidBegin v seat stamp t
 DidCommand v seat command.Begin (answer.LogEnd tail) t = MayNotBegin v seat (begin.LogEnd tail) t
 DidCommand v seat command.Begin answer.NumbersEnd t = MayNotBegin v seat begin.NumbersEnd t
+DidCommand v seat command.Safe a t = DidAskSnapshot v seat a t
 DidCommand v seat command.Seal (answer.Sealed stamp) t = DidSeal v seat stamp t
 DidCommand v seat command.Settle a t = DidDecide v seat a t
 DidCommand v seat command.Commit a t = DidCommit v seat a t
@@ -112,10 +136,29 @@ DidCommand v seat (command.Scan table low high) a t = DidOperation v seat (comma
 DidCommand v seat (command.Tidy table key) a t = DidOperation v seat (command.Tidy table key) a t
 DidCommand v seat c a t = ⊥
 
+-- the session has a snapshot, and its phase allowed the command, which was answered so
+abbrev pub DidOfSnapshot : View → ℕ → Command → Answer → View → Type 0
+DidOfSnapshot v seat command.Safe a t = DidAskSafe v seat a t
+DidOfSnapshot v seat (command.Get table key) (answer.Replied r) t = DidLook v seat (command.Get table key) r t
+DidOfSnapshot v seat (command.Next table from) (answer.Replied r) t = DidLook v seat (command.Next table from) r t
+DidOfSnapshot v seat (command.Scan table low high) (answer.Replied r) t = DidLook v seat (command.Scan table low high) r t
+DidOfSnapshot v seat command.Commit answer.Ended t = DidAbort v seat t
+DidOfSnapshot v seat command.Abort answer.Aborted t = DidAbort v seat t
+DidOfSnapshot v seat command.Durable a t = DidAskDurable v seat a t
+DidOfSnapshot v seat c a t = ⊥
+
+-- in this phase, which allowed it
+abbrev pub DidIn : Phase → View → ℕ → Command → Answer → View → Type 0
+DidIn Idle v seat c a t = DidCommand v seat c a t
+DidIn Active v seat c a t = DidCommand v seat c a t
+DidIn Sealed v seat c a t = DidCommand v seat c a t
+DidIn Pending v seat c a t = DidOfSnapshot v seat c a t
+DidIn Safe v seat c a t = DidOfSnapshot v seat c a t
+
 -- a line that the phase refuses changes nothing
 abbrev pub DidAsked : Option Answer → View → ℕ → Command → Answer → View → Type 0
 DidAsked (Some refusal) v seat c a t = t ≡ v
-DidAsked None v seat c a t = DidCommand v seat c a t
+DidAsked None v seat c a t = DidIn (phase_at v seat) v seat c a t
 
 -- a line of a session was run: its answer fits the session's phase, and says what it did
 pub record DidLine (v : View) (l : ScriptLine) (a : Answer) (t : View) : Type 0 where
@@ -123,10 +166,10 @@ pub record DidLine (v : View) (l : ScriptLine) (a : Answer) (t : View) : Type 0 
   pub fits : FitsPhase (phase_at v l.session) l.command a
   pub did : DidAsked (refusal_of (phase_at v l.session) l.command) v l.session l.command a t
 
--- a session that isn't idle was closed: aborted where it was active, decided where it was sealed
+-- a session that isn't idle was closed: decided where it was sealed, else aborted, also a snapshot
 abbrev pub DidClose : Phase → View → ℕ → Answer → View → Type 0
 DidClose Idle v seat a t = ⊥
 DidClose Active v seat a t = DidAbort v seat t
 DidClose Sealed v seat a t = DidDecide v seat a t
-DidClose Pending v seat a t = ⊥
-DidClose Safe v seat a t = ⊥
+DidClose Pending v seat a t = DidAbort v seat t
+DidClose Safe v seat a t = DidAbort v seat t

@@ -1,5 +1,6 @@
 -- What executions owe: the laws, as statements.
 use Rattle.std.specs.Prelude.{◌≡◌, ℕ, ◌≤◌, List, []}
+use Rattle.erm_model.specs.declared.limits.TheConstants.{SESSIONS}
 use Rattle.erm_model.specs.Committed.{HasSnapshotReplies, RunsInOrder, Committed, rank_of, state_after}
 use Rattle.erm_model.specs.Member.{◌∈◌}
 use Rattle.erm_model.specs.SerialOrder.{IsSerialOrder}
@@ -8,10 +9,11 @@ use Rattle.erm_report.specs.declared.answer.Answer.TheVariants as answer
 use Rattle.erm_script.specs.declared.script.ScriptLine.{ScriptLine}
 use Rattle.erm_world.specs.World.{IsSession, View, phase_at}
 use Rattle.erm_good_report.specs.Causes.{HasCauseOf}
-use Rattle.erm_good_report.specs.GoodReport.{HaveTightWindows, places_of}
+use Rattle.erm_good_report.specs.GoodReport.{HaveTightWindows, places_of, serial_of}
 use Rattle.erm_good_report.specs.Opening.{Opening, InTurn}
 use Rattle.erm_good_report.specs.Phases.{Closed, ClosesAgree, PhasesAgree, phase_of}
-use Rattle.erm_good_report.specs.Refusals.{HasCauses}
+use Rattle.erm_good_report.specs.Refusals.{HasCauses, moment_at}
+use Rattle.erm_good_report.specs.Snapshots.{SnapshotsAgree}
 use Rattle.erm_good_report.specs.Stamps.{StampsAgree}
 use Rattle.erm_good_report.specs.Transactions.{Transaction, history_of, progress_of, said_of, steps_of, transactions_of}
 use Rattle.erm_lines.specs.Answers.{DidLine}
@@ -87,6 +89,22 @@ RunsHaveSnapshots = OfRuns (λ opening script answers closed told. (t : Transact
 
 abbrev pub PartsHaveSnapshots : Type 0
 PartsHaveSnapshots = OfParts (λ opening script answers closed told. (t : Transaction) → t ∈ told → HasSnapshotReplies (history_of told) opening.map t.begin (steps_of t))
+
+-- what runs owe of snapshots that only read
+abbrev pub RunsHaveSafeSnapshots : Type 0
+RunsHaveSafeSnapshots = OfRuns (λ opening script answers closed told. SnapshotsAgree (moment_at InTurn opening script answers told) opening script answers told)
+
+abbrev pub PartsHaveSafeSnapshots : Type 0
+PartsHaveSafeSnapshots = OfParts (λ opening script answers closed told. SnapshotsAgree (moment_at InTurn opening script answers told) opening script answers told)
+
+-- Run in the serial order of all, the commits told and the safe snapshots that ended give their replies, and end in the map of the commits alone:
+-- where there are no more sessions than there may be.
+abbrev pub RunsAreSerialWithSnapshots : Type 0
+RunsAreSerialWithSnapshots = (v t : View) (script : List ScriptLine) (answers : List Answer) (run : IsRun v script answers t) (closed : List Closed) (opening : Opening)
+    → AreClosed run.closing closed → IsOpeningOf v opening → v.opening.sessions ≤ SESSIONS → (commits order : List Committed)
+    → IsSerialOrder rank_of (history_of (transactions_of v.opening.sessions (places_of script answers closed))) commits
+    → IsSerialOrder rank_of (serial_of v.opening.sessions (places_of script answers closed)) order
+    → RunsInOrder order opening.map (state_after commits opening.map)
 
 -- run in the serial order, the commits told give their replies, from the opening's map on
 abbrev pub RunsAreSerial : Type 0

@@ -1,11 +1,16 @@
 -- What the lines of a script tell of the sessions of a world, and how sessions go on.
-use Rattle.std.specs.Prelude.{◌≡◌, ℕ, ◌⊎◌, List, [], ◌∷◌, ◌++◌, Option, Some, None}
-use Rattle.erm_model.specs.Run.{Step}
+use Rattle.std.specs.Prelude.{◌≡◌, ℕ, ◌⊎◌, false, is_some, List, [], ◌∷◌, ◌++◌, Option, Some, None, IfSome}
+use Rattle.erm_model.specs.History.{HasNewestRows}
+use Rattle.erm_model.specs.Rows.{Rows}
+use Rattle.erm_model.specs.Run.{RunsOne, Step}
+use Rattle.erm_node.specs.Sound.{IsSound}
+use Rattle.erm_node.specs.TreeMap.{map_of_rows}
 use Rattle.erm_world.specs.Going.{Extends}
-use Rattle.erm_world.specs.World.{Fate, Finished, Session, Stand, Work, stamp_of}
+use Rattle.erm_world.specs.Safe.{IsSafeIn}
+use Rattle.erm_world.specs.World.{Fate, Finished, Session, Stand, View, Work, history_of, stamp_of}
 use Rattle.erm_world.specs.World as world
 use Rattle.erm_maps.specs.Runs.{IsAnswered, IsRunOf}
-use Rattle.erm_good_report.specs.Transactions.{Ending, Unfinished, Commits, Excludes, Aborts, Progress, Transaction, steps_of}
+use Rattle.erm_good_report.specs.Transactions.{Ending, Unfinished, Commits, Excludes, Aborts, Progress, Snapshot, Transaction, looks_of, steps_of}
 
 -- A transaction ended as it is told. One that was excluded before its seal is told as that, and is an aborted one of the world.
 abbrev pub EndsAs : Ending → Fate → Type 0
@@ -34,12 +39,23 @@ pub record TellsOne (seat : ℕ) (t : Transaction) (f : Finished) : Type 0 where
   pub ran : RanAs f.fate f.work (steps_of t)
   pub sealed : (stamp : ℕ) → t.sealed ≡ Some stamp → stamp_of f.fate ≡ Some stamp
 
--- those that are over, in turn
-abbrev pub TellsOver : ℕ → List Transaction → List Finished → Type 0
-TellsOver seat [] [] = Unit {0}
-TellsOver seat [] (f ∷ fs) = ⊥
-TellsOver seat (t ∷ ts) [] = ⊥
-TellsOver seat (t ∷ ts) (f ∷ fs) = TellsOne seat t f × TellsOver seat ts fs
+-- a snapshot is told with its number, and its begin stamp where one is told
+pub record TellsSnapshot (s : Snapshot) (number begin : ℕ) : Type 0 where
+  pub number_is : s.number ≡ number
+  pub begin_is : IfSome s.begin (λ stamp. stamp ≡ begin)
+
+-- one that is over: in the world it is a transaction that has done nothing, and was aborted
+pub record TellsEnded (s : Snapshot) (f : Finished) : Type 0 where
+  pub snapshot : TellsSnapshot s f.work.number f.work.begin
+  pub bare : f.work ≡ world.begun f.work.number f.work.begin
+  pub aborted : f.fate ≡ world.aborts
+
+-- What is over in the world is told, in turn, as the next transaction or as the next snapshot.
+abbrev pub TellsOver : ℕ → List Transaction → List Snapshot → List Finished → Type 0
+TellsOver seat ts ss [] = (ts ≡ []) × (ss ≡ [])
+TellsOver seat ts ss (f ∷ fs) =
+    ((t : Transaction) × (us : List Transaction) × (ts ≡ t ∷ us) × TellsOne seat t f × TellsOver seat us ss fs)
+    ⊎ ((s : Snapshot) × (rest : List Snapshot) × (ss ≡ s ∷ rest) × TellsEnded s f × TellsOver seat ts rest fs)
 
 -- one that isn't over: it isn't told to have ended, and a seal that was told is that of its commit stamp
 pub record TellsCurrent (seat : ℕ) (t : Transaction) (w : Work) : Type 0 where
@@ -49,14 +65,34 @@ pub record TellsCurrent (seat : ℕ) (t : Transaction) (w : Work) : Type 0 where
 
 abbrev pub TellsNow : ℕ → Option Transaction → Stand → Type 0
 TellsNow seat None world.idle = Unit {0}
+TellsNow seat None (world.snapshot x) = Unit {0}
 TellsNow seat (Some t) (world.active w) = TellsCurrent seat t w × (t.sealed ≡ None)
 TellsNow seat (Some t) (world.sealed w stamp) = TellsCurrent seat t w × ((t.sealed ≡ None) ⊎ (t.sealed ≡ Some stamp))
 TellsNow seat current stand = ⊥
 
--- a session's transactions are told
+-- a snapshot that isn't over: its begin stamp is told where it is known to be safe
+pub record TellsWatch (s : Snapshot) (x : world.Snapshot) : Type 0 where
+  pub snapshot : TellsSnapshot s x.number x.begin
+  pub safe : is_some s.begin ≡ x.is_safe
+  pub unfinished : s.placed ≡ false
+
+abbrev pub TellsWatched : Option Snapshot → Stand → Type 0
+TellsWatched (Some s) (world.snapshot x) = TellsWatch s x
+TellsWatched None (world.snapshot x) = ⊥
+TellsWatched (Some s) stand = ⊥
+TellsWatched None stand = Unit {0}
+
+-- a session's transactions and snapshots are told
 pub record Tells (seat : ℕ) (p : Progress) (s : Session) : Type 0 where
-  pub over : TellsOver seat p.over s.over
+  pub over : TellsOver seat p.over p.snapshots s.over
   pub now : TellsNow seat p.current s.stand
+  pub watched : TellsWatched p.snapshot s.stand
+
+-- A snapshot that was told safe: its begin stamp is safe in this world, and its replies are those on the map of the newest rows below it.
+pub record StaysSafe (v : View) (s : Snapshot) (begin : ℕ) : Type 0 where
+  pub told : s.begin ≡ Some begin
+  pub safe : IsSafeIn v begin
+  pub replies : (rows : Rows) → IsSound rows → HasNewestRows (history_of v) v.opening.rows begin rows → RunsOne (map_of_rows rows) (looks_of s)
 
 -- A transaction of a session goes on, in another state of this: it is in progress there and has grown, or is over after it had.
 abbrev pub IsLater : Work → Session → Type 0

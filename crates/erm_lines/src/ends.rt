@@ -5,7 +5,7 @@ ghost use Rattle.erm_model.specs.RowTransaction.{SameLaw};
 ghost use Rattle.erm_model.specs.Run.{Step};
 ghost use Rattle.erm_node.specs.Sound.{sound_law};
 ghost use Rattle.erm_maps.specs.Runs.{IsRunOf};
-ghost use Rattle.erm_good_report.specs.Phases.{Closes, HasNoSnapshot, IsOutcome};
+ghost use Rattle.erm_good_report.specs.Phases.{Closes, IsOutcome};
 ghost use Rattle.erm_world.specs.Calls.{DidNotSettle};
 ghost use Rattle.erm_world.specs.World.{IsSession, phase_at, work_at};
 ghost use Rattle.erm_lines.specs.Answers.{DidCommit, DidDecide, KeepsReceipt};
@@ -15,7 +15,7 @@ ghost use Rattle.erm_lines.specs.Whole.{WasAnswered};
 use erm_model::{Outcome, Phase, Receipt, Seat};
 use erm_report::Answer;
 use erm_script::Command;
-use erm_world::{BeginStop, RowWorld, Wait};
+use erm_world::{BeginStop, RowWorld, SafeWorld, Wait};
 use std::alloc::AllocError;
 
 /// Begins a transaction.
@@ -131,9 +131,9 @@ pub fn commit<W: RowWorld>(world: &mut W, seat: Seat, receipt: &mut Option<Recei
     outcome(world, seat, receipt)
 }
 
-/// Closes a session at the end: aborts its transaction where it is active, and decides it where it is sealed, or says for what it
-/// waits. Where it commits, its receipt becomes the session's last.
-pub fn close_session<W: RowWorld>(
+/// Closes a session at the end: aborts its transaction where it is active, ends its snapshot where it has one, and decides its transaction where
+/// it is sealed, or says for what it waits. Where it commits, its receipt becomes the session's last.
+pub fn close_session<W: SafeWorld>(
     world: &mut W,
     seat: Seat,
     receipt: &mut Option<Receipt>,
@@ -141,7 +141,6 @@ pub fn close_session<W: RowWorld>(
     requires stands { W.stands world.old }
     requires session { IsSession (W.view world.old) seat }
     requires open { phase_at (W.view world.old) seat ≡ Idle → ⊥ }
-    requires plain { HasNoSnapshot (phase_at (W.view world.old) seat) }
     ensures stands { W.stands world.new }
     ensures closed { IfOk result (λ a. DidEnd (W.view world.old) seat a (W.view world.new)) }
     ensures waits { IfErr result (λ wait. DidNotSettle (W.view world.old) seat wait (W.view world.new)) }
@@ -149,8 +148,12 @@ pub fn close_session<W: RowWorld>(
 {
     match world.phase(seat) {
         Phase::Sealed => decide(world, seat, receipt),
-        _ => {
+        Phase::Active => {
             world.abort(seat);
+            Ok(Answer::Aborted)
+        }
+        _ => {
+            world.end_safe(seat);
             Ok(Answer::Aborted)
         }
     }

@@ -6,9 +6,12 @@ mod durable;
 mod ends;
 mod laws;
 mod line;
+mod looks;
 mod operations;
 mod phases;
+mod safe_txn;
 mod scans;
+mod snapshots;
 mod stops;
 mod tidy;
 
@@ -17,4 +20,5 @@ pub use ends::close_session;
 pub use laws::{lines_keep_runs, lines_leave_the_log};
 pub use line::answer_line;
 pub use phases::refusal_of;
+pub use safe_txn::SafeTxn;
 pub use scans::scan;

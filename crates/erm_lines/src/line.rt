@@ -1,12 +1,12 @@
 //! One line of a session.
-ghost use Rattle.std.specs.Prelude.{◌≡◌, ◌<◌, ℕ, List, IfOk, IfSome, IsSome, OnOk, Some};
+ghost use Rattle.std.specs.Prelude.{◌≡◌, ◌<◌, ℕ, List, IfOk, IfSome, IsSome, None, OnOk};
 ghost use Rattle.erm_model.specs.declared.limits.TheConstants.{TABLES};
 ghost use Rattle.erm_model.specs.declared.outcome.Phase.TheVariants.{Active};
 ghost use Rattle.erm_model.specs.RowTransaction.{SameLaw};
 ghost use Rattle.erm_model.specs.Run.{Step};
 ghost use Rattle.erm_node.specs.Sound.{sound_law};
 ghost use Rattle.erm_maps.specs.Runs.{IsRunOf};
-ghost use Rattle.erm_good_report.specs.Phases.{phase_asked};
+ghost use Rattle.erm_good_report.specs.Phases.{HasNoSnapshot, need_of, refusal_of};
 ghost use Rattle.erm_good_report.specs.Transactions.{table_of};
 ghost use Rattle.erm_world.specs.World.{IsSession, phase_at, work_at};
 ghost use Rattle.erm_lines.specs.Answers.{DidLine, KeepsReceipt};
@@ -14,12 +14,13 @@ ghost use Rattle.erm_lines.specs.Whole.{WasAnswered};
 
 use crate::ends::{abort, begin, commit, seal, settle};
 use crate::operations::{del, get, next, put, scan};
-use crate::phases::refusal_of;
+use crate::phases::{is_snapshot, refusal_of};
+use crate::snapshots::{begin_snapshot, watch};
 use crate::tidy::tidy;
 use erm_model::{Receipt, RowRead, Seat};
 use erm_report::Answer;
 use erm_script::{Command, ScriptLine};
-use erm_world::{RowWorld, WorldTxn};
+use erm_world::{RowWorld, SafeWorld, WorldTxn};
 use std::alloc::{AllocError, Global};
 
 // Answers a command that names a table.
@@ -69,8 +70,8 @@ fn operate<W: RowWorld>(
     operate_by(alloc, &mut txn, command)
 }
 
-// Answers a command that asks for the session's phase, and keeps the receipt of the session's last commit.
-fn run<W: RowWorld>(
+// Answers a command that the phase of a session without a snapshot allows, and keeps the receipt of the session's last commit.
+fn run<W: SafeWorld>(
     alloc: Global,
     world: &mut W,
     seat: Seat,
@@ -80,7 +81,9 @@ fn run<W: RowWorld>(
     requires law { SameLaw W.law sound_law }
     requires stands { W.stands world.old }
     requires session { IsSession (W.view world.old) seat }
-    requires phase { phase_asked command.now ≡ Some (phase_at (W.view world.old) seat) }
+    requires plain { HasNoSnapshot (phase_at (W.view world.old) seat) }
+    requires free { refusal_of (phase_at (W.view world.old) seat) command.now ≡ None }
+    requires asks { IsSome (need_of command.now) }
     requires ran { phase_at (W.view world.old) seat ≡ Active → (steps : List Step) × IsRunOf (work_at (W.view world.old) seat) steps }
     requires table { IfSome (table_of command.now) (λ table. table < TABLES) }
     ensures stands { W.stands world.new }
@@ -89,6 +92,7 @@ fn run<W: RowWorld>(
 {
     match command {
         Command::Begin => begin(world, seat),
+        Command::Safe => begin_snapshot(world, seat),
         Command::Seal => Ok(seal(world, seat)),
         Command::Settle => Ok(settle(world, seat, receipt)),
         Command::Commit => Ok(commit(world, seat, receipt)),
@@ -98,9 +102,9 @@ fn run<W: RowWorld>(
 }
 
 /// Runs one line of a session, and gives its answer. Where its session has a transaction in progress, this is the run of some
-/// operations. The line asks for a phase: it isn't one of `durable`, `flush` and `checkpoint`. It keeps the receipt of the session's
+/// operations. The line needs something of its session: it isn't one of `durable`, `flush` and `checkpoint`. It keeps the receipt of the session's
 /// last commit, which is `None` where the session has committed nothing. `Err` where memory ran out.
-pub fn answer_line<W: RowWorld>(
+pub fn answer_line<W: SafeWorld>(
     alloc: Global,
     world: &mut W,
     line: &ScriptLine,
@@ -109,7 +113,7 @@ pub fn answer_line<W: RowWorld>(
     requires law { SameLaw W.law sound_law }
     requires stands { W.stands world.old }
     requires session { IsSession (W.view world.old) line.now.session }
-    requires asks { IsSome (phase_asked line.now.command) }
+    requires asks { IsSome (need_of line.now.command) }
     requires table { IfSome (table_of line.now.command) (λ table. table < TABLES) }
     requires ran { phase_at (W.view world.old) line.now.session ≡ Active → (steps : List Step) × IsRunOf (work_at (W.view world.old) line.now.session) steps }
     ensures stands { W.stands world.new }
@@ -119,6 +123,9 @@ pub fn answer_line<W: RowWorld>(
     let phase = world.phase(line.session);
     if let Some(refusal) = refusal_of(phase, &line.command) {
         return Ok(refusal);
+    }
+    if is_snapshot(phase) {
+        return watch(alloc, world, line.session, &line.command);
     }
     run(alloc, world, line.session, &line.command, receipt)
 }

@@ -1,55 +1,100 @@
 //! What a session's phase gives to a command.
-ghost use Rattle.std.specs.Prelude.{◌≡◌};
-ghost use Rattle.erm_good_report.specs.Phases.{phase_asked, refusal_for, refusal_of};
+ghost use Rattle.std.specs.Prelude.{◌≡◌, Some};
+ghost use Rattle.erm_good_report.specs.Phases.{NeedsAny, NeedsIdle, NeedsReader, NeedsSealed, NeedsSnapshot, NeedsWriter, refusal_for, refusal_of};
+ghost use Rattle.erm_lines.specs.Whole.{is_snapshot};
 
 use erm_model::Phase;
 use erm_report::Answer;
 use erm_script::Command;
 
-// The phase that a command asks for, where it asks for one.
-fn phase_asked(command: &Command) -> Option<Phase>
-    ensures { result ≡ phase_asked command.now }
+/// Whether a phase is that of a snapshot.
+pub fn is_snapshot(phase: Phase) -> bool
+    ensures { result ≡ is_snapshot phase }
 {
-    match command {
-        Command::Begin => Some(Phase::Idle),
-        Command::Get { .. } => Some(Phase::Active),
-        Command::Put { .. } => Some(Phase::Active),
-        Command::Del { .. } => Some(Phase::Active),
-        Command::Next { .. } => Some(Phase::Active),
-        Command::Scan { .. } => Some(Phase::Active),
-        Command::Tidy { .. } => Some(Phase::Active),
-        Command::Seal => Some(Phase::Active),
-        Command::Settle => Some(Phase::Sealed),
-        Command::Commit => Some(Phase::Active),
-        Command::Abort => Some(Phase::Active),
-        Command::Durable => None,
-        Command::Flush => None,
-        Command::Checkpoint => None,
+    match phase {
+        Phase::Idle => false,
+        Phase::Active => false,
+        Phase::Sealed => false,
+        Phase::Pending => true,
+        Phase::Safe => true,
     }
 }
 
-// The refusal that a phase gives to a command that asks for another.
-fn refusal_for(asked: Phase, phase: Phase) -> Option<Answer>
-    ensures { result ≡ refusal_for (Some asked) phase }
+// The refusal of a command that begins a transaction.
+fn refusal_to_begin(phase: Phase) -> Option<Answer>
+    ensures { result ≡ refusal_for (Some NeedsIdle) phase }
 {
-    match (asked, phase) {
-        (Phase::Idle, Phase::Idle) => None,
-        (Phase::Idle, Phase::Active) => Some(Answer::NotIdle),
-        (Phase::Idle, Phase::Sealed) => Some(Answer::NotIdle),
-        (Phase::Idle, Phase::Pending) => Some(Answer::NotIdle),
-        (Phase::Idle, Phase::Safe) => Some(Answer::NotIdle),
-        (Phase::Active, Phase::Idle) => Some(Answer::NoTransaction),
-        (Phase::Active, Phase::Active) => None,
-        (Phase::Active, Phase::Sealed) => Some(Answer::IsSealed),
-        (Phase::Active, Phase::Pending) => Some(Answer::NoTransaction),
-        (Phase::Active, Phase::Safe) => Some(Answer::NoTransaction),
-        (Phase::Sealed, Phase::Idle) => Some(Answer::NotSealed),
-        (Phase::Sealed, Phase::Active) => Some(Answer::NotSealed),
-        (Phase::Sealed, Phase::Sealed) => None,
-        (Phase::Sealed, Phase::Pending) => Some(Answer::NotSealed),
-        (Phase::Sealed, Phase::Safe) => Some(Answer::NotSealed),
-        (Phase::Pending, _) => None,
-        (Phase::Safe, _) => None,
+    match phase {
+        Phase::Idle => None,
+        Phase::Active => Some(Answer::NotIdle),
+        Phase::Sealed => Some(Answer::NotIdle),
+        Phase::Pending => Some(Answer::NotIdle),
+        Phase::Safe => Some(Answer::NotIdle),
+    }
+}
+
+// The refusal of one that asks for a safe snapshot.
+fn refusal_to_safe(phase: Phase) -> Option<Answer>
+    ensures { result ≡ refusal_for (Some NeedsSnapshot) phase }
+{
+    match phase {
+        Phase::Idle => None,
+        Phase::Active => Some(Answer::NotIdle),
+        Phase::Sealed => Some(Answer::NotIdle),
+        Phase::Pending => None,
+        Phase::Safe => Some(Answer::NotIdle),
+    }
+}
+
+// The refusal of one that a safe snapshot may have too: a look, and the end.
+fn refusal_to_read(phase: Phase) -> Option<Answer>
+    ensures { result ≡ refusal_for (Some NeedsReader) phase }
+{
+    match phase {
+        Phase::Idle => Some(Answer::NoTransaction),
+        Phase::Active => None,
+        Phase::Sealed => Some(Answer::IsSealed),
+        Phase::Pending => Some(Answer::NotSafe),
+        Phase::Safe => None,
+    }
+}
+
+// The refusal of one that writes, or seals.
+fn refusal_to_write(phase: Phase) -> Option<Answer>
+    ensures { result ≡ refusal_for (Some NeedsWriter) phase }
+{
+    match phase {
+        Phase::Idle => Some(Answer::NoTransaction),
+        Phase::Active => None,
+        Phase::Sealed => Some(Answer::IsSealed),
+        Phase::Pending => Some(Answer::ReadOnly),
+        Phase::Safe => Some(Answer::ReadOnly),
+    }
+}
+
+// The refusal of one that decides a sealed transaction.
+fn refusal_to_settle(phase: Phase) -> Option<Answer>
+    ensures { result ≡ refusal_for (Some NeedsSealed) phase }
+{
+    match phase {
+        Phase::Idle => Some(Answer::NotSealed),
+        Phase::Active => Some(Answer::NotSealed),
+        Phase::Sealed => None,
+        Phase::Pending => Some(Answer::ReadOnly),
+        Phase::Safe => Some(Answer::ReadOnly),
+    }
+}
+
+// The refusal of one that gives up.
+fn refusal_to_abort(phase: Phase) -> Option<Answer>
+    ensures { result ≡ refusal_for (Some NeedsAny) phase }
+{
+    match phase {
+        Phase::Idle => Some(Answer::NoTransaction),
+        Phase::Active => None,
+        Phase::Sealed => Some(Answer::IsSealed),
+        Phase::Pending => None,
+        Phase::Safe => None,
     }
 }
 
@@ -57,8 +102,21 @@ fn refusal_for(asked: Phase, phase: Phase) -> Option<Answer>
 pub fn refusal_of(phase: Phase, command: &Command) -> Option<Answer>
     ensures { result ≡ refusal_of phase command.now }
 {
-    match phase_asked(command) {
-        Some(asked) => refusal_for(asked, phase),
-        None => None,
+    match command {
+        Command::Begin => refusal_to_begin(phase),
+        Command::Safe => refusal_to_safe(phase),
+        Command::Get { .. } => refusal_to_read(phase),
+        Command::Put { .. } => refusal_to_write(phase),
+        Command::Del { .. } => refusal_to_write(phase),
+        Command::Next { .. } => refusal_to_read(phase),
+        Command::Scan { .. } => refusal_to_read(phase),
+        Command::Tidy { .. } => refusal_to_write(phase),
+        Command::Seal => refusal_to_write(phase),
+        Command::Settle => refusal_to_settle(phase),
+        Command::Commit => refusal_to_read(phase),
+        Command::Abort => refusal_to_abort(phase),
+        Command::Durable => None,
+        Command::Flush => None,
+        Command::Checkpoint => None,
     }
 }

@@ -3,3 +3,5 @@ pub mod Bridged
 pub mod Opened
 pub mod Parts
 pub mod Receipts
+pub mod Sighted
+pub mod Watched

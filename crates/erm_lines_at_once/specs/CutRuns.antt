@@ -2,18 +2,20 @@
 use Rattle.std.specs.Prelude.{◌≡◌, ℕ, ◌==◌, ◌<◌, ◌≤◌, List, filter, length, Option, Some, None}
 use Rattle.std.specs.List.{AllPairs, slice_get}
 use Rattle.erm_model.specs.declared.limits.TheConstants.{LAST_NUMBER}
-use Rattle.erm_model.specs.declared.outcome.Phase.TheVariants.{Active, Sealed}
+use Rattle.erm_model.specs.declared.outcome.Phase.TheVariants.{Active, Idle, Sealed}
 use Rattle.erm_model.specs.Member.{◌∈◌}
 use Rattle.erm_report.specs.declared.answer.Answer.{Answer}
 use Rattle.erm_script.specs.declared.script.Command.TheVariants as command
 use Rattle.erm_script.specs.declared.script.ScriptLine.{ScriptLine}
 use Rattle.erm_script.specs.Script.{IsInRange}
 use Rattle.erm_world.specs.Calls.{DidAbort, DidSeal}
+use Rattle.erm_world.specs.Safe.{HasSnapshot}
 use Rattle.erm_world.specs.World.{IsSession, View, phase_at}
 use Rattle.erm_good_report.specs.Phases.{Closed, Closes}
 use Rattle.erm_good_at_once.specs.CutReports.{answered_of}
 use Rattle.erm_lines.specs.Executions.{IsOpened, Move}
 use Rattle.erm_beside.specs.Calls.{After, Passes}
+use Rattle.erm_beside.specs.Safe.{DidBeginSafeBeside}
 use Rattle.erm_lines_at_once.specs.Ends.{IsEnd}
 use Rattle.erm_lines_at_once.specs.Executions.{IsOwnRun, all_moves}
 use Rattle.erm_lines_at_once.specs.Operations.{WasTried}
@@ -36,6 +38,11 @@ pub data IsRest (f : View) (seat : ℕ) (next : Option ScriptLine) (v t : View) 
   -- its commit drew a stamp, and waits
   drew : (l : ScriptLine) (stamp : ℕ) → phase_at v seat ≡ Active → next ≡ Some l → l.command ≡ command.Commit → After seat (λ u w. DidSeal u seat stamp w) v t
       → IsRest f seat next v t
+  -- its next line began a snapshot, which waits to be safe
+  watched : (l : ScriptLine) (begin : ℕ) → phase_at v seat ≡ Idle → next ≡ Some l → l.command ≡ command.Safe → After seat (DidBeginSafeBeside seat begin) v t
+      → IsRest f seat next v t
+  -- its snapshot was ended, behind its last line
+  ended : HasSnapshot v seat → next ≡ None → After seat (λ u w. DidAbort u seat w) v t → IsRest f seat next v t
 
 -- the part of a session: its moves that are told, and the rest, by which it comes to stand as in the world in which all end
 pub record IsCutPart (f : View) (seat : ℕ) (next : Option ScriptLine) (v : View) (moves : List Move) : Type 0 where

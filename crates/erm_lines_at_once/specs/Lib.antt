@@ -3,5 +3,6 @@ pub mod CutRuns
 pub mod Ends
 pub mod Executions
 pub mod Laws
+pub mod Looks
 pub mod Operations
 pub mod Parts

@@ -1,6 +1,6 @@
 -- Executions at once that a report tells in part: of each session's lines the first ones, in a world that stands as these leave it.
 use Rattle.std.specs.Prelude.{◌≡◌, ℕ, ◌+◌, ◌*◌, ◌≤◌, List, length}
-use Rattle.erm_model.specs.declared.limits.TheConstants.{GREATEST_BLOCK, LAST_NUMBER}
+use Rattle.erm_model.specs.declared.limits.TheConstants.{GREATEST_BLOCK, LAST_NUMBER, SESSIONS}
 use Rattle.erm_model.specs.Committed.{HasSnapshotReplies}
 use Rattle.erm_model.specs.History.{IsPredecessorStamp, IsSuccessorStamp}
 use Rattle.erm_model.specs.Member.{◌∈◌}
@@ -12,13 +12,14 @@ use Rattle.erm_script.specs.Script.{IsInRange}
 use Rattle.erm_world.specs.Laws.{IsSerializable}
 use Rattle.erm_world.specs.World.{HasStamp, IsSession, View, Work, history_of, record_of}
 use Rattle.erm_world.specs.World as world
-use Rattle.erm_good_report.specs.GoodReport.{places_of}
+use Rattle.erm_good_report.specs.GoodReport.{places_of, serial_of}
 use Rattle.erm_good_report.specs.Opening.{AtOnce, Opening}
 use Rattle.erm_good_report.specs.Phases.{Closed, PhasesAgree}
 use Rattle.erm_good_report.specs.Refusals.{draws_of, total_of}
+use Rattle.erm_good_report.specs.Snapshots.{SnapshotsAgree}
 use Rattle.erm_good_report.specs.Stamps.{StampsAgree}
 use Rattle.erm_good_report.specs.Transactions.{Transaction, history_of as commits_of, progress_of, said_of, steps_of, transactions_of}
-use Rattle.erm_good_at_once.specs.CutReports.{AreSerial}
+use Rattle.erm_good_at_once.specs.CutReports.{AreSerial, moment_in}
 use Rattle.erm_good_at_once.specs.Rising.{StampsRise}
 use Rattle.erm_lines.specs.Executions.{IsOpened, IsOpeningOf}
 use Rattle.erm_lines.specs.Told.{Tells}
@@ -71,5 +72,12 @@ abbrev pub RunsInPartHaveSnapshots : Type 0
 RunsInPartHaveSnapshots = OfRunsInPart (λ opening whole part answers told.
     (t : Transaction) → t ∈ told → HasSnapshotReplies (commits_of told) opening.map t.begin (steps_of t))
 
+abbrev pub RunsInPartHaveSafeSnapshots : Type 0
+RunsInPartHaveSafeSnapshots = OfRunsInPart (λ opening whole part answers told. SnapshotsAgree (moment_in opening whole part answers told) opening part answers told)
+
 abbrev pub RunsInPartAreSerial : Type 0
-RunsInPartAreSerial = OfRunsInPart (λ opening whole part answers told. AreSerial opening told)
+RunsInPartAreSerial = OfRunsInPart (λ opening whole part answers told. AreSerial opening (commits_of told))
+
+abbrev pub RunsInPartAreSerialWithSnapshots : Type 0
+RunsInPartAreSerialWithSnapshots = (v f : View) (whole part : List ScriptLine) (answers : List Answer) (closed : List Closed) (opening : Opening)
+    → IsRunInPart v whole part answers closed f → IsOpeningOf v opening → v.opening.sessions ≤ SESSIONS → AreSerial opening (serial_of v.opening.sessions (places_of part answers closed))

@@ -1,6 +1,6 @@
 -- However all sessions are closed, each is closed alike.
-use Rattle.std.proofs.Common.{inl, inr, ◌≡◌, ℕ, zero, suc, ◌<◌, ◌≤◌, Bool, true, false, List, Some, refl, sym, ap, ◌∙◌, subst, arith}
-use Rattle.std.specs.Prelude.{◌⊎◌, if◌then◌else◌}
+use Rattle.std.proofs.Common.{inl, inr, ◌≡◌, ℕ, zero, suc, ◌<◌, ◌≤◌, List, Some, refl, sym, ap, ◌∙◌, subst, arith}
+use Rattle.std.specs.Prelude.{◌⊎◌}
 use Rattle.erm_model.specs.declared.history.TransactionRecord.{TransactionRecord}
 use Rattle.erm_model.specs.declared.outcome.Phase.{Phase}
 use Rattle.erm_model.specs.declared.outcome.Phase.TheVariants.{Active, Idle, Sealed, Pending, Safe}
@@ -10,7 +10,7 @@ use Rattle.erm_node.specs.Sound.{sound_law}
 use Rattle.erm_report.specs.declared.answer.Answer.{Answer}
 use Rattle.erm_report.specs.declared.answer.Answer.TheVariants as answer
 use Rattle.erm_world.specs.Laws.{IsSerializable}
-use Rattle.erm_world.specs.Snapshots.{snapshot_not_idle}
+use Rattle.erm_world.specs.Snapshots.{snapshot_not_idle, snapshot_not_sealed}
 use Rattle.erm_world.specs.World.{IsSession, Opening, Session, Stand, View, Work, history_of, phase_at, phase_of, record_of}
 use Rattle.erm_world.specs.World as world
 use Rattle.erm_good_report.specs.Phases.{Closes}
@@ -118,22 +118,26 @@ module _ (v : View) (holds : IsSerializable sound_law v) where
       by low high (inl x) (inr y) = absurd (let opens = x.1 in let shut = y.1 in omega (arith, opens, shut, low, high))
       by low high (inr x) (inl y) = absurd (let shut = x.1 in let opens = y.1 in omega (arith, opens, shut, low, high))
 
-  -- an active one
-  aborted : (moves : List Move) (t : View) (seat : ℕ) → phase_at v seat ≡ Active → (c : ClosedAt moves v t seat) → c.answer ≡ answer.Aborted
-  aborted moves t seat active c = by (phase_at c.at seat) (ap (λ (s : Session). phase_of s.stand) c.same ∙ active) c.answer c.did.fits
+  -- one that isn't sealed: an active one, and one with a snapshot
+  aborted : (moves : List Move) (t : View) (seat : ℕ) → (phase_at v seat ≡ Sealed → ⊥) → (c : ClosedAt moves v t seat) → c.answer ≡ answer.Aborted
+  aborted moves t seat unsealed c = by (phase_at c.at seat) (λ sealed. unsealed (sym (ap (λ (s : Session). phase_of s.stand) c.same) ∙ sealed)) c.answer c.did.fits
     where
-      by : (p : Phase) → p ≡ Active → (a : Answer) → Closes p a → a ≡ answer.Aborted
-      by Active is answer.Aborted fits = refl
-      by Active is a fits = absurd fits
-      by Idle is a fits = absurd (cc)
-      by Sealed is a fits = absurd (cc)
-      by Pending is a fits = absurd (cc)
-      by Safe is a fits = absurd (cc)
+      by : (p : Phase) → (p ≡ Sealed → ⊥) → (a : Answer) → Closes p a → a ≡ answer.Aborted
+      by Active not answer.Aborted fits = refl
+      by Active not a fits = absurd fits
+      by Idle not a fits = absurd fits
+      by Sealed not a fits = absurd (not refl)
+      by Pending not answer.Aborted fits = refl
+      by Pending not a fits = absurd fits
+      by Safe not answer.Aborted fits = refl
+      by Safe not a fits = absurd fits
 
-  -- none is closed that has a snapshot
-  closes_none : (b : Bool) (a : Answer) → Closes (if b then Safe else Pending) a → ⊥
-  closes_none true a fits = fits
-  closes_none false a fits = fits
+  aborted_alike : (first second : List Move) (t u : View) → ClosesAll v first t → ClosesAll v second u → (seat : ℕ) → IsSession v seat → (phase_at v seat ≡ Idle → ⊥) → (phase_at v seat ≡ Sealed → ⊥)
+      → end_of first seat ≡ end_of second seat
+  aborted_alike first second t u c d seat session opens unsealed =
+      let x : ClosedAt first v t seat = closed first t c seat session opens in
+      let y : ClosedAt second v u seat = closed second u d seat session opens in
+      x.end ∙ ap (λ (a : Answer). Some a) (aborted first t seat unsealed x ∙ sym (aborted second u seat unsealed y)) ∙ sym y.end
 
   alike_at : (first second : List Move) (t u : View) → ClosesAll v first t → ClosesAll v second u → (seat : ℕ) → IsSession v seat → end_of first seat ≡ end_of second seat
   alike_at first second t u c d seat session = by (v.session seat).stand refl
@@ -142,15 +146,9 @@ module _ (v : View) (holds : IsSerializable sound_law v) where
       by world.idle is = never_closed first v t seat c.last c.closes (λ at. ap phase_of is) ∙ sym (never_closed second v u seat d.last d.closes (λ at. ap phase_of is))
       by (world.active w) is =
           let active : phase_at v seat ≡ Active = ap phase_of is in
-          let opens : phase_at v seat ≡ Idle → ⊥ = λ idle. (let no : Active ≡ Idle = sym active ∙ idle in cc) in
-          let x : ClosedAt first v t seat = closed first t c seat session opens in
-          let y : ClosedAt second v u seat = closed second u d seat session opens in
-          x.end ∙ ap (λ (a : Answer). Some a) (aborted first t seat active x ∙ sym (aborted second u seat active y)) ∙ sym y.end
+          aborted_alike first second t u c d seat session (λ idle. (let no : Active ≡ Idle = sym active ∙ idle in cc)) (λ sealed. (let no : Active ≡ Sealed = sym active ∙ sealed in cc))
       by (world.snapshot s) is =
-          let opens : phase_at v seat ≡ Idle → ⊥ = λ idle. snapshot_not_idle s (sym (ap phase_of is) ∙ idle) in
-          let x : ClosedAt first v t seat = closed first t c seat session opens in
-          let at : phase_at x.at seat ≡ phase_of (world.snapshot s) = ap (λ (r : Session). phase_of r.stand) x.same ∙ ap phase_of is in
-          absurd (closes_none s.is_safe x.answer (subst (λ (p : Phase). Closes p x.answer) at x.did.fits))
+          aborted_alike first second t u c d seat session (λ idle. snapshot_not_idle s (sym (ap phase_of is) ∙ idle)) (λ sealed. snapshot_not_sealed s (sym (ap phase_of is) ∙ sealed))
       by (world.sealed w stamp) is =
           let x : ClosedAt first v t seat = closed first t c seat session (busy seat w stamp is) in
           let y : ClosedAt second v u seat = closed second u d seat session (busy seat w stamp is) in

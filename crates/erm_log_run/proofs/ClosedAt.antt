@@ -14,7 +14,7 @@ use Rattle.erm_model.proofs.Members.{∈-push}
 use Rattle.erm_node.specs.Sound.{sound_law}
 use Rattle.erm_report.specs.declared.answer.Answer.{Answer}
 use Rattle.erm_report.specs.declared.answer.Answer.TheVariants as answer
-use Rattle.erm_world.specs.Calls.{DidSettle, IsDone}
+use Rattle.erm_world.specs.Calls.{DidAbort, DidSettle, IsDone}
 use Rattle.erm_world.specs.Laws.{IsCommitOf, IsSerializable}
 use Rattle.erm_world.specs.World.{Fate, Finished, IsSession, Opening, Session, Stand, View, Work, history_of, phase_at, phase_of, record_of, work_at}
 use Rattle.erm_world.specs.World as world
@@ -44,17 +44,20 @@ settled_as : (v t : View) (seat : ℕ) (o : Outcome) → DidSettle v seat o t �
 settled_as v t seat (outcome.Committed r) (w, stamp, stands, ready, did) = record { work = w; fate = world.commits stamp r.succ r.pred; done = did.0; sealed = λ s a b is. let same : stamp ≡ s = cc in subst (λ (n : ℕ). (v.session seat).stand ≡ world.sealed w n) same stands }
 settled_as v t seat (outcome.Excluded at succ pred) (w, stamp, stands, ready, did) = record { work = w; fate = world.excluded stamp succ pred; done = did.0; sealed = λ s a b is. absurd (let no : world.excluded stamp succ pred ≡ world.commits s a b = is in cc) }
 
+aborted_as : (v t : View) (seat : ℕ) → DidAbort v seat t → EndsAs v seat t
+aborted_as v t seat did = record { work = work_at v seat; fate = world.aborts; done = did; sealed = λ s succ pred is. absurd (let no : world.aborts ≡ world.commits s succ pred = is in cc) }
+
 pub ends_as : (v t : View) (seat : ℕ) (a : Answer) → DidEnd v seat a t → EndsAs v seat t
 ends_as v t seat a e = by_phase (phase_at v seat) a e.fits e.did
   where
     by_phase : (p : Phase) (a : Answer) → Closes p a → DidClose p v seat a t → EndsAs v seat t
     by_phase Idle a fits did = absurd did
-    by_phase Active a fits did = record { work = work_at v seat; fate = world.aborts; done = did; sealed = λ s succ pred is. absurd (let no : world.aborts ≡ world.commits s succ pred = is in cc) }
+    by_phase Active a fits did = aborted_as v t seat did
     by_phase Sealed (answer.Committed stamp succ pred) fits did = settled_as v t seat (outcome.Committed did.0) did.4
     by_phase Sealed (answer.Excluded stamp succ pred) fits did = settled_as v t seat (outcome.Excluded stamp succ pred) did
     by_phase Sealed a fits did = absurd fits
-    by_phase Pending a fits did = absurd did
-    by_phase Safe a fits did = absurd did
+    by_phase Pending a fits did = aborted_as v t seat did
+    by_phase Safe a fits did = aborted_as v t seat did
 
 is_or : (p q : ℕ) → (p ≡ q) ⊎ (p ≢ q)
 is_or p q = grind arith

@@ -94,8 +94,8 @@ decided v t seat a w own e stand = by_phase (phase_at v seat) (ap phase_of stand
     by_phase Sealed is (answer.Committed stamp succ pred) fits did = committed_fated v t seat stamp succ pred w own e.session stand did
     by_phase Sealed is (answer.Excluded stamp succ pred) fits did = excluded_fated v t seat stamp succ pred w own stand did
     by_phase Sealed is b fits did = absurd fits
-    by_phase Pending is b fits did = absurd did
-    by_phase Safe is b fits did = absurd did
+    by_phase Pending is b fits did = absurd (cc)
+    by_phase Safe is b fits did = absurd (cc)
 
 -- IN THE END. A transaction that is decided where none is in its way isn't touched by what is decided later.
 module _ (x y t : View) (seat : ℕ) (a : Answer) (rest : List Move) (holds : IsSerializable sound_law x) (ends : DidEnd x seat a y) (next_holds : IsSerializable sound_law y) (last : All IsLast (close seat a ∷ rest)) (then_run : IsExecution y rest t)

@@ -2,8 +2,9 @@
 use Rattle.std.proofs.Common.{◌≡◌, ℕ, ◌≤◌, List, [], length, refl, sym, subst, arith}
 use Rattle.std.specs.List.{All}
 use Rattle.std.specs.Prelude.{Option}
-use Rattle.erm_model.specs.Committed.{rank_of}
-use Rattle.erm_model.specs.declared.limits.TheConstants.{LAST_NUMBER}
+use Rattle.erm_model.specs.Committed.{Committed, RunsInOrder, rank_of, state_after}
+use Rattle.erm_model.specs.Database.{Database}
+use Rattle.erm_model.specs.declared.limits.TheConstants.{LAST_NUMBER, SESSIONS}
 use Rattle.erm_model.specs.declared.outcome.Phase.TheVariants.{Idle}
 use Rattle.erm_model.specs.Member.{◌∈◌}
 use Rattle.erm_model.proofs.Members.{none_in_nil}
@@ -14,17 +15,20 @@ use Rattle.erm_report.specs.Printable.{FitsTypes}
 use Rattle.erm_script.specs.declared.script.ScriptLine.{ScriptLine}
 use Rattle.erm_script.specs.Script.{IsInRange}
 use Rattle.erm_world.specs.World.{IsSession, View, phase_at}
-use Rattle.erm_good_report.specs.GoodReport.{HaveTightWindows, IsCutReport, IsGoodReport, IsTightReport, OwesToAnswers, places_of}
+use Rattle.erm_good_report.specs.GoodReport.{HaveTightWindows, IsCutReport, IsGoodReport, IsTightReport, OwesToAnswers, places_of, serial_of}
 use Rattle.erm_good_report.specs.Opening.{InTurn, Opening}
-use Rattle.erm_good_report.specs.Phases.{Closed, ClosesAgree}
-use Rattle.erm_good_report.specs.Stamps.{StampsAgree}
-use Rattle.erm_good_report.specs.Transactions.{history_of, said_of, transactions_of}
+use Rattle.erm_good_report.specs.Phases.{Closed, ClosesAgree, phase_of}
+use Rattle.erm_good_report.specs.Transactions.{Transaction, history_of, said_of, transactions_of}
+use Rattle.erm_good_report.proofs.Placed.{serial_differs}
 use Rattle.erm_lines.specs.Executions.{AreClosed, IsExecution, IsOpened, IsOpeningOf, IsPart, IsRun, line_moves}
-use Rattle.erm_lines.specs.Laws.{PartsHaveCauses, PartsHavePhases, PartsHaveSnapshots, PartsHaveStamps, PartsRefuseWithCause, RunsAreSerial, RunsCloseSessions, RunsHaveCauses, RunsHavePhases, RunsHaveSnapshots, RunsHaveStamps, RunsHaveTightWindows, RunsRefuseWithCause}
+use Rattle.erm_lines.specs.Laws.{PartsHaveCauses, PartsHavePhases, PartsHaveSafeSnapshots, PartsHaveSnapshots, PartsHaveStamps, PartsRefuseWithCause, RunsAreSerialWithSnapshots, RunsCloseSessions, RunsHaveCauses, RunsHavePhases, RunsHaveSafeSnapshots, RunsHaveSnapshots, RunsHaveStamps, RunsHaveTightWindows, RunsRefuseWithCause}
 use Rattle.erm_summary.specs.Summary.{SummariesAreGood, Summarizes}
 use Rattle.erm_log_run.specs.Closing.{IsClosing}
 use Rattle.erm_log_run.specs.Runs.{IsCutReportOf, IsReportOf, WasCut, WasRun}
+use Rattle.erm_maps.proofs.Commits.{run_ends}
 use Rattle.erm_told.proofs.Differing.{stamps_differ}
+use Rattle.erm_log_run.proofs.Began.{logged}
+use Rattle.erm_log_run.proofs.Taken.{next_few}
 
 -- lines in turn, and then the end, are a run
 abbrev pub is_run : (v u t : View) (script : List ScriptLine) (answers : List Answer) (n : ℕ) (ends : List (Option Answer)) → IsOpened v → ((l : ScriptLine) → l ∈ script → IsInRange l.command)
@@ -43,13 +47,19 @@ is_run v u t script answers n ends opened ranges few each lines is idle = record
   idle = idle;
 }
 
+-- commits whose stamps differ have a serial order
+abbrev pub OrdersExist : Type 0
+OrdersExist = (commits : List Committed) → StampsDiffer rank_of commits → (order : List Committed) × IsSerialOrder rank_of commits order
+
 -- the laws of runs
 pub record RunLaws : Type 0 where
   pub phases : RunsHavePhases
   pub closes : RunsCloseSessions
   pub stamps : RunsHaveStamps
   pub snapshots : RunsHaveSnapshots
-  pub serial : RunsAreSerial
+  pub safe : RunsHaveSafeSnapshots
+  pub serial : RunsAreSerialWithSnapshots
+  pub orders : OrdersExist
   pub causes : RunsHaveCauses
   pub refusals : RunsRefuseWithCause
   pub windows : RunsHaveTightWindows
@@ -57,29 +67,51 @@ pub record RunLaws : Type 0 where
 
 -- the report of a run is good, and its windows are tight
 module _ (laws : RunLaws) (v t : View) (script : List ScriptLine) (answers : List Answer) (run : IsRun v script answers t) (closed : List Closed) (are : AreClosed run.closing closed)
-    (opening : Opening) (of : IsOpeningOf v opening) where
-  stamps : StampsAgree InTurn opening (transactions_of v.opening.sessions (places_of script answers closed)) (said_of script answers)
-  stamps = laws.stamps v t script answers run closed opening are of
+    (opening : Opening) (of : IsOpeningOf v opening) (few : v.opening.sessions ≤ SESSIONS) where
+  abbrev told : List Transaction
+  told = transactions_of v.opening.sessions (places_of script answers closed)
+
+  abbrev placed : List Committed
+  placed = serial_of v.opening.sessions (places_of script answers closed)
+
+  closes : ClosesAgree v.opening.sessions (said_of script answers) closed
+  closes = laws.closes v t script answers run closed are
 
   owes : OwesToAnswers InTurn opening script answers (transactions_of v.opening.sessions (places_of script answers closed))
   owes = record {
     phases = laws.phases v t script answers run closed opening are of;
-    stamps = stamps;
+    stamps = laws.stamps v t script answers run closed opening are of;
     snapshots = laws.snapshots v t script answers run closed opening are of;
     causes = laws.causes v t script answers run closed opening are of;
     refusals = laws.refusals v t script answers run closed opening are of;
+    safe = laws.safe v t script answers run closed opening are of;
   }
+
+  -- the stamps of commits differ, and with those that place the snapshots
+  commits_differ : StampsDiffer rank_of (history_of told)
+  commits_differ = stamps_differ told owes.stamps.differ
+
+  all_differ : StampsDiffer rank_of placed
+  all_differ =
+      serial_differs v.opening.sessions (places_of script answers closed) (omega (arith, few))
+      (λ session. let next = next_few (λ seat. phase_of seat (said_of script answers)) script answers closed closes.fits session in let short = run.few in omega (arith, next, short))
+      commits_differ (logged opening script answers closed v.opening.sessions owes closes.fits run.few)
+
+  -- in their order they run, to the map after the commits: that is the one after all
+  runs_placed : (order : List Committed) → IsSerialOrder rank_of placed order → RunsInOrder order opening.map (state_after order opening.map)
+  runs_placed order is =
+      let commits = laws.orders (history_of told) commits_differ in
+      let runs = laws.serial v t script answers run closed opening are of few commits.0 order commits.1 is in
+      subst (λ (m : Database). RunsInOrder order opening.map m) (run_ends order opening.map (state_after commits.0 opening.map) runs.run) runs
 
   module _ (names : List (List ℕ)) (many : v.opening.sessions ≡ length names) (lines : List Line) (sums : Summarizes opening names script answers closed lines) (fits : All FitsTypes lines) where
     good : (good : IsGoodReport InTurn opening names script lines) × (good.report.answers ≡ answers) × (good.report.closed ≡ closed)
     good =
         laws.summaries InTurn opening names script answers closed lines sums fits run.each
-        (subst (λ (n : ℕ). ClosesAgree n (said_of script answers) closed) many (laws.closes v t script answers run closed are))
+        (subst (λ (n : ℕ). ClosesAgree n (said_of script answers) closed) many closes)
         (subst (λ (n : ℕ). OwesToAnswers InTurn opening script answers (transactions_of n (places_of script answers closed))) many owes)
-        (subst (λ (n : ℕ). StampsDiffer rank_of (history_of (transactions_of n (places_of script answers closed)))) many
-        (stamps_differ (transactions_of v.opening.sessions (places_of script answers closed)) stamps.differ))
-        (λ order is. laws.serial v t script answers run closed opening are of order
-        (subst (λ (n : ℕ). IsSerialOrder rank_of (history_of (transactions_of n (places_of script answers closed))) order) (sym many) is))
+        (subst (λ (n : ℕ). StampsDiffer rank_of (serial_of n (places_of script answers closed))) many all_differ)
+        (λ order is. runs_placed order (subst (λ (n : ℕ). IsSerialOrder rank_of (serial_of n (places_of script answers closed)) order) (sym many) is))
 
     tight : IsTightReport InTurn opening names script lines
     tight = record {
@@ -92,19 +124,23 @@ module _ (laws : RunLaws) (v t : View) (script : List ScriptLine) (answers : Lis
 
 -- lines that tell of a run are a good report of it, whose windows are tight
 pub told_tight : RunLaws → (v t : View) (script : List ScriptLine) (opening : Opening) → IsOpeningOf v opening → (names : List (List ℕ)) → v.opening.sessions ≡ length names
-    → (lines : List Line) → (was : WasRun v t opening names script lines) → All FitsTypes lines → IsReportOf opening names script was.answers was.closed lines
+    → length names ≤ SESSIONS → (lines : List Line) → (was : WasRun v t opening names script lines) → All FitsTypes lines → IsReportOf opening names script was.answers was.closed lines
 unfolding tight good
-told_tight laws v t script opening of names many lines was fits = record {
-  tight = tight laws v t script was.answers was.run was.closed was.are opening of names many lines was.told fits;
-  answers_are = (good laws v t script was.answers was.run was.closed was.are opening of names many lines was.told fits).1;
-  closed_are = (good laws v t script was.answers was.run was.closed was.are opening of names many lines was.told fits).2;
+told_tight laws v t script opening of names many few lines was fits = record {
+  tight = tight laws v t script was.answers was.run was.closed was.are opening of sessions names many lines was.told fits;
+  answers_are = (good laws v t script was.answers was.run was.closed was.are opening of sessions names many lines was.told fits).1;
+  closed_are = (good laws v t script was.answers was.run was.closed was.are opening of sessions names many lines was.told fits).2;
 }
+  where
+    sessions : v.opening.sessions ≤ SESSIONS
+    sessions = omega (arith, many, few)
 
 -- the laws of runs that are cut off
 pub record CutLaws : Type 0 where
   pub phases : PartsHavePhases
   pub stamps : PartsHaveStamps
   pub snapshots : PartsHaveSnapshots
+  pub safe : PartsHaveSafeSnapshots
   pub causes : PartsHaveCauses
   pub refusals : PartsRefuseWithCause
 
@@ -126,6 +162,7 @@ told_cut laws v t script opening of names many lines was fits = record { cut = c
       snapshots = laws.snapshots v between script was.answers part opening of;
       causes = laws.causes v between script was.answers part opening of;
       refusals = laws.refusals v between script was.answers part opening of;
+      safe = laws.safe v between script was.answers part opening of;
     }
 
     cut : IsCutReport InTurn opening names script lines

@@ -1,9 +1,12 @@
 -- The places that the lines of a report acknowledge.
-use Rattle.std.proofs.Common.{⊎_elim, ◌≡◌, ℕ, List, [], ◌∷◌, ◌++◌, length, map, Option, Some, None, sym, ◌∙◌, subst}
+use Rattle.std.proofs.Common.{⊎_elim, ◌≡◌, ℕ, Bool, true, false, List, [], ◌∷◌, ◌++◌, length, map, Option, Some, None, sym, ◌∙◌, subst}
+use Rattle.std.specs.Prelude.{nat_lt}
 use Rattle.erm_model.specs.Member.{◌∈◌}
 use Rattle.erm_model.specs.Rows.{Rows}
 use Rattle.erm_model.proofs.Members.{none_in_nil, ∈-behind}
 use Rattle.erm_machine.proofs.Listed.{∈-cons, ∈-either, ∈-head, ∈-map}
+use Rattle.erm_model.specs.Committed.{Committed}
+use Rattle.erm_model.specs.declared.limits.TheConstants.{LOG_END}
 use Rattle.erm_block.specs.declared.block.Block.{Block}
 use Rattle.erm_ckpt.specs.Recovered.{State}
 use Rattle.erm_outside.specs.Disk.{Step, Tells}
@@ -11,7 +14,7 @@ use Rattle.erm_report.specs.declared.answer.Answer.{Answer}
 use Rattle.erm_report.specs.declared.line.Line.{Line}
 use Rattle.erm_report.specs.declared.line.Line.TheVariants as line
 use Rattle.erm_script.specs.declared.script.ScriptLine.{ScriptLine}
-use Rattle.erm_good_report.specs.GoodReport.{answer_lines, close_line, commit_line, fault_line, Report, report_lines}
+use Rattle.erm_good_report.specs.GoodReport.{answer_lines, close_line, fault_line, line_in_order, order_line, Report, report_lines}
 use Rattle.erm_good_report.specs.Opening.{Opening}
 use Rattle.erm_good_report.specs.Phases.{Closed}
 use Rattle.erm_good_report.specs.Stamps.{place_told}
@@ -76,19 +79,24 @@ with_none lines rest answers told none l place within tells = ⊎_elim
     (λ (there : l ∈ rest). absurd (none l place there tells))
     (∈-either lines rest l within)
 
+-- a line of the order, of a commit or of a snapshot, acknowledges none
+order_none : (b : Bool) (names : List (List ℕ)) (c : Committed) (place : ℕ) → Acknowledges (line_in_order b names c) place → ⊥
+order_none true names c place tells = tells
+order_none false names c place tells = tells
+
 -- the lines of a whole report
 pub report_tells : (opening : Opening) (names : List (List ℕ)) (script : List ScriptLine) (r : Report) → TellOnly (report_lines opening names script r) r.answers
 report_tells opening names script r =
     let front : List Line = line.Open opening.stamp opening.run ∷ answer_lines script r.answers in
     let closes : List Line = map (close_line names) r.closed in
-    let orders : List Line = line.Order (length r.order) ∷ map (commit_line names) r.order in
+    let orders : List Line = line.Order (length r.order) ∷ map (order_line names) r.order in
     let pairs : List Line = line.Map (length r.pairs) ∷ map line.Pair r.pairs in
     let closed : TellOnly (front ++ closes) r.answers =
     with_none front closes r.answers (front_tells opening.stamp opening.run script r.answers) (none_mapped (close_line names) r.closed (λ c place tells. tells))
     in
     let ordered : TellOnly (front ++ closes ++ orders) r.answers =
     with_none (front ++ closes) orders r.answers closed
-    (none_at (line.Order (length r.order)) (map (commit_line names) r.order) (λ place tells. tells) (none_mapped (commit_line names) r.order (λ c place tells. tells)))
+    (none_at (line.Order (length r.order)) (map (order_line names) r.order) (λ place tells. tells) (none_mapped (order_line names) r.order (λ c place tells. order_none (nat_lt c.stamp LOG_END) names c place tells)))
     in
     let mapped : TellOnly (front ++ closes ++ orders ++ pairs) r.answers =
     with_none (front ++ closes ++ orders) pairs r.answers ordered

@@ -1,5 +1,6 @@
 pub mod Alike
 pub mod Answering
+pub mod Began
 pub mod ClosedAt
 pub mod Closing
 pub mod Counting
@@ -21,7 +22,7 @@ pub mod Receipts
 pub mod Results
 pub mod Saving
 pub mod Seats
-pub mod Serial
 pub mod Starving
 pub mod Stopped
+pub mod Taken
 pub mod Told

@@ -7,18 +7,19 @@ use Rattle.erm_script.specs.declared.script.Command.{Command}
 use Rattle.erm_script.specs.declared.script.Command.TheVariants as command
 use Rattle.erm_script.specs.declared.script.ScriptLine.{ScriptLine}
 use Rattle.erm_world.specs.World.{IsSession, Opening, View, phase_at}
-use Rattle.erm_good_report.specs.Phases.{FitsPhase, phase_asked, refusal_of}
-use Rattle.erm_lines.specs.Answers.{DidAsked, DidLine}
+use Rattle.erm_good_report.specs.Phases.{FitsPhase, need_of, refusal_of}
+use Rattle.erm_lines.specs.Answers.{DidAsked, DidIn, DidLine}
 use Rattle.erm_lines.specs.Executions.{DidLog, DidLogLine, DidMove, move_as, move_of}
 use Rattle.erm_lines.specs.Whole.{WasAnswered}
+use Rattle.erm_lines.proofs.Watched.{durable_in}
 use Rattle.erm_log_run.specs.Lines.{IsLineOf, Names}
 
--- a command of a session that isn't `durable` asks for a phase
-pub asks_phase : (c : Command) → (c ≡ command.Durable → ⊥) → (c ≡ command.Flush → ⊥) → (c ≡ command.Checkpoint → ⊥) → IsSome (phase_asked c)
-asks_phase command.Durable durable flush checkpoint = absurd (durable refl)
-asks_phase command.Flush durable flush checkpoint = absurd (flush refl)
-asks_phase command.Checkpoint durable flush checkpoint = absurd (checkpoint refl)
-asks_phase c durable flush checkpoint = refl
+-- a command of a session that isn't `durable` needs something of it
+pub asks_session : (c : Command) → (c ≡ command.Durable → ⊥) → (c ≡ command.Flush → ⊥) → (c ≡ command.Checkpoint → ⊥) → IsSome (need_of c)
+asks_session command.Durable durable flush checkpoint = absurd (durable refl)
+asks_session command.Flush durable flush checkpoint = absurd (flush refl)
+asks_session command.Checkpoint durable flush checkpoint = absurd (checkpoint refl)
+asks_session c durable flush checkpoint = refl
 
 -- its line names a session
 pub names_session : (v : View) (c : Command) (session : ℕ) → (c ≡ command.Flush → ⊥) → (c ≡ command.Checkpoint → ⊥) → Names v c session → IsSession v session
@@ -41,12 +42,15 @@ durable_line v l a t session is was = record {
     fits phase.Pending = was.fits
     fits phase.Safe = was.fits
 
+    asked : DidIn (phase_at v l.session) v l.session command.Durable a t
+    asked = durable_in v t l.session a (phase_at v l.session) was.did
+
     did : (p : Phase) → DidAsked (refusal_of p command.Durable) v l.session command.Durable a t
-    did phase.Idle = was.did
-    did phase.Active = was.did
-    did phase.Sealed = was.did
-    did phase.Pending = was.did
-    did phase.Safe = was.did
+    did phase.Idle = asked
+    did phase.Active = asked
+    did phase.Sealed = asked
+    did phase.Pending = asked
+    did phase.Safe = asked
 
 -- a line of the log
 pub log_line : (v : View) (l : ScriptLine) (a : Answer) (t : View) (c : Command) → l.command ≡ c → l.session ≡ 0 → DidLog v c a t → DidLogLine v l a t

@@ -12,17 +12,17 @@ use Rattle.erm_world.specs.declared.stops.Wait.TheVariants as wait
 use Rattle.erm_world.specs.Calls.{Becomes, DidNotSettle, DidSettle, IsInTheWay, IsSealedBelow, has_read, overwrites}
 use Rattle.erm_world.specs.World.{Finished, IsSession, Session, Stand, View, Work, phase_at, phase_of}
 use Rattle.erm_world.specs.World as world
-use Rattle.erm_good_report.specs.Phases.{Closes, HasNoSnapshot}
+use Rattle.erm_good_report.specs.Phases.{Closes}
 use Rattle.erm_lines.specs.Answers.{DidClose}
 use Rattle.erm_lines.specs.Executions.{DidEnd}
-use Rattle.erm_log_run.specs.Closing.{HasClosed, IsFlushedUp, IsLeast, NoSnapshots}
+use Rattle.erm_log_run.specs.Closing.{HasClosed, IsFlushedUp, IsLeast}
 
 -- sessions up to a seat were passed
 pub record Passed (v : View) (n : ℕ) (t : View) : Type 0 where
   pub opening : t.opening ≡ v.opening
   pub flushed : t.flushed ≡ v.flushed
   pub session : (seat : ℕ) → IsSession v seat → (t.session seat ≡ v.session seat) ⊎ ((phase_at v seat ≡ phase.Idle → ⊥) × (phase_at t seat ≡ phase.Idle))
-  pub active : (seat : ℕ) → IsSession v seat → seat ≤ n → phase_at v seat ≡ phase.Active → phase_at t seat ≡ phase.Idle
+  pub unsealed : (seat : ℕ) → IsSession v seat → seat ≤ n → (phase_at v seat ≡ phase.Sealed → ⊥) → phase_at t seat ≡ phase.Idle
   pub least : (seat stamp : ℕ) (w : Work) → IsSession v seat → seat ≤ n → (v.session seat).stand ≡ world.sealed w stamp → IsLeast v stamp → phase_at t seat ≡ phase.Idle
 
 pub none_passed : (v : View) → Passed v 0 v
@@ -30,7 +30,7 @@ none_passed v = record {
   opening = refl;
   flushed = refl;
   session = λ seat session. inl refl;
-  active = λ seat session few. absurd (let positive = session.0 in omega (arith, positive, few));
+  unsealed = λ seat session few. absurd (let positive = session.0 in omega (arith, positive, few));
   least = λ seat stamp w session few. absurd (let positive = session.0 in omega (arith, positive, few));
 }
 
@@ -38,16 +38,9 @@ pub all_passed : (v t : View) (n : ℕ) → v.opening.sessions ≡ n → Passed 
 all_passed v t n many p = record {
   opening = p.opening;
   session = p.session;
-  active = λ seat session. p.active seat session (let few = session.1 in omega (arith, few, many));
+  unsealed = λ seat session. p.unsealed seat session (let few = session.1 in omega (arith, few, many));
   least = λ seat stamp w session. p.least seat stamp w session (let few = session.1 in omega (arith, few, many));
 }
-
--- and none of them has a snapshot, where none had
-pub passed_plain : (v t : View) (n seat : ℕ) → NoSnapshots v → Passed v n t → IsSession v seat → HasNoSnapshot (phase_at t seat)
-passed_plain v t n seat plain p session = elim (p.session seat session) as (λ _. HasNoSnapshot (phase_at t seat)) [
-  | inl same ↦ subst (λ (s : Session). HasNoSnapshot (phase_of s.stand)) (sym same) (plain seat session)
-  | inr closed ↦ subst HasNoSnapshot (sym closed.1) tt
-]
 
 last : (p n : ℕ) → p ≤ n + 1 → (p ≤ n) ⊎ (p ≡ n + 1)
 last p n few = grind arith
@@ -58,8 +51,8 @@ passed_idle v t n p idle = record {
   opening = p.opening;
   flushed = p.flushed;
   session = p.session;
-  active = λ seat session few at. elim (last seat n few) [
-    | inl low ↦ p.active seat session low at
+  unsealed = λ seat session few at. elim (last seat n few) [
+    | inl low ↦ p.unsealed seat session low at
     | inr is ↦ subst (λ (q : ℕ). phase_at t q ≡ phase.Idle) (sym is) idle
   ];
   least = λ seat stamp w session few at low. elim (last seat n few) [
@@ -96,8 +89,8 @@ end_leaves v t seat a e = by_phase (phase_at v seat) a e.fits e.did
     by_phase phase.Sealed (answer.Committed stamp succ pred) fits did = settled_leaves v t seat (outcome.Committed did.0) did.4
     by_phase phase.Sealed (answer.Excluded stamp succ pred) fits did = settled_leaves v t seat (outcome.Excluded stamp succ pred) did
     by_phase phase.Sealed a fits did = absurd fits
-    by_phase phase.Pending a fits did = absurd did
-    by_phase phase.Safe a fits did = absurd did
+    by_phase phase.Pending a fits did = done_leaves v t seat _ refl did
+    by_phase phase.Safe a fits did = done_leaves v t seat _ refl did
 
 -- the next session was closed
 pub passed_closed : (v t u : View) (n : ℕ) → Passed v n t → (phase_at t (n + 1) ≡ phase.Idle → ⊥) → Leaves t (n + 1) u → Passed v (n + 1) u
@@ -105,8 +98,8 @@ passed_closed v t u n p busy l = record {
   opening = l.opening ∙ p.opening;
   flushed = l.flushed ∙ p.flushed;
   session = λ seat session. by_seat seat session;
-  active = λ seat session few at. elim (last seat n few) [
-    | inl low ↦ ap (λ (s : Session). phase_of s.stand) (l.others seat (λ is. omega (arith, low, is))) ∙ p.active seat session low at
+  unsealed = λ seat session few at. elim (last seat n few) [
+    | inl low ↦ ap (λ (s : Session). phase_of s.stand) (l.others seat (λ is. omega (arith, low, is))) ∙ p.unsealed seat session low at
     | inr is ↦ subst (λ (q : ℕ). phase_at u q ≡ phase.Idle) (sym is) l.idle
   ];
   least = λ seat stamp w session few at low. elim (last seat n few) [
@@ -181,10 +174,10 @@ passed_waits v t u n up p stop did = subst (Passed v (n + 1)) (sym did.0) waits
     stands_sealed : (t.session (n + 1)).stand ≡ world.sealed did.1.0 did.1.1
     stands_sealed = did.1.2
 
-    not_active : (seat : ℕ) → seat ≡ n + 1 → IsSession v seat → phase_at v seat ≡ phase.Active → ⊥
-    not_active seat is session at = elim (p.session seat session) [
-      | inl same ↦ (let no : phase.Active ≡ phase.Sealed = sym at ∙ sym (ap (λ (s : Session). phase_of s.stand) same) ∙ ap (λ (q : ℕ). phase_at t q) is ∙ ap phase_of stands_sealed in cc)
-      | inr closed ↦ (let no : phase.Idle ≡ phase.Sealed = sym closed.1 ∙ ap (λ (q : ℕ). phase_at t q) is ∙ ap phase_of stands_sealed in cc)
+    is_sealed : (seat : ℕ) → seat ≡ n + 1 → IsSession v seat → phase_at v seat ≡ phase.Sealed
+    is_sealed seat is session = elim (p.session seat session) as (λ _. phase_at v seat ≡ phase.Sealed) [
+      | inl same ↦ sym (ap (λ (s : Session). phase_of s.stand) same) ∙ ap (λ (q : ℕ). phase_at t q) is ∙ ap phase_of stands_sealed
+      | inr closed ↦ absurd (let no : phase.Idle ≡ phase.Sealed = sym closed.1 ∙ ap (λ (q : ℕ). phase_at t q) is ∙ ap phase_of stands_sealed in cc)
     ]
 
     Leasts : ℕ → Type 0
@@ -201,9 +194,9 @@ passed_waits v t u n up p stop did = subst (Passed v (n + 1)) (sym did.0) waits
       opening = p.opening;
       flushed = p.flushed;
       session = p.session;
-      active = λ seat session few at. elim (last seat n few) [
-        | inl low ↦ p.active seat session low at
-        | inr is ↦ absurd (not_active seat is session at)
+      unsealed = λ seat session few at. elim (last seat n few) [
+        | inl low ↦ p.unsealed seat session low at
+        | inr is ↦ absurd (at (is_sealed seat is session))
       ];
       least = λ seat stamp w session few at low. elim (last seat n few) [
         | inl le ↦ p.least seat stamp w session le at low

@@ -1,17 +1,13 @@
 -- Each turn of the end closes a session, where one isn't idle.
-use Rattle.std.proofs.Common.{inl, inr, ◌≡◌, ℕ, ◌+◌, ◌<◌, ◌≤◌, refl, ap, ◌∙◌, subst, arith, Bool, true, false, sym, List, Option, Some, None}
-use Rattle.std.specs.Prelude.{◌⊎◌, if◌then◌else◌}
+use Rattle.std.proofs.Common.{inl, inr, ◌≡◌, ℕ, ◌+◌, ◌<◌, ◌≤◌, refl, ap, ◌∙◌, subst, arith}
+use Rattle.std.specs.Prelude.{◌⊎◌}
 use Rattle.erm_model.specs.declared.outcome.Phase.TheVariants as phase
-use Rattle.erm_world.specs.Snapshots.{snapshot_not_idle}
+use Rattle.erm_world.specs.Snapshots.{snapshot_not_idle, snapshot_not_sealed}
 use Rattle.erm_world.specs.World.{IsSession, Opening, Session, Stand, View, Work, phase_at, phase_of}
 use Rattle.erm_world.specs.World as world
-use Rattle.erm_lines.specs.Executions.{DidFlush, IsExecution, IsOpened, Move}
-use Rattle.erm_lines.specs.Laws.{ExecutionsTell}
-use Rattle.erm_lines.specs.Told.{TellsNow}
-use Rattle.erm_log_run.specs.Closing.{HasClosed, count_open, open_in, NoSnapshots}
+use Rattle.erm_lines.specs.Executions.{DidFlush}
+use Rattle.erm_log_run.specs.Closing.{HasClosed, count_open, open_in}
 use Rattle.erm_log_run.proofs.Counting.{count_down, count_less, count_most, least_upto, none_open, some_open}
-use Rattle.erm_good_report.specs.Phases.{HasNoSnapshot}
-use Rattle.erm_good_report.specs.Transactions.{Transaction}
 
 -- an idle session isn't counted, and one that isn't is
 idle_none : (s : Stand) → phase_of s ≡ phase.Idle → open_in s ≡ 0
@@ -26,7 +22,7 @@ none_idle (world.active w) is = absurd (omega (arith, is))
 none_idle (world.sealed w stamp) is = absurd (omega (arith, is))
 none_idle (world.snapshot s) is = absurd (omega (arith, is))
 
-module _ (n : ℕ) (v t : View) (many : v.opening.sessions ≡ n) (plain : NoSnapshots v) (did : HasClosed v t) where
+module _ (n : ℕ) (v t : View) (many : v.opening.sessions ≡ n) (did : HasClosed v t) where
   of : (q : ℕ) → 0 < q → q ≤ n → IsSession v q
   of q positive few = (positive, omega (arith, few, many))
 
@@ -43,22 +39,18 @@ module _ (n : ℕ) (v t : View) (many : v.opening.sessions ≡ n) (plain : NoSna
   closed_at p positive few idle busy =
       count_down n p v.session t.session each positive few (let e = idle_none (t.session p).stand idle in omega (arith, e, busy))
 
-  -- one that isn't idle, and where none is sealed, is active
-  is_active : (s : Stand) → HasNoSnapshot (phase_of s) → 0 < open_in s → ((seen : ℕ) (w : Work) → s ≡ world.sealed w seen → ⊥) → phase_of s ≡ phase.Active
-  is_active world.idle no_snapshot busy none = absurd (omega (arith, busy))
-  is_active (world.active w) no_snapshot busy none = refl
-  is_active (world.sealed w stamp) no_snapshot busy none = absurd (none stamp w refl)
-  is_active (world.snapshot s) no_snapshot busy none = absurd (no_snapshot_of s.is_safe no_snapshot)
-    where
-      no_snapshot_of : (b : Bool) → HasNoSnapshot (if b then phase.Safe else phase.Pending) → ⊥
-      no_snapshot_of true plain = plain
-      no_snapshot_of false plain = plain
+  -- where none stands sealed, no phase is that of one
+  not_sealed : (s : Stand) → ((seen : ℕ) (w : Work) → s ≡ world.sealed w seen → ⊥) → phase_of s ≡ phase.Sealed → ⊥
+  not_sealed world.idle none is = cc
+  not_sealed (world.active w) none is = cc
+  not_sealed (world.sealed w stamp) none is = none stamp w refl
+  not_sealed (world.snapshot s) none is = snapshot_not_sealed s is
 
   pub one_less : 0 < count_open n v.session → count_open n t.session < count_open n v.session
   one_less some = elim (least_upto n v.session) [
     | inl none ↦ (let found = some_open n v.session some in
         closed_at found.seat found.positive found.few
-        (did.active found.seat (of found.seat found.positive found.few) (is_active (v.session found.seat).stand (plain found.seat (of found.seat found.positive found.few)) found.busy (λ seen w is. none found.seat seen w found.positive found.few is)))
+        (did.unsealed found.seat (of found.seat found.positive found.few) (not_sealed (v.session found.seat).stand (λ seen w is. none found.seat seen w found.positive found.few is)))
         found.busy)
     | inr l ↦ closed_at l.seat l.positive l.few
         (did.least l.seat l.stamp l.work (of l.seat l.positive l.few) l.sealed (λ q seen w session at. l.least q seen w session.0 (let few = session.1 in omega (arith, few, many)) at))
@@ -66,10 +58,10 @@ module _ (n : ℕ) (v t : View) (many : v.opening.sessions ≡ n) (plain : NoSna
   ]
 
 -- so many turns as there are sessions suffice
-pub turn_taken : (n turns : ℕ) (v t : View) → v.opening.sessions ≡ n → NoSnapshots v → HasClosed v t → count_open n v.session + turns ≤ n → turns < n → count_open n t.session + (turns + 1) ≤ n
-turn_taken n turns v t many plain did before more = elim (some_or (count_open n v.session)) [
-  | inl some ↦ (let less = one_less n v t many plain did some in omega (arith, less, before))
-  | inr none ↦ (let less = no_more n v t many plain did in omega (arith, less, none, more))
+pub turn_taken : (n turns : ℕ) (v t : View) → v.opening.sessions ≡ n → HasClosed v t → count_open n v.session + turns ≤ n → turns < n → count_open n t.session + (turns + 1) ≤ n
+turn_taken n turns v t many did before more = elim (some_or (count_open n v.session)) [
+  | inl some ↦ (let less = one_less n v t many did some in omega (arith, less, before))
+  | inr none ↦ (let less = no_more n v t many did in omega (arith, less, none, more))
 ]
   where
     some_or : (k : ℕ) → (0 < k) ⊎ (k ≡ 0)
@@ -89,33 +81,6 @@ none_left n k v counted all = omega (arith, counted, all)
 
 pub first_count : (n : ℕ) (v : View) → count_open n v.session + 0 ≤ n
 first_count n v = let most = count_most n v.session in omega (arith, most)
-
--- what is told of a session is no snapshot
-tells_plain : (seat : ℕ) (current : Option Transaction) (stand : Stand) → TellsNow seat current stand → HasNoSnapshot (phase_of stand)
-tells_plain seat current world.idle tells = tt
-tells_plain seat current (world.active w) tells = tt
-tells_plain seat current (world.sealed w stamp) tells = tt
-tells_plain seat None (world.snapshot s) tells = absurd tells
-tells_plain seat (Some t) (world.snapshot s) tells = absurd tells
-
-pub told_plain : ExecutionsTell → (v t : View) → IsOpened v → t.opening ≡ v.opening → (moves : List Move) → IsExecution v moves t → NoSnapshots t
-told_plain tell v t opened same moves executed seat session =
-    let before = subst (λ (o : Opening). (0 < seat) × (seat ≤ o.sessions)) same session in
-    tells_plain seat _ (t.session seat).stand (tell v t moves opened executed seat before).0.now
-
--- neither a close nor a flush begins a snapshot
-pub closed_plain : (v t : View) → NoSnapshots v → HasClosed v t → NoSnapshots t
-closed_plain v t plain did seat session =
-    let before = subst (λ (o : Opening). (0 < seat) × (seat ≤ o.sessions)) did.opening session in
-    elim (did.session seat before) as (λ _. HasNoSnapshot (phase_at t seat)) [
-      | inl same ↦ subst (λ (s : Session). HasNoSnapshot (phase_of s.stand)) (sym same) (plain seat before)
-      | inr closed ↦ subst HasNoSnapshot (sym closed.1) tt
-    ]
-
-pub flushed_plain : (v t : View) → NoSnapshots v → DidFlush v t → NoSnapshots t
-flushed_plain v t plain did seat session =
-    let before = subst (λ (o : Opening). (0 < seat) × (seat ≤ o.sessions)) did.opening session in
-    subst (λ (s : Session). HasNoSnapshot (phase_of s.stand)) (sym (did.session seat before)) (plain seat before)
 
 -- a flush leaves idle sessions so
 pub idle_after : (v t : View) → DidFlush v t → ((seat : ℕ) → IsSession v seat → phase_at v seat ≡ phase.Idle) → (seat : ℕ) → IsSession t seat → phase_at t seat ≡ phase.Idle

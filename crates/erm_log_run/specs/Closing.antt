@@ -1,12 +1,12 @@
 -- The end of a run: which sessions were closed, and how.
 use Rattle.std.specs.Prelude.{◌≡◌, ℕ, zero, suc, ◌+◌, ◌==◌, ◌<◌, ◌≤◌, ◌⊎◌, if◌then◌else◌, List, [], ◌∷◌, length, slice_index_or, Option, Some, None}
 use Rattle.std.specs.List.{All}
-use Rattle.erm_model.specs.declared.outcome.Phase.TheVariants.{Active, Idle}
+use Rattle.erm_model.specs.declared.outcome.Phase.TheVariants.{Idle, Sealed}
 use Rattle.erm_model.specs.Member.{◌∈◌}
 use Rattle.erm_report.specs.declared.answer.Answer.{Answer}
 use Rattle.erm_world.specs.World.{IsSession, Session, Stand, View, Work, phase_at}
 use Rattle.erm_world.specs.World as world
-use Rattle.erm_good_report.specs.Phases.{Closed, HasNoSnapshot}
+use Rattle.erm_good_report.specs.Phases.{Closed}
 use Rattle.erm_lines.specs.Executions.{IsExecution, IsLast, Move, close, closed_in, flush, line, log}
 
 -- the answer with which moves close a session, if they do
@@ -42,19 +42,15 @@ IsLeast v stamp = (seat seen : ℕ) (w : Work) → IsSession v seat → (v.sessi
 abbrev pub IsFlushedUp : View → Type 0
 IsFlushedUp v = (seat stamp : ℕ) (w : Work) → IsSession v seat → (v.session seat).stand ≡ world.sealed w stamp → IsLeast v stamp → stamp ≤ v.flushed
 
--- no session has a snapshot
-abbrev pub NoSnapshots : View → Type 0
-NoSnapshots v = (seat : ℕ) → IsSession v seat → HasNoSnapshot (phase_at v seat)
-
 -- where no session is left that isn't idle, all of the log is flushed
 abbrev pub IsFlushedWhenIdle : View → Type 0
 IsFlushedWhenIdle v = ((seat : ℕ) → IsSession v seat → phase_at v seat ≡ Idle) → v.flushed ≡ v.tail
 
--- Sessions stay as they are, or are closed. One that was active is, and the one that was sealed with the least stamp.
+-- Sessions stay as they are, or are closed. Each that wasn't sealed is idle then, and so is the one that was sealed with the least stamp.
 pub record HasClosed (v t : View) : Type 0 where
   pub opening : t.opening ≡ v.opening
   pub session : (seat : ℕ) → IsSession v seat → (t.session seat ≡ v.session seat) ⊎ ((phase_at v seat ≡ Idle → ⊥) × (phase_at t seat ≡ Idle))
-  pub active : (seat : ℕ) → IsSession v seat → phase_at v seat ≡ Active → phase_at t seat ≡ Idle
+  pub unsealed : (seat : ℕ) → IsSession v seat → (phase_at v seat ≡ Sealed → ⊥) → phase_at t seat ≡ Idle
   pub least : (seat stamp : ℕ) (w : Work) → IsSession v seat → (v.session seat).stand ≡ world.sealed w stamp → IsLeast v stamp → phase_at t seat ≡ Idle
 
 -- how many sessions up to a number aren't idle

@@ -8,7 +8,7 @@ ghost use Rattle.erm_world.specs.World.{IsSession, View, phase_at};
 ghost use Rattle.erm_lines.specs.Executions.{DidFlush};
 ghost use Rattle.erm_summary.specs.Told.{closed_of};
 ghost use Rattle.erm_crash.specs.Kept.{LeavesLog};
-ghost use Rattle.erm_log_run.specs.Closing.{HasClosed, IsClosing, IsFlushedUp, IsFlushedWhenIdle, NoSnapshots, closes_from};
+ghost use Rattle.erm_log_run.specs.Closing.{HasClosed, IsClosing, IsFlushedUp, IsFlushedWhenIdle, closes_from};
 ghost use Rattle.erm_log_run.specs.Keeping.{CountsFaults, IsHeld, Keeps, keeper_of};
 ghost use Rattle.erm_log_run.specs.Runs.{ClosesOnFault, FlushesOnFault};
 ghost use Rattle.erm_log_run.specs.Saving.{RemovesTo};
@@ -21,11 +21,12 @@ use erm_model::{Phase, Seat};
 use erm_outside::Disk;
 use erm_report::Answer;
 use erm_summary::ClosedSession;
-use erm_world::{RowWorld, ScriptWorld};
+use erm_world::{SafeWorld, ScriptWorld};
 use std::alloc::{AllocError, Global};
 
-/// Closes each session that isn't idle: aborts its transaction where it is active, and decides it where it is sealed. Then all of the
-/// log is flushed. It answers each session's close by its seat, from 1, or `None` where it was idle.
+/// Closes each session that isn't idle: aborts its transaction where it is active, ends its snapshot where it has one, which is told as
+/// aborted too, and decides its transaction where it is sealed. Then all of the log is flushed. It answers each session's close by its seat,
+/// from 1, or `None` where it was idle.
 ///
 /// A sealed transaction is decided once none is in its way. In whichever order they are decided, each ends alike: as in that of their
 /// stamps (`sessions_close_alike`).
@@ -38,7 +39,6 @@ pub fn close_all<W: ScriptWorld, D: Disk>(
     requires stands { W.stands world.old }
     requires law { SameLaw W.law sound_law }
     requires sessions { (W.view world.old).opening.sessions ≡ sessions }
-    requires plain { NoSnapshots (W.view world.old) }
     requires held { IsHeld W.rows_law.meets (keeper_of (W.log world.old) store.old (D.told store.old.disk)) }
     ensures stands { W.stands world.new }
     ensures closing { IfOk result (λ ends. IsClosing (W.view world.old) sessions ends.items (W.view world.new)) }
@@ -102,11 +102,10 @@ fn flush_up<W: ScriptWorld, D: Disk>(world: &mut W, store: &mut Store<D>) -> Res
 }
 
 // Closes each session that isn't idle, by seat, but for those that wait.
-fn close_open<W: RowWorld>(world: &mut W, sessions: Seat, ends: &mut Vec<Option<Answer>>)
+fn close_open<W: SafeWorld>(world: &mut W, sessions: Seat, ends: &mut Vec<Option<Answer>>)
     requires stands { W.stands world.old }
     requires law { SameLaw W.law sound_law }
     requires sessions { (W.view world.old).opening.sessions ≡ sessions }
-    requires plain { NoSnapshots (W.view world.old) }
     requires up { IsFlushedUp (W.view world.old) }
     requires ends { length ends.old.items ≡ sessions }
     ensures stands { W.stands world.new }

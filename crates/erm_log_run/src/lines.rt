@@ -21,11 +21,11 @@ use erm_model::Receipt;
 use erm_outside::Disk;
 use erm_report::Answer;
 use erm_script::{Command, ScriptLine};
-use erm_world::{RowWorld, ScriptWorld};
+use erm_world::{SafeWorld, ScriptWorld};
 use std::alloc::{AllocError, Global};
 
 // Runs one line of a session, which keeps up its receipt. `Err` where memory ran out.
-fn session_line<W: RowWorld>(
+fn session_line<W: SafeWorld>(
     alloc: Global,
     world: &mut W,
     line: &ScriptLine,

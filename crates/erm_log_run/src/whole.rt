@@ -60,7 +60,6 @@ fn run_all<W: ScriptWorld, D: Disk>(
     ensures counts { CountsFaults result (D.faults store.old.disk) (D.faults store.new.disk) }
     ensures starved { WhereStarved result (Starves W.rows_law.meets (W.view world.old) script.now (keeper_of (W.log world.old) store.old (D.told store.old.disk)) (D.told store.new.disk)) }
 {
-    erm_told::executions_tell_sessions();
     let mut receipts = no_receipts(alloc, sessions)?;
     answer_all(alloc, world, store, script, &mut receipts, answers)?;
     close_all(alloc, world, store, sessions)
@@ -147,13 +146,16 @@ pub fn run_script<W: ScriptWorld, D: Disk>(
     erm_told::runs_close_sessions();
     erm_told::runs_have_stamps();
     erm_told_order::runs_have_snapshots();
-    erm_told_order::runs_are_serial();
+    erm_causes::runs_have_safe_snapshots();
+    erm_causes::runs_are_serial_with_snapshots();
+    erm_core_ssn::serial_order_is_unique();
     erm_causes::runs_have_causes();
     erm_causes::runs_refuse_with_cause();
     erm_tight::runs_have_tight_windows();
     erm_told::parts_have_phases();
     erm_told::parts_have_stamps();
     erm_told_order::parts_have_snapshots();
+    erm_causes::parts_have_safe_snapshots();
     erm_causes::parts_have_causes();
     erm_causes::parts_refuse_with_cause();
     erm_summary::summaries_are_good();

@@ -10,9 +10,10 @@ use Rattle.erm_world.specs.Face.{Goes, Grows, ends, same, works}
 use Rattle.erm_world.specs.Going.{Extends, found_by}
 use Rattle.erm_world.specs.Onward.{extends_then}
 use Rattle.erm_world.specs.Safe.{with_snapshot}
-use Rattle.erm_world.specs.World.{Fate, Finished, IsCurrent, IsSession, Opening, Session, Snapshot, Stand, View, Work, begun, claims_in, claims_upto, made_in, made_upto, phase_of, stamp_of, work_of}
+use Rattle.erm_world.specs.World.{Fate, Finished, IsCurrent, Opening, Session, Snapshot, Stand, View, Work, begun, claims_in, claims_upto, made_in, made_upto, stamp_of, work_of}
 use Rattle.erm_world.specs.World as world
 use Rattle.erm_world.proofs.Lists.{∈-after, ∈-before}
+use Rattle.erm_safe_world.specs.Moves.{MovesOn}
 use Rattle.erm_beside.specs.Later.{IsLater, StaysSealed, WentOn}
 use Rattle.erm_lone.specs.Later.{EndsIn, IsLaterWorld}
 use Rattle.erm_lone.specs.Within.{extends_itself, later_itself, world_itself}
@@ -208,9 +209,9 @@ world_seals v t seat stamp w stand did =
     }
 
 -- what all may end in they might before
-pub ends_onward : (law : Law) (v t f : View) (seat : ℕ) → IsLaterWorld v t → EndsIn law t seat f → EndsIn law v seat f
-ends_onward law v t f seat went (session, later, serializable) =
-    ((session.0, subst (λ (o : Opening). seat ≤ o.sessions) went.opening session.1), world_then v t f went later, serializable)
+pub ends_onward : (law : Law) (v t f : View) (seat : ℕ) → IsLaterWorld v t → MovesOn v f → EndsIn law t seat f → EndsIn law v seat f
+ends_onward law v t f seat went moves (session, later, serializable, on) =
+    ((session.0, subst (λ (o : Opening). seat ≤ o.sessions) went.opening session.1), world_then v t f went later, serializable, moves)
 
 -- SUMS over all sessions.
 pub claims_up : (n : ℕ) (f g : ℕ → Session) → ((q : ℕ) → claims_in (f q) ≤ claims_in (g q)) → claims_upto n f ≤ claims_upto n g

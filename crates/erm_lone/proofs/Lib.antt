@@ -2,3 +2,4 @@ pub mod Leaves
 pub mod Later
 pub mod Meets
 pub mod Moves
+pub mod Watching

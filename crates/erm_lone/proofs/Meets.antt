@@ -12,7 +12,7 @@ use Rattle.erm_world.specs.Face.{WasRefused}
 use Rattle.erm_world.specs.Going.{Extends, found_by}
 use Rattle.erm_world.specs.Laws.{IsCommitOf, IsSerializable, TellsCommits}
 use Rattle.erm_world.specs.Works.{claiming, is_claimed, reading}
-use Rattle.erm_world.specs.World.{Fate, Finished, Has, HasStamp, IsCurrent, IsSession, Opening, Session, View, Work, history_of, work_at}
+use Rattle.erm_world.specs.World.{Finished, Has, HasStamp, IsCurrent, IsSession, Opening, Session, View, Work, history_of, work_at}
 use Rattle.erm_world.specs.World as world
 use Rattle.erm_world.proofs.Lists.{∈-after, ∈-before}
 use Rattle.erm_beside.specs.Ends.{Aborted, MetBeside, WasNewer, WasOwned}
@@ -83,7 +83,7 @@ module _ (tells : (u : View) → TellsCommits u) (v f : View) (later : IsLaterWo
         is = one.is;
       })
 
-  stamp_below : (law : Law) (r : TransactionRecord) → IsSerializable law v → r ∈ history_of v → r.stamp < v.tail
+  pub stamp_below : (law : Law) (r : TransactionRecord) → IsSerializable law v → r ∈ history_of v → r.stamp < v.tail
   stamp_below law r lawful m =
       let one : IsCommitOf v r = (tells v).only r m in
       let g : Finished = record { work = one.work; fate = world.commits one.stamp one.succ one.pred } in

@@ -11,16 +11,18 @@ use Rattle.erm_world.specs.declared.stops.BeginStop.{BeginStop}
 use Rattle.erm_world.specs.declared.stops.BeginStop.TheVariants as begin
 use Rattle.erm_world.specs.declared.stops.Wait.{Wait}
 use Rattle.erm_world.specs.declared.stops.Wait.TheVariants as wait
-use Rattle.erm_world.specs.Calls.{DidAbort, DidBegin, DidNotClaim, DidNotMake, DidNotRead, DidNotSettle, DidSeal, DidSettle, IsDone, IsInTheWay, IsSealedBelow, MayNotBegin}
+use Rattle.erm_world.specs.Calls.{DidAbort, DidBegin, DidNotClaim, DidNotMake, DidNotRead, DidNotSettle, DidSeal, DidSettle, IsInTheWay, IsSealedBelow, MayNotBegin}
 use Rattle.erm_world.specs.Calls as calls
 use Rattle.erm_world.specs.Face.{Answered, WasRefused}
 use Rattle.erm_world.specs.Laws.{IsSerializable}
-use Rattle.erm_world.specs.World.{IsCurrent, IsSession, Session, Stand, View, Work, phase_at, phase_of, work_at, work_of}
+use Rattle.erm_world.specs.World.{IsCurrent, IsSession, Stand, View, Work, phase_at, phase_of, work_at, work_of}
 use Rattle.erm_world.specs.World as world
 use Rattle.erm_world.proofs.Txns.{stopped, went}
 use Rattle.erm_beside.specs.Calls.{After, DidBeginBeside, DidSettleBeside, IsAnother, MayNotBeginBeside, NotClaimedBeside, NotMadeBeside, NotReadBeside, NotSettledBeside, Passes, RefusedBeside}
 use Rattle.erm_beside.specs.Laws.{GoesOnward}
+use Rattle.erm_safe_world.specs.Moves.{MovesOn}
 use Rattle.erm_lone.specs.Later.{EndsIn, IsLaterWorld}
+use Rattle.erm_lone.specs.Moving.{WorldsMoveOn}
 use Rattle.erm_lone.proofs.Later.{ends_onward, world_aborts, world_begins, world_done, world_goes, world_same, world_seals}
 
 -- nothing happened between
@@ -36,32 +38,47 @@ active_with (world.active w) active = refl
 active_with (world.sealed w stamp) active = cc
 active_with (world.snapshot s) active = absurd (snapshot_not_active s active)
 
-idle_with : (stand : Stand) → phase_of stand ≡ Idle → stand ≡ world.idle
+pub idle_with : (stand : Stand) → phase_of stand ≡ Idle → stand ≡ world.idle
 idle_with world.idle idle = refl
 idle_with (world.active w) idle = cc
 idle_with (world.sealed w stamp) idle = cc
 idle_with (world.snapshot s) idle = absurd (snapshot_not_idle s idle)
 
+-- a call left a later world, which moved on
+pub record IsNext (v t : View) : Type 0 where
+  pub later : IsLaterWorld v t
+  pub moves : MovesOn v t
+
 -- what all may end in they might before
-pub onward : (law : Law) (v t : View) (seat : ℕ) → IsLaterWorld v t → GoesOnward seat seat (λ f. EndsIn law v seat f) (λ f. EndsIn law t seat f)
-onward law v t seat went = record { seat_is = refl; ends_so = λ f end. ends_onward law v t f seat went end }
+pub onward : WorldsMoveOn → (law : Law) (v t : View) (seat : ℕ) → IsNext v t → GoesOnward seat seat (λ f. EndsIn law v seat f) (λ f. EndsIn law t seat f)
+onward moving law v t seat next = record { seat_is = refl; ends_so = λ f end. ends_onward law v t f seat next.later (moving.goes_on v t f next.moves end.3) end }
 
 -- THE WORLD AFTER A CALL
-pub answered_later : (law : Law) (v t : View) (seat : ℕ) (event : Event) → phase_at v seat ≡ Active → Answered v seat event t → IsLaterWorld v t
-answered_later law v t seat event active did = world_goes v t seat (went law v seat event t active did).goes
+module _ (moving : WorldsMoveOn) where
+  pub next_same : (v t : View) → t ≡ v → IsNext v t
+  next_same v t is = record { later = world_same v t is; moves = moving.stays v t is }
 
-pub refused_later : (v t : View) (seat : ℕ) (asked : Asked) (why : RowStop) → phase_at v seat ≡ Active → WasRefused v seat asked why t → IsLaterWorld v t
-refused_later v t seat asked why active did = world_goes v t seat (stopped v seat asked why t active did).goes
+  answered_next : (law : Law) (v t : View) (seat : ℕ) (event : Event) → IsSession v seat → phase_at v seat ≡ Active → Answered v seat event t → IsNext v t
+  answered_next law v t seat event session active did = record {
+    later = world_goes v t seat (went law v seat event t active did).goes;
+    moves = moving.answers v t seat event session active did;
+  }
 
-pub called_later : {X : Type 0} (r : Result X RowStop) (law : Law) (v t : View) (seat : ℕ) (event : X → Event) (asked : Asked) → phase_at v seat ≡ Active
-    → IfOk r (λ x. Answered v seat (event x) t) → IfErr r (λ why. WasRefused v seat asked why t) → IsLaterWorld v t
-called_later (Ok x) law v t seat event asked active did was = answered_later law v t seat (event x) active did
-called_later (Err why) law v t seat event asked active did was = refused_later v t seat asked why active was
+  refused_next : (v t : View) (seat : ℕ) (asked : Asked) (why : RowStop) → phase_at v seat ≡ Active → WasRefused v seat asked why t → IsNext v t
+  refused_next v t seat asked why active did = record {
+    later = world_goes v t seat (stopped v seat asked why t active did).goes;
+    moves = moving.refuses v t seat asked why did;
+  }
 
-pub wrote_later : {X : Type 0} (r : Result X RowStop) (law : Law) (v t : View) (seat : ℕ) (event : Event) (asked : Asked) → phase_at v seat ≡ Active
-    → OnOk r (Answered v seat event t) → IfErr r (λ why. WasRefused v seat asked why t) → IsLaterWorld v t
-wrote_later (Ok x) law v t seat event asked active did was = answered_later law v t seat event active did
-wrote_later (Err why) law v t seat event asked active did was = refused_later v t seat asked why active was
+  pub called_next : {X : Type 0} (r : Result X RowStop) (law : Law) (v t : View) (seat : ℕ) (event : X → Event) (asked : Asked) → IsSession v seat → phase_at v seat ≡ Active
+      → IfOk r (λ x. Answered v seat (event x) t) → IfErr r (λ why. WasRefused v seat asked why t) → IsNext v t
+  called_next (Ok x) law v t seat event asked session active did was = answered_next law v t seat (event x) session active did
+  called_next (Err why) law v t seat event asked session active did was = refused_next v t seat asked why active was
+
+  pub wrote_next : {X : Type 0} (r : Result X RowStop) (law : Law) (v t : View) (seat : ℕ) (event : Event) (asked : Asked) → IsSession v seat → phase_at v seat ≡ Active
+      → OnOk r (Answered v seat event t) → IfErr r (λ why. WasRefused v seat asked why t) → IsNext v t
+  wrote_next (Ok x) law v t seat event asked session active did was = answered_next law v t seat event session active did
+  wrote_next (Err why) law v t seat event asked session active did was = refused_next v t seat asked why active was
 
 -- BEGIN
 pub begun_ok : (v t : View) (seat begin : ℕ) → DidBegin v seat begin t → DidBeginBeside seat begin v t
@@ -72,15 +89,17 @@ begun_err v t seat begin.NumbersEnd did = did
 begun_err v t seat (begin.LogEnd tail) did = did
 begun_err v t seat begin.Memory did = did
 
-not_begun : (v t : View) (seat : ℕ) (why : BeginStop) → MayNotBegin v seat why t → t ≡ v
+pub not_begun : (v t : View) (seat : ℕ) (why : BeginStop) → MayNotBegin v seat why t → t ≡ v
 not_begun v t seat begin.NumbersEnd did = did.0
 not_begun v t seat (begin.LogEnd tail) did = did.0
 not_begun v t seat begin.Memory did = did
 
-pub begins_later : (r : Result ℕ BeginStop) (v t : View) (seat : ℕ) → phase_at v seat ≡ Idle → IfOk r (λ begin. DidBegin v seat begin t) → IfErr r (λ why. MayNotBegin v seat why t) → IsLaterWorld v t
-begins_later (Ok begin) v t seat idle (few, room, is, now) was =
-    world_begins v t seat (world.begun (length (v.session seat).over + 1) begin) (idle_with (v.session seat).stand idle) now
-begins_later (Err why) v t seat idle did was = world_same v t (not_begun v t seat why was)
+pub begins_next : WorldsMoveOn → (r : Result ℕ BeginStop) (v t : View) (seat : ℕ) → phase_at v seat ≡ Idle → IfOk r (λ begin. DidBegin v seat begin t) → IfErr r (λ why. MayNotBegin v seat why t) → IsNext v t
+begins_next moving (Ok begin) v t seat idle did was = record {
+  later = world_begins v t seat (world.begun (length (v.session seat).over + 1) begin) (idle_with (v.session seat).stand idle) did.3;
+  moves = moving.begins v t seat begin did;
+}
+begins_next moving (Err why) v t seat idle did was = next_same moving v t (not_begun v t seat why was)
 
 -- A stamp is above 0.
 stamp_above : (law : Law) (v : View) (q : ℕ) (w : Work) (seen : ℕ) → IsSerializable law v → IsSession v q → (v.session q).stand ≡ world.sealed w seen → 0 < seen
@@ -150,16 +169,22 @@ settled_later : (v t : View) (seat : ℕ) (outcome : Outcome) → DidSettle v se
 settled_later v t seat (Committed r) (w, stamp, stand, ready, settled) = world_done v t seat w stamp (world.commits stamp r.succ r.pred) refl stand settled.0
 settled_later v t seat (Excluded at succ pred) (w, stamp, stand, ready, settled) = world_done v t seat w stamp (world.excluded stamp succ pred) refl stand settled.0
 
-pub settles_later : (r : Result Outcome Wait) (v t : View) (seat : ℕ) → IfOk r (λ outcome. DidSettle v seat outcome t) → IfErr r (λ why. DidNotSettle v seat why t) → IsLaterWorld v t
-settles_later (Ok outcome) v t seat did was = settled_later v t seat outcome did
-settles_later (Err why) v t seat did was = world_same v t was.0
+pub settles_next : WorldsMoveOn → (r : Result Outcome Wait) (v t : View) (seat : ℕ) → IsSession v seat → IfOk r (λ outcome. DidSettle v seat outcome t) → IfErr r (λ why. DidNotSettle v seat why t) → IsNext v t
+settles_next moving (Ok outcome) v t seat session did was = record { later = settled_later v t seat outcome did; moves = moving.settles v t seat outcome session did }
+settles_next moving (Err why) v t seat session did was = record { later = world_same v t was.0; moves = moving.not_settled v t seat why was }
 
 -- SEAL, ABORT
-pub seals_later : (v t : View) (seat stamp : ℕ) → phase_at v seat ≡ Active → DidSeal v seat stamp t → IsLaterWorld v t
-seals_later v t seat stamp active did = world_seals v t seat stamp (work_at v seat) (active_with (v.session seat).stand active) did
+pub seals_next : WorldsMoveOn → (v t : View) (seat stamp : ℕ) → IsSession v seat → phase_at v seat ≡ Active → DidSeal v seat stamp t → IsNext v t
+seals_next moving v t seat stamp session active did = record {
+  later = world_seals v t seat stamp (work_at v seat) (active_with (v.session seat).stand active) did;
+  moves = moving.seals v t seat stamp session active did;
+}
 
-pub aborts_later : (v t : View) (seat : ℕ) → phase_at v seat ≡ Active → DidAbort v seat t → IsLaterWorld v t
-aborts_later v t seat active did = world_aborts v t seat (work_at v seat) (active_with (v.session seat).stand active) did
+pub aborts_next : WorldsMoveOn → (v t : View) (seat : ℕ) → phase_at v seat ≡ Active → DidAbort v seat t → IsNext v t
+aborts_next moving v t seat active did = record {
+  later = world_aborts v t seat (work_at v seat) (active_with (v.session seat).stand active) did;
+  moves = moving.aborts v t seat did;
+}
 
 -- of what a call returned
 pub if_err : {X E : Type 0} (r : Result X E) (P Q : E → Type 0) → ((e : E) → P e → Q e) → IfErr r P → IfErr r Q

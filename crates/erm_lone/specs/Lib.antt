@@ -1,2 +1,3 @@
 pub mod Later
+pub mod Moving
 pub mod Within

@@ -8,6 +8,7 @@ use Rattle.erm_world.specs.Going.{Extends, found_by}
 use Rattle.erm_world.specs.Snapshots.{snapshot_not_active}
 use Rattle.erm_world.specs.World.{IsCurrent, IsSession, Opening, Session, Stand, View, Work, made_by_all, made_in, made_upto, phase_of, work_at, work_of}
 use Rattle.erm_world.specs.World as world
+use Rattle.erm_safe_world.specs.Moves.{MovesOn}
 use Rattle.erm_beside.specs.Laws.{IsSound, IsWithin}
 use Rattle.erm_beside.specs.Later.{IsLater, StaysSealed}
 use Rattle.erm_lone.specs.Later.{EndsIn, IsLaterWorld}
@@ -38,7 +39,7 @@ is_sound law v seat session serializable possible = record {
 
 -- EACH WORLD in which all may end.
 pub is_within : (law : Law) (v : View) (seat : ℕ) (f : View) → EndsIn law v seat f → IsWithin seat v f
-is_within law v seat f (session, later, serializable) = record {
+is_within law v seat f (session, later, serializable, moves) = record {
   session = (session.0, subst (λ (o : Opening). seat ≤ o.sessions) (sym later.opening) session.1);
   own = later.session seat;
   opening = later.opening;
@@ -78,6 +79,16 @@ later_itself s = record {
 pub world_itself : (v : View) → IsLaterWorld v v
 world_itself v = record { opening = refl; tail = omega arith; flushed = omega arith; session = λ q. later_itself (v.session q) }
 
+-- a world moves on to itself
+pub moves_itself : (v : View) → MovesOn v v
+moves_itself v = record {
+  opening = refl;
+  tail = omega arith;
+  kept = λ r m. m;
+  commits = λ r m. inl m;
+  works = λ seat w session working. inl (seat, w, session, working, refl);
+}
+
 -- all may end as they stand
 pub ends_itself : (law : Law) (v : View) (seat : ℕ) → IsSession v seat → IsSerializable law v → EndsIn law v seat v
-ends_itself law v seat session serializable = (session, world_itself v, serializable)
+ends_itself law v seat session serializable = (session, world_itself v, serializable, moves_itself v)

@@ -1,7 +1,8 @@
-//! A law of the definitions: it holds as it stands, and its function does nothing.
+//! Laws of the definitions: each holds as it stands, and its function does nothing.
 ghost use Rattle.std.specs.Prelude.{ℕ};
 ghost use Rattle.erm_world.specs.World.{IsSession, View};
 ghost use Rattle.erm_lone.specs.Later.{EndsIn};
+ghost use Rattle.erm_lone.specs.Moving.{WorldsMoveOn};
 
 use erm_world::RowWorld;
 
@@ -9,3 +10,13 @@ use erm_world::RowWorld;
 pub fn worlds_may_end_as_they_stand<W: RowWorld>()
     ensures { (w : W) (seat : ℕ) → W.stands w → IsSession (W.view w) seat → EndsIn W.law (W.view w) seat (W.view w) }
 {}
+
+/// A world moves on by each call of a session, and what a safe snapshot stands on stays.
+pub fn worlds_move_on()
+    ensures { WorldsMoveOn }
+{
+    erm_safe_world::calls_move_on();
+    erm_safe_world::refusals_move_on();
+    erm_safe_world::safe_stamps_stay_safe();
+    erm_safe_world::safe_snapshots_stay();
+}

@@ -8,7 +8,7 @@ use Rattle.erm_report.specs.declared.answer.Answer.{Answer}
 use Rattle.erm_script.specs.declared.script.Command.{Command}
 use Rattle.erm_script.specs.declared.script.Command.TheVariants as command
 use Rattle.erm_script.specs.declared.script.ScriptLine.{ScriptLine}
-use Rattle.erm_good_report.specs.Phases.{FitsPhase, phase_after, phase_of}
+use Rattle.erm_good_report.specs.Phases.{FitsPhase, FitsSnapshot, phase_after, phase_of}
 use Rattle.erm_good_report.specs.Transactions.{Said, said_of}
 use Rattle.erm_make.specs.Workload.{Request, numbered}
 use Rattle.erm_made.proofs.Turns.{Closing, IsUnsealed, Still, Turn, begin_turn, begins, commit_turn, flush_turn, get_turn, in_progress, is_stuck, put_turn, weight}
@@ -94,6 +94,7 @@ AreEach P before (l ∷ ls) (a ∷ answers) = P before l a × AreEach P (before 
 -- an answer fits, and is counted
 pub record IsCounted (before : List Said) (l : ScriptLine) (a : Answer) : Type 0 where
   pub fits : FitsPhase (phase_of l.session before) l.command a
+  pub looks : FitsSnapshot (phase_of l.session before) l.command a
   pub calm : is_stuck a ≡ false
 
 -- how many transactions the answers end
@@ -160,10 +161,10 @@ module _ (m : ℕ) where
         (λ o. absurd (⊎_elim (λ (below : s < s). omega (arith, below)) (λ (above : s + 1 ≤ s). omega (arith, above)) o)))
         w.2
 
-    commits : s < m → State m lo hi begun ended before → FitsPhase (phase_of s before) command.Commit a → is_stuck a ≡ false
+    commits : s < m → State m lo hi begun ended before → FitsPhase (phase_of s before) command.Commit a → FitsSnapshot (phase_of s before) command.Commit a → is_stuck a ≡ false
         → (s ≡ lo) × (lo < hi) × next (lo + 1) hi begun → Continues command.Commit → R
-    commits known st fits calm w go =
-        let closing : Closing (phase_of s before) a = commit_turn (phase_of s before) a (st.unsealed s) fits calm in
+    commits known st fits looks calm w go =
+        let closing : Closing (phase_of s before) a = commit_turn (phase_of s before) a (st.unsealed s) fits looks calm in
         go (lo + 1) hi begun
         (moves command.Commit s lo hi (lo + 1) hi begun begun ended before a known st closing.turn (omega arith) st.within (omega (arith, w.1))
         (λ k o another.
@@ -189,27 +190,28 @@ module _ (m : ℕ) where
         (moves command.Flush s lo hi lo hi begun begun ended before a known st still.turn (omega arith) st.within st.order (λ k o another. o) (λ o. still.same ∙ st.idle s o))
         w
 
-    pub step : (c : Command) → s < m → WalksOn c s lo hi begun next → State m lo hi begun ended before → FitsPhase (phase_of s before) c a → is_stuck a ≡ false → Continues c → R
-    step command.Begin known w st fits calm go =
+    pub step : (c : Command) → s < m → WalksOn c s lo hi begun next → State m lo hi begun ended before → FitsPhase (phase_of s before) c a → FitsSnapshot (phase_of s before) c a → is_stuck a ≡ false → Continues c → R
+    step command.Begin known w st fits looks calm go =
         ⊎_elim
         (λ (q : (s ≡ hi) × (lo ≡ 1) × next lo (hi + 1) (begun + 1)). begin_next known st fits calm q go)
         (λ (q : (lo ≡ hi) × (s ≡ 1) × next s (s + 1) (begun + 1)). begin_anew known st fits calm q go)
         w
-    step command.Commit known w st fits calm go = commits known st fits calm w go
-    step (command.Get table key) known w st fits calm go =
+    step command.Commit known w st fits looks calm go = commits known st fits looks calm w go
+    step (command.Get table key) known w st fits looks calm go =
         accesses (command.Get table key) refl known st (get_turn table key (phase_of s before) a (st.unsealed s) fits) w go
-    step (command.Put table key value) known w st fits calm go =
+    step (command.Put table key value) known w st fits looks calm go =
         accesses (command.Put table key value) refl known st (put_turn table key value (phase_of s before) a (st.unsealed s) fits) (w.0, w.1, w.3) go
-    step command.Flush known w st fits calm go = flushes known st fits w go
-    step (command.Del table key) known w st fits calm go = absurd w
-    step (command.Next table from) known w st fits calm go = absurd w
-    step (command.Scan table low high) known w st fits calm go = absurd w
-    step (command.Tidy table key) known w st fits calm go = absurd w
-    step command.Seal known w st fits calm go = absurd w
-    step command.Settle known w st fits calm go = absurd w
-    step command.Abort known w st fits calm go = absurd w
-    step command.Durable known w st fits calm go = absurd w
-    step command.Checkpoint known w st fits calm go = absurd w
+    step command.Flush known w st fits looks calm go = flushes known st fits w go
+    step (command.Del table key) known w st fits looks calm go = absurd w
+    step (command.Next table from) known w st fits looks calm go = absurd w
+    step (command.Scan table low high) known w st fits looks calm go = absurd w
+    step (command.Tidy table key) known w st fits looks calm go = absurd w
+    step command.Seal known w st fits looks calm go = absurd w
+    step command.Settle known w st fits looks calm go = absurd w
+    step command.Abort known w st fits looks calm go = absurd w
+    step command.Durable known w st fits looks calm go = absurd w
+    step command.Safe known w st fits looks calm go = absurd w
+    step command.Checkpoint known w st fits looks calm go = absurd w
 
 -- all sessions are idle then, and so many transactions have ended
 pub record IsOver (total ended : ℕ) (said : List Said) (answers : List Answer) : Type 0 where
@@ -228,7 +230,7 @@ module _ (m total : ℕ) where
   goes (r ∷ rs) (a ∷ answers) lo hi begun ended n before w st counted =
       let one : Said = said_one r.0 r.1 a in
       let rest : List Said = said_of (numbered (n + 1) rs) answers in
-      step m (IsOver total ended (before ++ one ∷ rest) (a ∷ answers)) (λ l h b. Walks m total l h b rs) r.0 lo hi begun ended before a r.1 w.0 w.1 st counted.0.fits counted.0.calm
+      step m (IsOver total ended (before ++ one ∷ rest) (a ∷ answers)) (λ l h b. Walks m total l h b rs) r.0 lo hi begun ended before a r.1 w.0 w.1 st counted.0.fits counted.0.looks counted.0.calm
       (λ l h b later more.
       let over = goes rs answers l h b (ended + weight a) (n + 1) (before ++ one ∷ []) more later counted.1 in
       record { idle = λ k. ap (λ said. phase_of k said) (sym (append_assoc before (one ∷ []) rest)) ∙ over.idle k; all = omega (arith, over.all) })

@@ -1,14 +1,15 @@
 -- The counts of a report's lines are those of its answers, where no session is closed at the end.
-use Rattle.std.proofs.Common.{◌≡◌, ℕ, zero, suc, ◌+◌, Bool, true, false, cond, not, List, [], ◌∷◌, ◌++◌, length, map, Option, Some, take, refl, sym, ap, ◌∙◌, subst, append_assoc, append-nil, arith}
+use Rattle.std.proofs.Common.{◌≡◌, ℕ, zero, suc, ◌+◌, Bool, true, false, nat_lt, cond, not, List, [], ◌∷◌, ◌++◌, length, map, Option, Some, take, refl, sym, ap, ◌∙◌, subst, append_assoc, append-nil, arith}
 use Rattle.std.specs.Prelude.{IfSome}
 use Rattle.std.specs.List.{filter, range_with_len, slice_get}
+use Rattle.erm_model.specs.declared.limits.TheConstants.{LOG_END}
 use Rattle.erm_model.specs.declared.map.Pair.{Pair}
 use Rattle.erm_model.specs.Committed.{Committed}
 use Rattle.erm_report.specs.declared.answer.Answer.{Answer}
 use Rattle.erm_report.specs.declared.line.Line.{Line}
 use Rattle.erm_report.specs.declared.line.Line.TheVariants as line
 use Rattle.erm_script.specs.declared.script.ScriptLine.{ScriptLine}
-use Rattle.erm_good_report.specs.GoodReport.{Report, answer_lines, close_line, commit_line, report_lines}
+use Rattle.erm_good_report.specs.GoodReport.{Report, answer_lines, close_line, line_in_order, order_line, report_lines}
 use Rattle.erm_good_report.specs.Opening.{Mode, Opening}
 use Rattle.erm_good_report.specs.Phases.{Closed, is_idle, phase_of}
 use Rattle.erm_good_report.specs.Refusals.{moment_at}
@@ -56,9 +57,19 @@ count_answers p (l ∷ script) (a ∷ answers) same =
     count-cons (tells p) (line.Answer l.line a) (answer_lines script answers)
     ∙ ap (λ n. cond (p a) 1 0 + n) (count_answers p script answers (omega (arith, same))) ∙ sym (count-cons p a answers)
 
-no_commit_tells : (p : Answer → Bool) (names : List (List ℕ)) (commits : List Committed) (rest : List Line) → count (tells p) (map (commit_line names) commits ++ rest) ≡ count (tells p) rest
+order_tells : (p : Answer → Bool) (b : Bool) (names : List (List ℕ)) (c : Committed) → tells p (line_in_order b names c) ≡ false
+order_tells p true names c = refl
+order_tells p false names c = refl
+
+no_commit_tells : (p : Answer → Bool) (names : List (List ℕ)) (commits : List Committed) (rest : List Line) → count (tells p) (map (order_line names) commits ++ rest) ≡ count (tells p) rest
 no_commit_tells p names [] rest = refl
-no_commit_tells p names (c ∷ commits) rest = no_commit_tells p names commits rest
+no_commit_tells p names (c ∷ commits) rest =
+    omega (
+      arith,
+      count-cons (tells p) (order_line names c) (map (order_line names) commits ++ rest),
+      ap {B = ℕ} (λ b. cond b 1 0) (order_tells p (nat_lt c.stamp LOG_END) names c),
+      no_commit_tells p names commits rest,
+    )
 
 no_pair_tells : (p : Answer → Bool) (pairs : List Pair) (rest : List Line) → count (tells p) (map line.Pair pairs ++ rest) ≡ count (tells p) rest
 no_pair_tells p [] rest = refl
@@ -67,7 +78,7 @@ no_pair_tells p (pair ∷ pairs) rest = no_pair_tells p pairs rest
 none_after : (p : Answer → Bool) (names : List (List ℕ)) (r : Report) → r.closed ≡ [] → count (tells p) (after_answers names r) ≡ 0
 none_after p names r none =
     let pairs : List Line = map line.Pair r.pairs ++ line.End ∷ [] in
-    let P : List Closed → Type 0 = λ closed. count (tells p) (map (close_line names) closed ++ (line.Order (length r.order) ∷ map (commit_line names) r.order ++ (line.Map (length r.pairs) ∷ pairs))) ≡ 0 in
+    let P : List Closed → Type 0 = λ closed. count (tells p) (map (close_line names) closed ++ (line.Order (length r.order) ∷ map (order_line names) r.order ++ (line.Map (length r.pairs) ∷ pairs))) ≡ 0 in
     let base : P [] = no_commit_tells p names r.order (line.Map (length r.pairs) ∷ pairs) ∙ no_pair_tells p r.pairs (line.End ∷ []) in
     subst P (sym none) base
 
@@ -135,6 +146,7 @@ module _ (mode : Mode) (opening : Opening) (transactions sessions : ℕ) (lines 
       let decided : count leaves_open answers ≡ 0 = omega (arith, parts leaves_open, is.decided) in
       record {
         fits = is.good.owes.phases.fits i l a at told;
+        looks = is.good.owes.phases.snapshots i l a at told;
         calm = not_stuck (moment_at mode opening script answers all i l) a (is.good.owes.refusals.each i l a at told).log (isnt_such leaves_open answers i a decided told);
       }
 

@@ -66,8 +66,8 @@ refused_get : (table key : ℕ) (phase : Phase) → IfSome (refusal_of phase (co
 refused_get table key Idle = silent answer.NoTransaction refl refl refl
 refused_get table key Active = tt
 refused_get table key Sealed = silent answer.IsSealed refl refl refl
-refused_get table key Pending = silent answer.NoTransaction refl refl refl
-refused_get table key Safe = silent answer.NoTransaction refl refl refl
+refused_get table key Pending = silent answer.NotSafe refl refl refl
+refused_get table key Safe = tt
 
 answers_get : (table key : ℕ) (a : Answer) → IsAnswerTo (command.Get table key) a → IsSilent a
 answers_get table key (answer.Began begin) is = absurd is
@@ -111,7 +111,7 @@ refused_commit Idle = refl
 refused_commit Active = tt
 refused_commit Sealed = refl
 refused_commit Pending = refl
-refused_commit Safe = refl
+refused_commit Safe = tt
 
 answers_commit : (a : Answer) → IsAnswerTo command.Commit a → meets_newer a ≡ false
 answers_commit (answer.Newer stamp) is = absurd is
@@ -296,7 +296,7 @@ module _ (m total : ℕ) where
       let here = each.0 in
       let go = goes m next r.0 lo hi begun ended before a r.1 st fresh here.counted.fits here.counted.calm here.begins here.meets w.1 in
       let rest : count meets_newer answers ≡ 0 =
-      step m (count meets_newer answers ≡ 0) (λ l h b. IsFresh l h (before ++ said_one r.0 r.1 a ∷ []) × next l h b) r.0 lo hi begun ended before a r.1 w.0 go.1 st here.counted.fits here.counted.calm
+      step m (count meets_newer answers ≡ 0) (λ l h b. IsFresh l h (before ++ said_one r.0 r.1 a ∷ []) × next l h b) r.0 lo hi begun ended before a r.1 w.0 go.1 st here.counted.fits here.counted.looks here.counted.calm
       (λ l h b later more. none_in rs answers l h b (ended + weight a) (n + 1) (before ++ said_one r.0 r.1 a ∷ []) more.1 later more.0 each.1) in
       omega (arith, count-cons meets_newer a answers, ap {B = ℕ} (λ b. cond b 1 0) go.0, rest)
 
@@ -328,6 +328,7 @@ begin_above before a each = tt
 told_of_printed : (a : Answer) (P : ℕ → Type 0) → IfSome (stamp_printed a) P → IfSome (stamp_told a) P
 told_of_printed (answer.WaitSeat seat seen) P is = tt
 told_of_printed (answer.Newer stamp) P is = tt
+told_of_printed (answer.Unsafe seat stamp) P is = tt
 told_of_printed (answer.Durable stamp) P is = tt
 told_of_printed a P is = is
 

@@ -11,7 +11,7 @@ use Rattle.erm_model.proofs.Members.{none_in_nil, ∈-behind, ∈-push}
 use Rattle.erm_report.specs.declared.answer.Answer.{Answer}
 use Rattle.erm_report.specs.declared.answer.Answer.TheVariants as answer
 use Rattle.erm_script.specs.declared.script.Command.{Command}
-use Rattle.erm_good_report.specs.Phases.{asks_commit, phase_after, phase_of}
+use Rattle.erm_good_report.specs.Phases.{asks_commit, asks_safe, phase_after, phase_of}
 use Rattle.erm_good_report.specs.Refusals.{stamp_committed}
 use Rattle.erm_good_report.specs.Stamps.{begin_told, stamp_told}
 use Rattle.erm_good_report.specs.Transactions.{Aborts, Commits, Ending, Excludes, Progress, Said, Transaction, goes_on, heard, nothing, progress_of, with_ending, with_line}
@@ -52,6 +52,11 @@ begin_stays Q s asked answer.NotIdle p none is = is
 begin_stays Q s asked answer.NoTransaction p none is = is
 begin_stays Q s asked answer.IsSealed p none is = is
 begin_stays Q s asked answer.NotSealed p none is = is
+begin_stays Q s asked answer.ReadOnly p none is = is
+begin_stays Q s asked answer.NotSafe p none is = is
+begin_stays Q s asked (answer.Safe begin) p none is = is
+begin_stays Q s asked (answer.Unsafe seat stamp) p none is = tt
+begin_stays Q s asked answer.Ended p none is = tt
 begin_stays Q s asked a p none is = changed Q (with_line asked a) p.current (λ t. refl) is
 
 -- ---- a session in a transaction has one in progress
@@ -68,16 +73,17 @@ linked_changed change Sealed current is = tt
 linked_changed change Pending current is = tt
 linked_changed change Safe current is = tt
 
-linked_waiting : (sealed : Bool) (change : Transaction → Transaction) (phase : Phase) (current : Option Transaction) → IsLinked phase current
-    → IsLinked (cond sealed Sealed phase) (option_map change current)
-linked_waiting true change phase current is = tt
-linked_waiting false change phase current is = linked_changed change phase current is
+linked_waiting : (sealed pending : Bool) (change : Transaction → Transaction) (phase : Phase) (current : Option Transaction) → IsLinked phase current
+    → IsLinked (cond sealed Sealed (cond pending Pending phase)) (option_map change current)
+linked_waiting true pending change phase current is = tt
+linked_waiting false true change phase current is = tt
+linked_waiting false false change phase current is = linked_changed change phase current is
 
 linked_heard : (s : ℕ) (asked : Option Command) (a : Answer) (phase : Phase) (p : Progress) → IsLinked phase p.current → IsLinked (phase_after asked a phase) (heard s asked a p).current
 linked_heard s asked (answer.Began begin) phase p is = tt
 linked_heard s asked (answer.Sealed stamp) phase p is = tt
-linked_heard s asked (answer.WaitSeat seat seen) phase p is = linked_waiting (asks_commit asked) (with_line asked (answer.WaitSeat seat seen)) phase p.current is
-linked_heard s asked (answer.WaitRing flushed) phase p is = linked_waiting (asks_commit asked) (with_line asked (answer.WaitRing flushed)) phase p.current is
+linked_heard s asked (answer.WaitSeat seat seen) phase p is = linked_waiting (asks_commit asked) (asks_safe asked) (with_line asked (answer.WaitSeat seat seen)) phase p.current is
+linked_heard s asked (answer.WaitRing flushed) phase p is = linked_waiting (asks_commit asked) (asks_safe asked) (with_line asked (answer.WaitRing flushed)) phase p.current is
 linked_heard s asked (answer.Committed stamp succ pred) phase p is = tt
 linked_heard s asked (answer.Excluded stamp succ pred) phase p is = tt
 linked_heard s asked (answer.ExcludedEarly succ pred) phase p is = tt
@@ -88,6 +94,11 @@ linked_heard s asked answer.NotIdle phase p is = is
 linked_heard s asked answer.NoTransaction phase p is = is
 linked_heard s asked answer.IsSealed phase p is = is
 linked_heard s asked answer.NotSealed phase p is = is
+linked_heard s asked answer.ReadOnly phase p is = is
+linked_heard s asked answer.NotSafe phase p is = is
+linked_heard s asked (answer.Safe begin) phase p is = tt
+linked_heard s asked (answer.Unsafe seat stamp) phase p is = tt
+linked_heard s asked answer.Ended phase p is = tt
 linked_heard s asked a phase p is = linked_changed (with_line asked a) phase p.current is
 
 linked_from : (k : ℕ) (said : List Said) (phase : Phase) (p : Progress) → IsLinked phase p.current → IsLinked (fold (hears k) phase said) (fold (follows k) p said).current
@@ -140,6 +151,8 @@ below_heard bound s asked (answer.ExcludedEarly succ pred) p low is =
 below_heard bound s asked (answer.Owned seat number) p low is = let q = goes_on asked (answer.Owned seat number) p in below_ended bound Aborts q.over q.current tt is
 below_heard bound s asked (answer.Newer stamp) p low is = let q = goes_on asked (answer.Newer stamp) p in below_ended bound Aborts q.over q.current tt is
 below_heard bound s asked answer.Aborted p low is = below_ended bound Aborts p.over p.current tt is
+below_heard bound s asked (answer.Unsafe seat stamp) p low is = below_ended bound Aborts p.over p.current tt is
+below_heard bound s asked answer.Ended p low is = below_ended bound Aborts p.over p.current tt is
 below_heard bound s asked a p low is = is
 
 below_from : (bound k : ℕ) (said : List Said) (p : Progress) → IsAbove said bound → AreBelow bound p.over → AreBelow bound (fold (follows k) p said).over

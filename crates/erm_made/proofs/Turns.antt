@@ -7,7 +7,7 @@ use Rattle.erm_report.specs.declared.answer.Answer.{Answer}
 use Rattle.erm_report.specs.declared.answer.Answer.TheVariants as answer
 use Rattle.erm_script.specs.declared.script.Command.{Command}
 use Rattle.erm_script.specs.declared.script.Command.TheVariants as command
-use Rattle.erm_good_report.specs.Phases.{FitsPhase, IsAnswerTo, phase_after}
+use Rattle.erm_good_report.specs.Phases.{FitsPhase, FitsSnapshot, IsAnswerTo, phase_after}
 use Rattle.erm_good_report.specs.Refusals.{HasLogCause, Moment}
 use Rattle.erm_made.specs.Counts.{is_commit, is_exclusion, leaves_open, meets_newer, meets_owner}
 
@@ -47,6 +47,11 @@ pub record Turn (c : Command) (phase : Phase) (a : Answer) : Type 0 where
 -- no session's numbers end
 pub not_stuck : (m : Moment) (a : Answer) → HasLogCause m a → leaves_open a ≡ false → is_stuck a ≡ false
 not_stuck m (answer.Began x) cause calm = calm
+not_stuck m (answer.Safe x) cause calm = calm
+not_stuck m (answer.Unsafe x y) cause calm = calm
+not_stuck m answer.Ended cause calm = calm
+not_stuck m answer.ReadOnly cause calm = calm
+not_stuck m answer.NotSafe cause calm = calm
 not_stuck m (answer.Replied x) cause calm = calm
 not_stuck m (answer.Cut x) cause calm = calm
 not_stuck m (answer.Sealed x) cause calm = calm
@@ -81,6 +86,11 @@ not_stuck m answer.DiskFault cause calm = calm
 
 get_active : (table key : ℕ) (a : Answer) → IsAnswerTo (command.Get table key) a → Turn (command.Get table key) Active a
 get_active table key (answer.Began x) is = record { unsealed = tt; balance = refl }
+get_active table key (answer.Safe x) is = absurd is
+get_active table key (answer.Unsafe x y) is = absurd is
+get_active table key answer.Ended is = absurd is
+get_active table key answer.ReadOnly is = record { unsealed = tt; balance = refl }
+get_active table key answer.NotSafe is = record { unsealed = tt; balance = refl }
 get_active table key (answer.Replied x) is = record { unsealed = tt; balance = refl }
 get_active table key (answer.Cut x) is = record { unsealed = tt; balance = refl }
 get_active table key (answer.Sealed x) is = absurd is
@@ -113,6 +123,11 @@ get_active table key answer.DiskFault is = record { unsealed = tt; balance = ref
 
 put_active : (table key : ℕ) (value : List ℕ) (a : Answer) → IsAnswerTo (command.Put table key value) a → Turn (command.Put table key value) Active a
 put_active table key value (answer.Began x) is = record { unsealed = tt; balance = refl }
+put_active table key value (answer.Safe x) is = absurd is
+put_active table key value (answer.Unsafe x y) is = absurd is
+put_active table key value answer.Ended is = absurd is
+put_active table key value answer.ReadOnly is = record { unsealed = tt; balance = refl }
+put_active table key value answer.NotSafe is = record { unsealed = tt; balance = refl }
 put_active table key value (answer.Replied x) is = record { unsealed = tt; balance = refl }
 put_active table key value (answer.Cut x) is = record { unsealed = tt; balance = refl }
 put_active table key value (answer.Sealed x) is = absurd is
@@ -146,6 +161,11 @@ put_active table key value answer.DiskFault is = record { unsealed = tt; balance
 pub begin_idle : (a : Answer) → IsAnswerTo command.Begin a → is_stuck a ≡ false → Turn command.Begin Idle a
 begin_idle (answer.Began x) is calm = record { unsealed = tt; balance = refl }
 begin_idle (answer.Replied x) is calm = absurd is
+begin_idle (answer.Safe x) is calm = absurd is
+begin_idle (answer.Unsafe x y) is calm = absurd is
+begin_idle answer.Ended is calm = absurd is
+begin_idle answer.ReadOnly is calm = absurd is
+begin_idle answer.NotSafe is calm = absurd is
 begin_idle (answer.Cut x) is calm = absurd is
 begin_idle (answer.Sealed x) is calm = absurd is
 begin_idle (answer.Committed x y z) is calm = absurd is
@@ -180,37 +200,42 @@ pub record Closing (phase : Phase) (a : Answer) : Type 0 where
   pub turn : Turn command.Commit phase a
   pub idle : phase_after (Some command.Commit) a phase ≡ Idle
 
-commit_active : (a : Answer) → IsAnswerTo command.Commit a → is_stuck a ≡ false → Closing Active a
-commit_active (answer.Began x) is calm = absurd is
-commit_active (answer.Replied x) is calm = absurd is
-commit_active (answer.Cut x) is calm = absurd is
-commit_active (answer.Sealed x) is calm = absurd is
-commit_active (answer.Committed x y z) is calm = record { turn = record { unsealed = tt; balance = refl }; idle = refl }
-commit_active (answer.Excluded x y z) is calm = record { turn = record { unsealed = tt; balance = refl }; idle = refl }
-commit_active answer.Aborted is calm = absurd is
-commit_active (answer.Durable x) is calm = absurd is
-commit_active (answer.Flushed x) is calm = absurd is
-commit_active (answer.Empty x) is calm = absurd is
-commit_active (answer.Checkpointed x) is calm = absurd is
-commit_active answer.NotIdle is calm = absurd is
-commit_active answer.NoTransaction is calm = absurd is
-commit_active answer.IsSealed is calm = absurd is
-commit_active answer.NotSealed is calm = absurd is
-commit_active (answer.LogEnd x) is calm = absurd is
-commit_active answer.NumbersEnd is calm = absurd is
-commit_active (answer.WaitSeat x y) is calm = absurd (false≢true (sym calm))
-commit_active (answer.WaitRing x) is calm = absurd (false≢true (sym calm))
-commit_active (answer.Owned x y) is calm = absurd is
-commit_active (answer.Newer x) is calm = absurd is
-commit_active (answer.ExcludedEarly x y) is calm = absurd is
-commit_active answer.ReadsFull is calm = absurd is
-commit_active answer.WritesFull is calm = absurd is
-commit_active (answer.CellsFull x) is calm = absurd is
-commit_active (answer.OidsFull x) is calm = absurd is
-commit_active (answer.NotFlushed x) is calm = absurd is
-commit_active answer.NoReceipt is calm = absurd is
-commit_active (answer.Unfilled x) is calm = absurd is
-commit_active answer.DiskFault is calm = absurd is
+commit_active : (a : Answer) → IsAnswerTo command.Commit a → FitsSnapshot Active command.Commit a → is_stuck a ≡ false → Closing Active a
+commit_active (answer.Began x) is looks calm = absurd is
+commit_active (answer.Replied x) is looks calm = absurd is
+commit_active (answer.Safe x) is looks calm = absurd is
+commit_active (answer.Unsafe x y) is looks calm = absurd is
+commit_active answer.Ended is looks calm = absurd looks
+commit_active answer.ReadOnly is looks calm = absurd is
+commit_active answer.NotSafe is looks calm = absurd is
+commit_active (answer.Cut x) is looks calm = absurd is
+commit_active (answer.Sealed x) is looks calm = absurd is
+commit_active (answer.Committed x y z) is looks calm = record { turn = record { unsealed = tt; balance = refl }; idle = refl }
+commit_active (answer.Excluded x y z) is looks calm = record { turn = record { unsealed = tt; balance = refl }; idle = refl }
+commit_active answer.Aborted is looks calm = absurd is
+commit_active (answer.Durable x) is looks calm = absurd is
+commit_active (answer.Flushed x) is looks calm = absurd is
+commit_active (answer.Empty x) is looks calm = absurd is
+commit_active (answer.Checkpointed x) is looks calm = absurd is
+commit_active answer.NotIdle is looks calm = absurd is
+commit_active answer.NoTransaction is looks calm = absurd is
+commit_active answer.IsSealed is looks calm = absurd is
+commit_active answer.NotSealed is looks calm = absurd is
+commit_active (answer.LogEnd x) is looks calm = absurd is
+commit_active answer.NumbersEnd is looks calm = absurd is
+commit_active (answer.WaitSeat x y) is looks calm = absurd (false≢true (sym calm))
+commit_active (answer.WaitRing x) is looks calm = absurd (false≢true (sym calm))
+commit_active (answer.Owned x y) is looks calm = absurd is
+commit_active (answer.Newer x) is looks calm = absurd is
+commit_active (answer.ExcludedEarly x y) is looks calm = absurd is
+commit_active answer.ReadsFull is looks calm = absurd is
+commit_active answer.WritesFull is looks calm = absurd is
+commit_active (answer.CellsFull x) is looks calm = absurd is
+commit_active (answer.OidsFull x) is looks calm = absurd is
+commit_active (answer.NotFlushed x) is looks calm = absurd is
+commit_active answer.NoReceipt is looks calm = absurd is
+commit_active (answer.Unfilled x) is looks calm = absurd is
+commit_active answer.DiskFault is looks calm = absurd is
 
 -- a flush leaves all as it is
 pub record Still (c : Command) (phase : Phase) (a : Answer) : Type 0 where
@@ -220,6 +245,11 @@ pub record Still (c : Command) (phase : Phase) (a : Answer) : Type 0 where
 flush_answered : (phase : Phase) (a : Answer) → IsUnsealed phase → IsAnswerTo command.Flush a → Still command.Flush phase a
 flush_answered phase (answer.Began x) unsealed_yet is = absurd is
 flush_answered phase (answer.Replied x) unsealed_yet is = absurd is
+flush_answered phase (answer.Safe x) unsealed_yet is = absurd is
+flush_answered phase (answer.Unsafe x y) unsealed_yet is = absurd is
+flush_answered phase answer.Ended unsealed_yet is = absurd is
+flush_answered phase answer.ReadOnly unsealed_yet is = absurd is
+flush_answered phase answer.NotSafe unsealed_yet is = absurd is
 flush_answered phase (answer.Cut x) unsealed_yet is = absurd is
 flush_answered phase (answer.Sealed x) unsealed_yet is = absurd is
 flush_answered phase (answer.Committed x y z) unsealed_yet is = absurd is
@@ -270,14 +300,14 @@ put_turn table key value Sealed a unsealed fits = absurd unsealed
 put_turn table key value Pending a unsealed fits = absurd unsealed
 put_turn table key value Safe a unsealed fits = absurd unsealed
 
-pub commit_turn : (phase : Phase) (a : Answer) → IsUnsealed phase → FitsPhase phase command.Commit a → is_stuck a ≡ false → Closing phase a
-commit_turn Idle a unsealed fits calm =
+pub commit_turn : (phase : Phase) (a : Answer) → IsUnsealed phase → FitsPhase phase command.Commit a → FitsSnapshot phase command.Commit a → is_stuck a ≡ false → Closing phase a
+commit_turn Idle a unsealed fits looks calm =
     let P : Answer → Type 0 = λ x. phase_after (Some command.Commit) x Idle ≡ Idle in
     record { turn = none_is_there command.Commit a refl fits; idle = subst P (sym fits) refl }
-commit_turn Active a unsealed fits calm = commit_active a fits calm
-commit_turn Sealed a unsealed fits calm = absurd unsealed
-commit_turn Pending a unsealed fits calm = absurd unsealed
-commit_turn Safe a unsealed fits calm = absurd unsealed
+commit_turn Active a unsealed fits looks calm = commit_active a fits looks calm
+commit_turn Sealed a unsealed fits looks calm = absurd unsealed
+commit_turn Pending a unsealed fits looks calm = absurd unsealed
+commit_turn Safe a unsealed fits looks calm = absurd unsealed
 
 pub flush_turn : (phase : Phase) (a : Answer) → IsUnsealed phase → FitsPhase phase command.Flush a → Still command.Flush phase a
 flush_turn Idle a unsealed fits = flush_answered Idle a unsealed fits

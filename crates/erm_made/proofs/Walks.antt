@@ -57,6 +57,7 @@ module _ (m total : ℕ) where
   anew_on command.Abort s k begun rs more w = absurd w
   anew_on command.Durable s k begun rs more w = absurd w
   anew_on command.Checkpoint s k begun rs more w = absurd w
+  anew_on command.Safe s k begun rs more w = absurd w
 
   anew : (k begun : ℕ) (rs : List Request) → Walks m total 1 1 begun rs → Walks m total k k begun rs
   anew k begun [] w = (refl, w.1)

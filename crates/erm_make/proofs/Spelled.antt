@@ -54,6 +54,7 @@ table_lacks c table apart small = lacks-decimal c table apart.low (omega arith)
 -- the arguments of a command lack it
 given_lack : (c : ℕ) (asked : Command) → IsApart c → IsInRange asked → AllLack c (given_words asked)
 given_lack c command.Begin apart ok = tt
+given_lack c command.Safe apart ok = tt
 given_lack c (command.Get table key) apart ok = (table_lacks c table apart ok.0, (number_lacks c key apart ok.1, tt))
 given_lack c (command.Put table key value) apart ok =
     (table_lacks c table apart ok.0.0, (number_lacks c key apart ok.0.1, (lacks-value_word c value apart.other apart.dash ok.1, tt)))
@@ -84,6 +85,7 @@ record IsWordly (word : List ℕ) : Type 0 where
 
 wordly : (k : Keyword) → IsWordly (word_of k)
 wordly keyword.Begin = record { space = refl; end = refl; kept = λ rest. refl }
+wordly keyword.Safe = record { space = refl; end = refl; kept = λ rest. refl }
 wordly keyword.Get = record { space = refl; end = refl; kept = λ rest. refl }
 wordly keyword.Put = record { space = refl; end = refl; kept = λ rest. refl }
 wordly keyword.Del = record { space = refl; end = refl; kept = λ rest. refl }
@@ -126,6 +128,7 @@ named_words name word given a b c =
 -- commands whose lines name no session take no arguments
 lone_given : (asked : Command) → names_session (keyword_of asked) ≡ false → given_words asked ≡ []
 lone_given command.Begin unnamed = cc
+lone_given command.Safe unnamed = cc
 lone_given (command.Get table key) unnamed = cc
 lone_given (command.Put table key value) unnamed = cc
 lone_given (command.Del table key) unnamed = cc

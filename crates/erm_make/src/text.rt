@@ -67,6 +67,7 @@ fn word(command: &Command) -> &'static [u8]
 {
     match command {
         Command::Begin => b"begin".as_slice(),
+        Command::Safe => b"safe".as_slice(),
         Command::Get { .. } => b"get".as_slice(),
         Command::Put { .. } => b"put".as_slice(),
         Command::Del { .. } => b"del".as_slice(),

@@ -360,6 +360,13 @@ snapshot_with Sealed w s e = absurd (cc)
 snapshot_with Pending w s e = inl refl
 snapshot_with Safe w s e = inr refl
 
+begin_in : (p : Phase) (w : Work) → (p ≡ Pending) ⊎ (p ≡ Safe) → w.begin ≡ (work_of (stand_of p w)).begin
+begin_in Idle w is = elim is as (λ _. w.begin ≡ 0) [ inl pending ↦ cc | inr safe ↦ cc ]
+begin_in Active w is = refl
+begin_in Sealed w is = refl
+begin_in Pending w is = refl
+begin_in Safe w is = refl
+
 -- BEGIN SAFE. The transaction that has just begun.
 module _ (law : Law) (m : Map) (p : Phase) (w : Work) (seat begin : ℕ) (v : View) (one : seat ≡ 1) (did : DidBegin v seat begin (map_view (record m { stand = stand_of p w }))) where
   abbrev number : ℕ
@@ -454,6 +461,10 @@ module _ (law : Law) (m : Map) (p : Phase) (w : Work) (seat : ℕ) (session : Is
 
   pub snapshot_phase : HasSnapshot (map_view (record m { stand = stand_of p w })) seat → (p ≡ Pending) ⊎ (p ≡ Safe)
   snapshot_phase has = let s = shows_one has in snapshot_with p w s.0 s.1
+
+  pub snapshot_begins : HasSnapshot (map_view (record m { stand = stand_of p w })) seat → w.begin ≡ (work_at (map_view (record m { stand = stand_of p w })) seat).begin
+  snapshot_begins has =
+      subst (λ (q : ℕ). w.begin ≡ (work_at (map_view (record m { stand = stand_of p w })) q).begin) (sym (one law m p w seat session)) (begin_in p w (snapshot_phase has))
 
   -- it is the last one that has begun, at the end of the log
   last_one : HasSnapshot (map_view (record m { stand = stand_of p w })) seat → IsWorld law (record m { stand = stand_of p w })

@@ -16,6 +16,10 @@ impl<L: RowLaw> SafeWorld for MapWorld<L> {
         Ok(())
     }
 
+    fn snapshot_begin(&self, _seat: Seat) -> Stamp {
+        self.work.begin
+    }
+
     fn safe_read(&mut self, _seat: Seat, oid: Oid) -> Row {
         newest_version(self.rows.as_slice(), self.over.as_slice(), oid).row
     }

@@ -2,18 +2,21 @@
 //! database map. Each law is the contract of a function that does nothing.
 #![tactic(auto)]
 
-ghost use Rattle.std.specs.Prelude.{ℕ, List, [], ◌++◌};
-ghost use Rattle.erm_model.specs.History.{History, below, rank_of, rows_after};
+ghost use Rattle.std.specs.Prelude.{◌≡◌, ℕ, ◌<◌, List, [], ◌++◌};
+ghost use Rattle.erm_model.specs.Committed.{HasSnapshotReplies};
+ghost use Rattle.erm_model.specs.History.{HasNewestRows, History, IsNewestBelow, below, rank_of, rows_after};
+ghost use Rattle.erm_model.specs.Rows.{Rows};
 ghost use Rattle.erm_model.specs.RowTransaction.{SameLaw};
-ghost use Rattle.erm_model.specs.Run.{Step};
+ghost use Rattle.erm_model.specs.Run.{RunsOne, Step};
 ghost use Rattle.erm_model.specs.SerialOrder.{IsSerialOrder};
-ghost use Rattle.erm_node.specs.Sound.{sound_law};
+ghost use Rattle.erm_node.specs.Sound.{IsSound, sound_law};
+ghost use Rattle.erm_node.specs.TreeMap.{map_of_rows};
 ghost use Rattle.erm_world.specs.Laws.{IsPossibleIn, IsSerializable};
 ghost use Rattle.erm_tree.specs.Calls.{IsReady};
 ghost use Rattle.erm_tree.specs.Operations.{AreCalled, Call, answered_steps};
 ghost use Rattle.erm_world.specs.Going.{Extends};
 ghost use Rattle.erm_world.specs.World.{View, Work, begun, history_of, work_at};
-ghost use Rattle.erm_maps.specs.Runs.{AreRuns, IsAnswered, IsRunOf, RepliesAreSnapshots, RunsAsOperations, StandsBelow, Told};
+ghost use Rattle.erm_maps.specs.Runs.{AreRuns, IsAnswered, IsRunOf, RepliesAreSnapshots, RunsAsOperations, StandsBelow, Told, told_commits};
 
 use erm_model::{RowLaw, RowRead};
 use erm_world::{RowWorld, WorldTxn};
@@ -53,6 +56,34 @@ pub fn histories_run_as_operations()
     erm_core_ssn::serial_order_is_unique();
     erm_core_ssn::versions_are_unique();
     erm_core_ssn::prefixes_stand_alone();
+}
+
+/// Below each stamp there are newest rows, one of each object, and they meet the law of rows.
+pub fn snapshots_find_rows<L: RowLaw>()
+    ensures rows { (v : View) (bound : ℕ) → IsSerializable L.law v → 0 < bound
+        → (rows : Rows) × L.law.meets rows × HasNewestRows (history_of v) v.opening.rows bound rows }
+    ensures one { (v : View) (oid bound stamp other : ℕ) (row other_row : List ℕ) → IsSerializable L.law v
+        → IsNewestBelow (history_of v) v.opening.rows oid bound stamp row
+        → IsNewestBelow (history_of v) v.opening.rows oid bound other other_row → row ≡ other_row }
+{
+    erm_core_ssn::rows_run_serially();
+    erm_core_ssn::serial_order_is_unique();
+    erm_core_ssn::versions_are_unique();
+    erm_core_ssn::prefixes_stand_alone();
+    rows_stay_lawful::<L>();
+}
+
+/// Where each transaction's rows are the run of its operations, replies that hold on the map of the newest rows below a stamp are those on
+/// the state below it.
+pub fn safe_replies_are_snapshots()
+    ensures { (v : View) (told : Told) (b : ℕ) (steps : List Step) → IsSerializable sound_law v → AreRuns v told → 0 < b
+        → ((rows : Rows) → IsSound rows → HasNewestRows (history_of v) v.opening.rows b rows → RunsOne (map_of_rows rows) steps)
+        → HasSnapshotReplies (told_commits told (history_of v)) (map_of_rows v.opening.rows) b steps }
+{
+    erm_core_ssn::rows_run_serially();
+    erm_core_ssn::serial_order_is_unique();
+    erm_core_ssn::prefixes_stand_alone();
+    histories_run_as_operations();
 }
 
 /// The operations that tree calls of a session answer in turn, refused calls and calls that set no row among them, are the run of

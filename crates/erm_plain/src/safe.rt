@@ -7,7 +7,7 @@ ghost use Rattle.erm_plain.specs.Snapshots.{PassesOn, is_late, next_session};
 ghost use Rattle.erm_plain.specs.Stands.{Stands, plain_view};
 ghost use Rattle.erm_world.specs.Calls.{DidAbort, MayNotBegin};
 ghost use Rattle.erm_world.specs.Safe.{DidBeginSafe, DidNotSafe, DidSafe, HasSnapshot};
-ghost use Rattle.erm_world.specs.World.{IsSession, phase_at};
+ghost use Rattle.erm_world.specs.World.{IsSession, phase_at, work_at};
 
 use crate::Plain;
 use crate::steps::found;
@@ -88,6 +88,16 @@ impl<L: RowLaw> Plain<L> {
             self.pass_session(seat, next)?;
         }
         Ok(())
+    }
+
+    /// The begin stamp of the snapshot, safe or not.
+    pub(crate) fn snapshot_begin(&self, seat: Seat) -> Stamp
+        requires stands { Stands L.law self.now }
+        requires session { IsSession (plain_view self.now) seat }
+        requires snapshot { HasSnapshot (plain_view self.now) seat }
+        ensures { result ≡ (work_at (plain_view self.now) seat).begin }
+    {
+        self.begin_stamp(seat)
     }
 
     /// Ends the snapshot, safe or not.

@@ -16,7 +16,7 @@ use Rattle.erm_model.specs.Spelling.{value_word}
 use Rattle.erm_model.specs.declared.map.Pair.{Pair}
 use Rattle.erm_model.specs.declared.operation.Reply.TheVariants as reply
 use Rattle.erm_report.specs.declared.answer.Answer.{Answer}
-use Rattle.erm_report.specs.declared.answer.Answer.TheVariants.{Began, Replied, Cut, Sealed, Committed, Excluded, Aborted, Durable, Flushed, Empty, Checkpointed, NotIdle, NoTransaction, IsSealed, NotSealed, LogEnd, NumbersEnd, WaitSeat, WaitRing, Owned, Newer, ExcludedEarly, ReadsFull, WritesFull, CellsFull, OidsFull, NotFlushed, NoReceipt, Unfilled, DiskFault}
+use Rattle.erm_report.specs.declared.answer.Answer.TheVariants.{Began, Safe, Replied, Cut, Sealed, Committed, Excluded, Aborted, Ended, Durable, Flushed, Empty, Checkpointed, NotIdle, NoTransaction, IsSealed, NotSealed, ReadOnly, NotSafe, LogEnd, NumbersEnd, WaitSeat, WaitRing, Unsafe, Owned, Newer, ExcludedEarly, ReadsFull, WritesFull, CellsFull, OidsFull, NotFlushed, NoReceipt, Unfilled, DiskFault}
 use Rattle.erm_report.specs.declared.line.Line.{Line}
 use Rattle.erm_script.specs.declared.fault.FaultKind.{FaultKind}
 use Rattle.erm_script.specs.declared.fault.FaultKind.TheVariants as fault
@@ -92,6 +92,7 @@ abbrev not_in : List (List ℕ) → Answer
 not_in words =
     if same (word_at words 0) (codes "idle") then NotIdle
     else if same (word_at words 0) (codes "sealed") then NotSealed
+    else if same (word_at words 0) (codes "safe") then NotSafe
     else NotFlushed (number_at words 1)
 
 -- the answer that has no number that a word and these words spell
@@ -100,6 +101,8 @@ told_in word words =
     if same word (codes "none") then Replied (reply.Value None)
     else if same word (codes "ok") then Replied reply.Done
     else if same word (codes "aborted") then Aborted
+    else if same word (codes "ended") then Ended
+    else if same word (codes "read") then ReadOnly
     else if same word (codes "no") then (if same (word_at words 0) (codes "transaction") then NoTransaction else NoReceipt)
     else if same word (codes "is") then IsSealed
     else if same word (codes "numbers") then NumbersEnd
@@ -121,6 +124,8 @@ counted_in word words =
     else if same word (codes "cells") then CellsFull (number_at words 1)
     else if same word (codes "oids") then OidsFull (number_at words 1)
     else if same word (codes "unfilled") then Unfilled (number_at words 0)
+    else if same word (codes "safe") then Safe (number_at words 0)
+    else if same word (codes "unsafe") then Unsafe (number_at words 0) (number_at words 1)
     else told_in word words
 
 -- the answer that a word and these words spell
@@ -209,6 +214,7 @@ named_in (word ∷ words) =
     else if same word (codes "close") then close_in words
     else if same word (codes "order") then line.Order (number_at words 0)
     else if same word (codes "commit") then commit_in words
+    else if same word (codes "safe") then line.Safe (word_at words 0) (number_at words 1) (number_at words 3)
     else if same word (codes "map") then line.Map (number_at words 0)
     else if same word (codes "pair") then line.Pair (pair_in (word ∷ words))
     else if same word (codes "end") then end_in words
@@ -247,6 +253,7 @@ pairs_in-found_words (found ∷ pairs) all =
 
 answer_in-answer_words : (a : Answer) → FitsAnswer a → answer_in (answer_words a) ≡ answer_told a
 answer_in-answer_words (Began stamp) fits = ap Began (number_in-decimal stamp fits)
+answer_in-answer_words (Safe stamp) fits = ap Safe (number_in-decimal stamp fits)
 answer_in-answer_words (Replied (reply.Value None)) fits = refl
 answer_in-answer_words (Replied (reply.Value (Some value))) fits = ap (λ v. Replied (reply.Value (Some v))) (value_in-value_word value fits)
 answer_in-answer_words (Replied reply.Done) fits = refl
@@ -277,6 +284,10 @@ answer_in-answer_words (WaitSeat seat seen) fits =
     let second = number_in-decimal seen fits.1 in
     ap (λ t. wait_in t (decimal seat ∷ decimal seen ∷ [])) (is_number-decimal seat (let small = fits.0 in omega arith)) ∙ cc
 answer_in-answer_words (WaitRing flushed) fits = ap WaitRing (number_in-decimal flushed fits)
+answer_in-answer_words (Unsafe seat stamp) fits =
+    let first = number_8 seat fits.0 in
+    let second = number_in-decimal stamp fits.1 in
+    cc
 answer_in-answer_words (Owned seat number) fits =
     let first = number_8 seat fits.0 in
     let second = number_32 number fits.1 in
@@ -308,6 +319,10 @@ line_in-line_words (line.Commit session number stamp succ pred) fits =
     let first = number_in-decimal stamp fits.1 in
     let second = number_in-decimal succ fits.2 in
     let third = number_in-decimal pred fits.3 in
+    cc
+line_in-line_words (line.Safe session number at) fits =
+    let place = number_32 number fits.0 in
+    let first = number_in-decimal at fits.1 in
     cc
 line_in-line_words (line.Map pairs) fits = ap (λ n. line.Map n) (number_in-decimal pairs fits)
 line_in-line_words (line.Pair pair) fits =

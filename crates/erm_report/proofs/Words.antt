@@ -12,7 +12,7 @@ use Rattle.hex.proofs.HexLemmas.{decode_of-ok, decode_of-encode_lower}
 use Rattle.erm_model.specs.Spelling.{value_word}
 use Rattle.erm_model.specs.declared.operation.Reply.TheVariants as reply
 use Rattle.erm_report.specs.declared.answer.Answer.{Answer}
-use Rattle.erm_report.specs.declared.answer.Answer.TheVariants.{Began, Replied, Cut, Sealed, Committed, Excluded, Aborted, Durable, Flushed, Empty, Checkpointed, NotIdle, NoTransaction, IsSealed, NotSealed, LogEnd, NumbersEnd, WaitSeat, WaitRing, Owned, Newer, ExcludedEarly, ReadsFull, WritesFull, CellsFull, OidsFull, NotFlushed, NoReceipt, Unfilled, DiskFault}
+use Rattle.erm_report.specs.declared.answer.Answer.TheVariants.{Began, Safe, Replied, Cut, Sealed, Committed, Excluded, Aborted, Ended, Durable, Flushed, Empty, Checkpointed, NotIdle, NoTransaction, IsSealed, NotSealed, ReadOnly, NotSafe, LogEnd, NumbersEnd, WaitSeat, WaitRing, Unsafe, Owned, Newer, ExcludedEarly, ReadsFull, WritesFull, CellsFull, OidsFull, NotFlushed, NoReceipt, Unfilled, DiskFault}
 use Rattle.erm_report.specs.declared.line.Line.{Line}
 use Rattle.erm_script.specs.declared.fault.FaultKind.{FaultKind}
 use Rattle.erm_script.specs.declared.fault.FaultKind.TheVariants as fault
@@ -64,6 +64,7 @@ found_words (found ∷ pairs) = decimal found.0 ∷ value_word found.1 ∷ found
 -- the words of an answer
 abbrev pub answer_words : Answer → List (List ℕ)
 answer_words (Began stamp) = codes "begin" ∷ decimal stamp ∷ []
+answer_words (Safe stamp) = codes "safe" ∷ decimal stamp ∷ []
 answer_words (Replied (reply.Value None)) = codes "none" ∷ []
 answer_words (Replied (reply.Value (Some value))) = codes "value" ∷ value_word value ∷ []
 answer_words (Replied reply.Done) = codes "ok" ∷ []
@@ -75,6 +76,7 @@ answer_words (Sealed stamp) = codes "sealed" ∷ decimal stamp ∷ []
 answer_words (Committed stamp succ pred) = codes "committed" ∷ decimal stamp ∷ codes "succ" ∷ decimal succ ∷ codes "pred" ∷ decimal pred ∷ []
 answer_words (Excluded stamp succ pred) = codes "excluded" ∷ codes "at" ∷ decimal stamp ∷ codes "succ" ∷ decimal succ ∷ codes "pred" ∷ decimal pred ∷ []
 answer_words Aborted = codes "aborted" ∷ []
+answer_words Ended = codes "ended" ∷ []
 answer_words (Durable stamp) = codes "durable" ∷ decimal stamp ∷ []
 answer_words (Flushed stamp) = codes "flushed" ∷ decimal stamp ∷ []
 answer_words (Empty stamp) = codes "empty" ∷ decimal stamp ∷ []
@@ -83,10 +85,13 @@ answer_words NotIdle = codes "not" ∷ codes "idle" ∷ []
 answer_words NoTransaction = codes "no" ∷ codes "transaction" ∷ []
 answer_words IsSealed = codes "is" ∷ codes "sealed" ∷ []
 answer_words NotSealed = codes "not" ∷ codes "sealed" ∷ []
+answer_words ReadOnly = codes "read" ∷ codes "only" ∷ []
+answer_words NotSafe = codes "not" ∷ codes "safe" ∷ []
 answer_words (LogEnd tail) = codes "log" ∷ codes "end" ∷ decimal tail ∷ []
 answer_words NumbersEnd = codes "numbers" ∷ codes "end" ∷ []
 answer_words (WaitSeat seat seen) = codes "wait" ∷ decimal seat ∷ decimal seen ∷ []
 answer_words (WaitRing flushed) = codes "wait" ∷ codes "ring" ∷ decimal flushed ∷ []
+answer_words (Unsafe seat stamp) = codes "unsafe" ∷ decimal seat ∷ decimal stamp ∷ []
 answer_words (Owned seat number) = codes "owned" ∷ decimal seat ∷ decimal number ∷ []
 answer_words (Newer stamp) = codes "newer" ∷ decimal stamp ∷ []
 answer_words (ExcludedEarly succ pred) = codes "excluded" ∷ codes "succ" ∷ decimal succ ∷ codes "pred" ∷ decimal pred ∷ []
@@ -107,6 +112,7 @@ line_words (line.Close session answer) = codes "close" ∷ session ∷ answer_wo
 line_words (line.Order commits) = codes "order" ∷ decimal commits ∷ []
 line_words (line.Commit session number stamp succ pred) =
     codes "commit" ∷ session ∷ decimal number ∷ codes "stamp" ∷ decimal stamp ∷ codes "succ" ∷ decimal succ ∷ codes "pred" ∷ decimal pred ∷ []
+line_words (line.Safe session number at) = codes "safe" ∷ session ∷ decimal number ∷ codes "at" ∷ decimal at ∷ []
 line_words (line.Map pairs) = codes "map" ∷ decimal pairs ∷ []
 line_words (line.Pair pair) = codes "pair" ∷ decimal pair.key.table ∷ decimal pair.key.key ∷ value_word pair.value ∷ []
 line_words line.End = codes "end" ∷ []
@@ -183,6 +189,7 @@ parts_at-found first (found ∷ pairs) lack all =
 -- an answer
 pub parts_at-answer_text : (a : Answer) → FitsAnswer a → parts_at 32 (answer_text a) ≡ answer_words a
 parts_at-answer_text (Began stamp) fits = more (codes "begin") _ _ refl (last (decimal stamp) (number stamp fits))
+parts_at-answer_text (Safe stamp) fits = more (codes "safe") _ _ refl (last (decimal stamp) (number stamp fits))
 parts_at-answer_text (Replied (reply.Value None)) fits = last (codes "none") refl
 parts_at-answer_text (Replied (reply.Value (Some value))) fits = more (codes "value") _ _ refl (last (value_word value) (value_lacks value fits))
 parts_at-answer_text (Replied reply.Done) fits = last (codes "ok") refl
@@ -197,6 +204,7 @@ parts_at-answer_text (Sealed stamp) fits = more (codes "sealed") _ _ refl (last 
 parts_at-answer_text (Committed stamp succ pred) fits = more (codes "committed") _ _ refl (parts_at-stamps_text stamp succ pred fits.0 fits.1 fits.2)
 parts_at-answer_text (Excluded stamp succ pred) fits = more (codes "excluded") _ _ refl (more (codes "at") _ _ refl (parts_at-stamps_text stamp succ pred fits.0 fits.1 fits.2))
 parts_at-answer_text Aborted fits = last (codes "aborted") refl
+parts_at-answer_text Ended fits = last (codes "ended") refl
 parts_at-answer_text (Durable stamp) fits = more (codes "durable") _ _ refl (last (decimal stamp) (number stamp fits))
 parts_at-answer_text (Flushed stamp) fits = more (codes "flushed") _ _ refl (last (decimal stamp) (number stamp fits))
 parts_at-answer_text (Empty stamp) fits = more (codes "empty") _ _ refl (last (decimal stamp) (number stamp fits))
@@ -205,12 +213,17 @@ parts_at-answer_text NotIdle fits = more (codes "not") _ _ refl (last (codes "id
 parts_at-answer_text NoTransaction fits = more (codes "no") _ _ refl (last (codes "transaction") refl)
 parts_at-answer_text IsSealed fits = more (codes "is") _ _ refl (last (codes "sealed") refl)
 parts_at-answer_text NotSealed fits = more (codes "not") _ _ refl (last (codes "sealed") refl)
+parts_at-answer_text ReadOnly fits = more (codes "read") _ _ refl (last (codes "only") refl)
+parts_at-answer_text NotSafe fits = more (codes "not") _ _ refl (last (codes "safe") refl)
 parts_at-answer_text (LogEnd tail) fits = more (codes "log") _ _ refl (more (codes "end") _ _ refl (last (decimal tail) (number tail fits)))
 parts_at-answer_text NumbersEnd fits = more (codes "numbers") _ _ refl (last (codes "end") refl)
 parts_at-answer_text (WaitSeat seat seen) fits =
     ap (λ rest. parts_at 32 (codes "wait " ++ rest)) (append_assoc (decimal seat) (codes " ") (decimal seen))
     ∙ more (codes "wait") _ _ refl (more (decimal seat) _ _ (number_8 seat fits.0) (last (decimal seen) (number seen fits.1)))
 parts_at-answer_text (WaitRing flushed) fits = more (codes "wait") _ _ refl (more (codes "ring") _ _ refl (last (decimal flushed) (number flushed fits)))
+parts_at-answer_text (Unsafe seat stamp) fits =
+    ap (λ rest. parts_at 32 (codes "unsafe " ++ rest)) (append_assoc (decimal seat) (codes " ") (decimal stamp))
+    ∙ more (codes "unsafe") _ _ refl (more (decimal seat) _ _ (number_8 seat fits.0) (last (decimal stamp) (number stamp fits.1)))
 parts_at-answer_text (Owned seat n) fits =
     ap (λ rest. parts_at 32 (codes "owned " ++ rest)) (append_assoc (decimal seat) (codes " ") (decimal n))
     ∙ more (codes "owned") _ _ refl (more (decimal seat) _ _ (number_8 seat fits.0) (last (decimal n) (number_32 n fits.1)))
@@ -252,6 +265,10 @@ parts_at-words_text (line.Commit session n stamp succ pred) fits name =
     ap (λ rest. parts_at 32 (codes "commit " ++ rest)) (regroup session (codes " ") (decimal n) (codes " stamp ") (stamps_text stamp succ pred))
     ∙ more (codes "commit") _ _ refl (more session _ _ (lacks-word session name).0 (more (decimal n) _ _ (number_32 n fits.0)
     (more (codes "stamp") _ _ refl (parts_at-stamps_text stamp succ pred fits.1 fits.2 fits.3))))
+parts_at-words_text (line.Safe session n at) fits name =
+    ap (λ rest. parts_at 32 (codes "safe " ++ rest)) (regroup session (codes " ") (decimal n) (codes " at ") (decimal at))
+    ∙ more (codes "safe") _ _ refl (more session _ _ (lacks-word session name).0 (more (decimal n) _ _ (number_32 n fits.0)
+    (more (codes "at") _ _ refl (last (decimal at) (number at fits.1)))))
 parts_at-words_text (line.Map pairs) fits name = more (codes "map") _ _ refl (last (decimal pairs) (number pairs fits))
 parts_at-words_text (line.Pair pair) fits name =
     ap (λ rest. parts_at 32 (codes "pair " ++ rest)) (regroup (decimal pair.key.table) (codes " ") (decimal pair.key.key) (codes " ") (value_word pair.value))
@@ -324,6 +341,7 @@ found_end (found ∷ pairs) all =
 
 answer_end : (a : Answer) → FitsAnswer a → lacks 10 (answer_text a) ≡ true
 answer_end (Began stamp) fits = digits_end stamp fits
+answer_end (Safe stamp) fits = digits_end stamp fits
 answer_end (Replied (reply.Value None)) fits = refl
 answer_end (Replied (reply.Value (Some value))) fits = value_end value fits
 answer_end (Replied reply.Done) fits = refl
@@ -341,6 +359,7 @@ answer_end (Checkpointed stamp) fits = digits_end stamp fits
 answer_end (LogEnd tail) fits = digits_end tail fits
 answer_end (WaitSeat seat seen) fits = three (decimal seat) (codes " ") (decimal seen) (digits_end_8 seat fits.0) refl (digits_end seen fits.1)
 answer_end (WaitRing flushed) fits = digits_end flushed fits
+answer_end (Unsafe seat stamp) fits = three (decimal seat) (codes " ") (decimal stamp) (digits_end_8 seat fits.0) refl (digits_end stamp fits.1)
 answer_end (Owned seat number) fits = three (decimal seat) (codes " ") (decimal number) (digits_end_8 seat fits.0) refl (digits_end_32 number fits.1)
 answer_end (Newer stamp) fits = digits_end stamp fits
 answer_end (ExcludedEarly succ pred) fits = three (decimal succ) (codes " pred ") (decimal pred) (digits_end succ fits.0) refl (digits_end pred fits.1)
@@ -367,6 +386,8 @@ lacks-words_text (line.Order commits) fits name = digits_end commits fits
 lacks-words_text (line.Commit session n stamp succ pred) fits name =
     five session (codes " ") (decimal n) (codes " stamp ") (stamps_text stamp succ pred) (lacks-word session name).1 refl (digits_end_32 n fits.0) refl
     (stamps_end stamp succ pred fits.1 fits.2 fits.3)
+lacks-words_text (line.Safe session n at) fits name =
+    five session (codes " ") (decimal n) (codes " at ") (decimal at) (lacks-word session name).1 refl (digits_end_32 n fits.0) refl (digits_end at fits.1)
 lacks-words_text (line.Map pairs) fits name = digits_end pairs fits
 lacks-words_text (line.Pair pair) fits name =
     five (decimal pair.key.table) (codes " ") (decimal pair.key.key) (codes " ") (value_word pair.value) (digits_end pair.key.table (let small = fits.0 in omega arith)) refl (digits_end pair.key.key fits.1) refl

@@ -2,11 +2,12 @@
 use Rattle.std.specs.Prelude.{ℕ, List, Some, None, codes}
 use Rattle.erm_model.specs.declared.operation.Reply.TheVariants as reply
 use Rattle.erm_report.specs.declared.answer.Answer.{Answer}
-use Rattle.erm_report.specs.declared.answer.Answer.TheVariants.{Began, Replied, Cut, Sealed, Committed, Excluded, Aborted, Durable, Flushed, Empty, Checkpointed, NotIdle, NoTransaction, IsSealed, NotSealed, LogEnd, NumbersEnd, WaitSeat, WaitRing, Owned, Newer, ExcludedEarly, ReadsFull, WritesFull, CellsFull, OidsFull, NotFlushed, NoReceipt, Unfilled, DiskFault}
+use Rattle.erm_report.specs.declared.answer.Answer.TheVariants.{Began, Safe, Replied, Cut, Sealed, Committed, Excluded, Aborted, Ended, Durable, Flushed, Empty, Checkpointed, NotIdle, NoTransaction, IsSealed, NotSealed, ReadOnly, NotSafe, LogEnd, NumbersEnd, WaitSeat, WaitRing, Unsafe, Owned, Newer, ExcludedEarly, ReadsFull, WritesFull, CellsFull, OidsFull, NotFlushed, NoReceipt, Unfilled, DiskFault}
 
 -- the words of an answer up to its first number or value
 abbrev pub lead : Answer → List ℕ
 lead (Began stamp) = codes "begin "
+lead (Safe stamp) = codes "safe "
 lead (Replied (reply.Value None)) = codes "none"
 lead (Replied (reply.Value (Some value))) = codes "value "
 lead (Replied reply.Done) = codes "ok"
@@ -18,6 +19,7 @@ lead (Sealed stamp) = codes "sealed "
 lead (Committed stamp succ pred) = codes "committed "
 lead (Excluded stamp succ pred) = codes "excluded at "
 lead Aborted = codes "aborted"
+lead Ended = codes "ended"
 lead (Durable stamp) = codes "durable "
 lead (Flushed stamp) = codes "flushed "
 lead (Empty stamp) = codes "empty "
@@ -26,10 +28,13 @@ lead NotIdle = codes "not idle"
 lead NoTransaction = codes "no transaction"
 lead IsSealed = codes "is sealed"
 lead NotSealed = codes "not sealed"
+lead ReadOnly = codes "read only"
+lead NotSafe = codes "not safe"
 lead (LogEnd tail) = codes "log end "
 lead NumbersEnd = codes "numbers end"
 lead (WaitSeat seat seen) = codes "wait "
 lead (WaitRing flushed) = codes "wait ring "
+lead (Unsafe seat stamp) = codes "unsafe "
 lead (Owned seat number) = codes "owned "
 lead (Newer stamp) = codes "newer "
 lead (ExcludedEarly succ pred) = codes "excluded succ "

@@ -5,7 +5,7 @@ use Rattle.erm_model.specs.declared.limits.TheConstants.{TABLES}
 use Rattle.erm_model.specs.declared.operation.Reply.{Reply}
 use Rattle.erm_model.specs.declared.operation.Reply.TheVariants as reply
 use Rattle.erm_report.specs.declared.answer.Answer.{Answer}
-use Rattle.erm_report.specs.declared.answer.Answer.TheVariants.{Began, Replied, Cut, Sealed, Committed, Excluded, Durable, Flushed, Empty, Checkpointed, LogEnd, WaitSeat, WaitRing, Owned, Newer, ExcludedEarly, CellsFull, OidsFull, NotFlushed, Unfilled}
+use Rattle.erm_report.specs.declared.answer.Answer.TheVariants.{Began, Safe, Replied, Cut, Sealed, Committed, Excluded, Durable, Flushed, Empty, Checkpointed, LogEnd, WaitSeat, WaitRing, Unsafe, Owned, Newer, ExcludedEarly, CellsFull, OidsFull, NotFlushed, Unfilled}
 use Rattle.erm_report.specs.declared.line.Line.{Line}
 use Rattle.erm_report.specs.declared.line.Line.TheVariants as line
 use Rattle.erm_script.specs.Script.{IsValue}
@@ -29,6 +29,7 @@ FitsReply r = Unit {0}
 -- the numbers of an answer fit their types, and its values are values
 abbrev pub FitsAnswer : Answer → Type 0
 FitsAnswer (Began stamp) = stamp < 2 ^ 64
+FitsAnswer (Safe stamp) = stamp < 2 ^ 64
 FitsAnswer (Replied r) = FitsReply r
 FitsAnswer (Cut count) = count < 2 ^ 32
 FitsAnswer (Sealed stamp) = stamp < 2 ^ 64
@@ -41,6 +42,7 @@ FitsAnswer (Checkpointed stamp) = stamp < 2 ^ 64
 FitsAnswer (LogEnd tail) = tail < 2 ^ 64
 FitsAnswer (WaitSeat seat seen) = (seat < 2 ^ 8) × (seen < 2 ^ 64)
 FitsAnswer (WaitRing flushed) = flushed < 2 ^ 64
+FitsAnswer (Unsafe seat stamp) = (seat < 2 ^ 8) × (stamp < 2 ^ 64)
 FitsAnswer (Owned seat number) = (seat < 2 ^ 8) × (number < 2 ^ 32)
 FitsAnswer (Newer stamp) = stamp < 2 ^ 64
 FitsAnswer (ExcludedEarly succ pred) = (succ < 2 ^ 64) × (pred < 2 ^ 64)
@@ -62,6 +64,7 @@ FitsTypes (line.Answer number answer) = (number < 2 ^ 32) × FitsAnswer answer
 FitsTypes (line.Close session answer) = FitsAnswer answer
 FitsTypes (line.Order commits) = commits < 2 ^ 64
 FitsTypes (line.Commit session number stamp succ pred) = (number < 2 ^ 32) × (stamp < 2 ^ 64) × (succ < 2 ^ 64) × (pred < 2 ^ 64)
+FitsTypes (line.Safe session number at) = (number < 2 ^ 32) × (at < 2 ^ 64)
 FitsTypes (line.Map pairs) = pairs < 2 ^ 64
 FitsTypes (line.Pair pair) = (pair.key.table < TABLES) × (pair.key.key < 2 ^ 64) × IsValue pair.value
 FitsTypes (line.Recovered stamp run) = (stamp < 2 ^ 64) × (run < 2 ^ 64)
@@ -82,6 +85,7 @@ FitsTypes l = Unit {0}
 abbrev pub HasWordName : Line → Type 0
 HasWordName (line.Close session answer) = IsWord session
 HasWordName (line.Commit session number stamp succ pred) = IsWord session
+HasWordName (line.Safe session number at) = IsWord session
 HasWordName l = Unit {0}
 
 -- a line whose words are told apart where it is printed

@@ -8,7 +8,7 @@ use Rattle.erm_model.specs.declared.operation.Reply.TheVariants as reply
 use Rattle.erm_script.specs.declared.fault.FaultKind.{FaultKind}
 use Rattle.erm_script.specs.declared.fault.FaultKind.TheVariants as fault
 use Rattle.erm_report.specs.declared.answer.Answer.{Answer}
-use Rattle.erm_report.specs.declared.answer.Answer.TheVariants.{Began, Replied, Cut, Sealed, Committed, Excluded, Aborted, Durable, Flushed, Empty, Checkpointed, NotIdle, NoTransaction, IsSealed, NotSealed, LogEnd, NumbersEnd, WaitSeat, WaitRing, Owned, Newer, ExcludedEarly, ReadsFull, WritesFull, CellsFull, OidsFull, NotFlushed, NoReceipt, Unfilled, DiskFault}
+use Rattle.erm_report.specs.declared.answer.Answer.TheVariants.{Began, Safe, Replied, Cut, Sealed, Committed, Excluded, Aborted, Ended, Durable, Flushed, Empty, Checkpointed, NotIdle, NoTransaction, IsSealed, NotSealed, ReadOnly, NotSafe, LogEnd, NumbersEnd, WaitSeat, WaitRing, Unsafe, Owned, Newer, ExcludedEarly, ReadsFull, WritesFull, CellsFull, OidsFull, NotFlushed, NoReceipt, Unfilled, DiskFault}
 use Rattle.erm_report.specs.declared.line.Line.{Line}
 use Rattle.erm_report.specs.declared.line.Line.TheVariants as line
 
@@ -23,6 +23,7 @@ found_text found = codes " " ++ decimal found.0 ++ codes " " ++ value_word found
 -- an answer
 abbrev pub answer_text : Answer → List ℕ
 answer_text (Began stamp) = codes "begin " ++ decimal stamp
+answer_text (Safe stamp) = codes "safe " ++ decimal stamp
 answer_text (Replied (reply.Value None)) = codes "none"
 answer_text (Replied (reply.Value (Some value))) = codes "value " ++ value_word value
 answer_text (Replied reply.Done) = codes "ok"
@@ -34,6 +35,7 @@ answer_text (Sealed stamp) = codes "sealed " ++ decimal stamp
 answer_text (Committed stamp succ pred) = codes "committed " ++ stamps_text stamp succ pred
 answer_text (Excluded stamp succ pred) = codes "excluded at " ++ stamps_text stamp succ pred
 answer_text Aborted = codes "aborted"
+answer_text Ended = codes "ended"
 answer_text (Durable stamp) = codes "durable " ++ decimal stamp
 answer_text (Flushed stamp) = codes "flushed " ++ decimal stamp
 answer_text (Empty stamp) = codes "empty " ++ decimal stamp
@@ -42,10 +44,13 @@ answer_text NotIdle = codes "not idle"
 answer_text NoTransaction = codes "no transaction"
 answer_text IsSealed = codes "is sealed"
 answer_text NotSealed = codes "not sealed"
+answer_text ReadOnly = codes "read only"
+answer_text NotSafe = codes "not safe"
 answer_text (LogEnd tail) = codes "log end " ++ decimal tail
 answer_text NumbersEnd = codes "numbers end"
 answer_text (WaitSeat seat seen) = codes "wait " ++ decimal seat ++ codes " " ++ decimal seen
 answer_text (WaitRing flushed) = codes "wait ring " ++ decimal flushed
+answer_text (Unsafe seat stamp) = codes "unsafe " ++ decimal seat ++ codes " " ++ decimal stamp
 answer_text (Owned seat number) = codes "owned " ++ decimal seat ++ codes " " ++ decimal number
 answer_text (Newer stamp) = codes "newer " ++ decimal stamp
 answer_text (ExcludedEarly succ pred) = codes "excluded succ " ++ decimal succ ++ codes " pred " ++ decimal pred
@@ -79,6 +84,7 @@ words_text (line.Answer number answer) = decimal number ++ codes " " ++ answer_t
 words_text (line.Close session answer) = codes "close " ++ session ++ codes " " ++ answer_text answer
 words_text (line.Order commits) = codes "order " ++ decimal commits
 words_text (line.Commit session number stamp succ pred) = codes "commit " ++ session ++ codes " " ++ decimal number ++ codes " stamp " ++ stamps_text stamp succ pred
+words_text (line.Safe session number at) = codes "safe " ++ session ++ codes " " ++ decimal number ++ codes " at " ++ decimal at
 words_text (line.Map pairs) = codes "map " ++ decimal pairs
 words_text (line.Pair pair) = pair_text pair
 words_text line.End = codes "end"

@@ -6,6 +6,8 @@ use erm_model::{Reply, Seat, Stamp};
 pub enum Answer {
     /// A transaction began, with this begin stamp.
     Began(Stamp),
+    /// The session's snapshot is safe: it reads below this stamp.
+    Safe(Stamp),
     /// An operation was done, with this reply.
     Replied(Reply),
     /// To a `tidy`: so many versions were cut off.
@@ -26,6 +28,8 @@ pub enum Answer {
     },
     /// The transaction was aborted: nothing of it stays.
     Aborted,
+    /// The safe snapshot ended: it has its place in the serial order.
+    Ended,
     /// The session's last commit, which has this stamp, is synced.
     Durable(Stamp),
     /// The log was written and synced up to this stamp.
@@ -42,6 +46,10 @@ pub enum Answer {
     IsSealed,
     /// Refused: the session has no sealed transaction.
     NotSealed,
+    /// Refused: the session has a snapshot, which only reads.
+    ReadOnly,
+    /// Refused: the session's snapshot isn't known to be safe yet.
+    NotSafe,
     /// Refused: no transaction begins any more, since the log has come as far as this.
     LogEnd {
         tail: Stamp,
@@ -49,10 +57,17 @@ pub enum Answer {
     /// Refused: the session has no number left for a transaction.
     NumbersEnd,
     /// Refused for now: the transaction of this seat is sealing, which `seen` 1 says, or is sealed with the stamp `seen`.
-    /// The line may be asked again when that one is decided.
+    /// The line may be asked again when that one is decided. To a `safe`: this seat's transaction or snapshot had begun
+    /// before the own one, as its begin word `seen` says.
     WaitSeat {
         seat: Seat,
         seen: Stamp,
+    },
+    /// Refused, and the snapshot is over: the commit of this seat and stamp, not below the own begin, has its turn before its
+    /// stamp.
+    Unsafe {
+        seat: Seat,
+        stamp: Stamp,
     },
     /// Refused for now: the log, flushed up to here, has no room for the transaction's block before a flush.
     WaitRing {

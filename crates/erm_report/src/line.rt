@@ -21,7 +21,7 @@ pub enum Line {
         session: Name,
         answer: Answer,
     },
-    /// How many transactions committed.
+    /// How many transactions committed, and how many safe snapshots ended, all together.
     Order {
         commits: usize,
     },
@@ -32,6 +32,12 @@ pub enum Line {
         stamp: Stamp,
         succ: Stamp,
         pred: Stamp,
+    },
+    /// A safe snapshot that ended, in the serial order.
+    Safe {
+        session: Name,
+        number: u32,
+        at: Stamp,
     },
     /// How many keys have a value in the end.
     Map {

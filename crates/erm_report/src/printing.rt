@@ -60,6 +60,11 @@ fn push_words(out: &mut Vec<u8>, line: &Line) -> Result<(), AllocError>
             succ,
             pred,
         } => push_commit(out, session, *number, (*stamp, *succ, *pred)),
+        Line::Safe {
+            session,
+            number,
+            at,
+        } => push_safe(out, session, *number, *at),
         Line::Map { pairs } => push_count(out, b"map ", *pairs as u64),
         Line::Pair(pair) => push_pair(out, pair),
         Line::End => out.extend_from_slice(b"end"),
@@ -137,6 +142,15 @@ fn push_commit(
     push_count(out, b" ", u64::from(number))?;
     let (stamp, succ, pred) = stamps;
     push_stamps(out, b" stamp ", stamp, succ, pred)
+}
+
+fn push_safe(out: &mut Vec<u8>, session: &Name, number: u32, at: Stamp) -> Result<(), AllocError>
+    ensures ok { OnOk result (out.new.items ≡ out.old.items ++ words_text (line.Safe session.now number at)) }
+    ensures front { OnErr result (take (length out.old.items) out.new.items ≡ out.old.items) }
+{
+    push_name(out, b"safe ", session)?;
+    push_count(out, b" ", u64::from(number))?;
+    push_count(out, b" at ", at)
 }
 
 fn push_audited(out: &mut Vec<u8>, base: Stamp, stamp: Stamp, run: u64) -> Result<(), AllocError>

@@ -23,7 +23,7 @@ CommitsKeep Invariant = (told : List Transaction)
     → ((t : Transaction) (stamp succ pred : ℕ) → t ∈ told → t.ending ≡ Commits stamp succ pred → Keeps Invariant (steps_of t)) → AllKeep Invariant (history_of told)
 
 -- Where the map that a good report starts from has an invariant, and each commit that it tells keeps it, the invariant lasts through the
--- commits in the printed order, and the map printed has it.
+-- commits and the snapshots in the printed order, and the map printed has it. Of a snapshot nothing is asked: it only reads.
 abbrev pub GoodReportsKeep : (Database → Type 0) → Type 0
 GoodReportsKeep Invariant = (mode : Mode) (opening : Opening) (names : List (List ℕ)) (script : List ScriptLine) (lines : List Line)
     (good : IsGoodReport mode opening names script lines) → Invariant opening.map → AllKeep Invariant (commits_in names script good.report)

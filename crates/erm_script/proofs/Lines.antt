@@ -35,6 +35,7 @@ same word other = pointwise nat_eq word other
 abbrev keyword_in : List ℕ → Keyword
 keyword_in word =
     if same word (codes "begin") then keyword.Begin
+    else if same word (codes "safe") then keyword.Safe
     else if same word (codes "get") then keyword.Get
     else if same word (codes "put") then keyword.Put
     else if same word (codes "del") then keyword.Del
@@ -51,6 +52,7 @@ keyword_in word =
 
 keyword_in-word_of : (k : Keyword) → keyword_in (word_of k) ≡ k
 keyword_in-word_of keyword.Begin = refl
+keyword_in-word_of keyword.Safe = refl
 keyword_in-word_of keyword.Get = refl
 keyword_in-word_of keyword.Put = refl
 keyword_in-word_of keyword.Del = refl
@@ -93,6 +95,7 @@ number_at words k = number_in (get_or words k [])
 -- the command with these words for its arguments
 abbrev command_in : Keyword → List (List ℕ) → Command
 command_in keyword.Begin words = command.Begin
+command_in keyword.Safe words = command.Safe
 command_in keyword.Get words = command.Get (number_at words 0) (number_at words 1)
 command_in keyword.Put words = command.Put (number_at words 0) (number_at words 1) (value_in (get_or words 2 []))
 command_in keyword.Del words = command.Del (number_at words 0) (number_at words 1)

@@ -2,11 +2,12 @@
 use Rattle.std.specs.Prelude.{ℕ, Bool, true, false, List, [], ◌∷◌, codes}
 use Rattle.erm_script.specs.declared.grammar.Grammar.{Grammar}
 use Rattle.erm_script.specs.declared.keyword.Keyword.{Keyword}
-use Rattle.erm_script.specs.declared.keyword.Keyword.TheVariants.{Begin, Get, Put, Del, Next, Scan, Tidy, Seal, Settle, Commit, Abort, Durable, Flush, Checkpoint}
+use Rattle.erm_script.specs.declared.keyword.Keyword.TheVariants.{Begin, Safe, Get, Put, Del, Next, Scan, Tidy, Seal, Settle, Commit, Abort, Durable, Flush, Checkpoint}
 
 -- the word of a command
 abbrev pub word_of : Keyword → List ℕ
 word_of Begin = codes "begin"
+word_of Safe = codes "safe"
 word_of Get = codes "get"
 word_of Put = codes "put"
 word_of Del = codes "del"

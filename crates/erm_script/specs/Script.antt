@@ -36,6 +36,7 @@ pub record IsName (name : List ℕ) : Type 0 where
 -- a command without its arguments
 abbrev pub keyword_of : Command → Keyword
 keyword_of command.Begin = keyword.Begin
+keyword_of command.Safe = keyword.Safe
 keyword_of (command.Get table key) = keyword.Get
 keyword_of (command.Put table key value) = keyword.Put
 keyword_of (command.Del table key) = keyword.Del

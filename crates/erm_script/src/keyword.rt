@@ -7,6 +7,7 @@ ghost use Rattle.erm_script.specs.declared.keyword.Keyword.{Keyword as AnyKeywor
 #[derive(Clone, Copy)]
 pub enum Keyword {
     Begin,
+    Safe,
     Get,
     Put,
     Del,
@@ -37,6 +38,8 @@ impl Keyword {
     {
         if word == b"begin".as_slice() {
             Some(Keyword::Begin)
+        } else if word == b"safe".as_slice() {
+            Some(Keyword::Safe)
         } else if word == b"get".as_slice() {
             Some(Keyword::Get)
         } else if word == b"put".as_slice() {

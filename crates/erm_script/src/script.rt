@@ -12,6 +12,8 @@ pub const NO_SESSION: Seat = 0;
 pub enum Command {
     /// Begins a transaction.
     Begin,
+    /// Begins a snapshot that only reads, where the session has none, and asks whether it is safe.
+    Safe,
     /// Reads the value of a key.
     Get { table: u8, key: u64 },
     /// Sets the value of a key.

@@ -53,6 +53,20 @@ not_safe stage.Idle at never = absurd (cc)
 not_safe (stage.Active t) at never = absurd (cc)
 not_safe (stage.Sealed t) at never = absurd (cc)
 
+pub not_snapshot : (s : Stage) → IsSnapshotPhase (phase_of s) → ((begin next : ℕ) → s ≡ stage.Pending begin next → ⊥) → ((begin : ℕ) → s ≡ stage.Safe begin → ⊥) → ⊥
+not_snapshot (stage.Pending begin next) at neither never = neither begin next refl
+not_snapshot (stage.Safe begin) at neither never = never begin refl
+not_snapshot stage.Idle at neither never = absurd at
+not_snapshot (stage.Active t) at neither never = absurd at
+not_snapshot (stage.Sealed t) at neither never = absurd at
+
+-- the begin stamp that it keeps is its seat's
+pub pending_begins : (s : Session) (begin next : ℕ) → s.stage ≡ stage.Pending begin next → (x : Part) → IsSession s x → begin ≡ x.current.begin
+pending_begins s begin next e x is = sym (subst (λ (g : Stage). StageIs g x) e is.kept.stage).3
+
+pub safe_begins : (s : Session) (begin : ℕ) → s.stage ≡ stage.Safe begin → (x : Part) → IsSession s x → begin ≡ x.current.begin
+safe_begins s begin e x is = sym (subst (λ (g : Stage). StageIs g x) e is.kept.stage).2
+
 -- a safe snapshot between two calls is one
 pub rests_is_safe : (t : Task) → rests_safe t ≡ true → is_safe t ≡ true
 rests_is_safe task.Safe e = refl

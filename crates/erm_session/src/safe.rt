@@ -4,6 +4,7 @@ ghost use Rattle.erm_cells.specs.Took.{IsEndStep};
 ghost use Rattle.erm_ends.specs.Ends.{DidAbort};
 ghost use Rattle.erm_ends.specs.Safe.{DidEndSafe, TookEndSafe};
 ghost use Rattle.erm_machine.specs.declared.limits.TheConstants.{OBJECT_LIMIT};
+ghost use Rattle.erm_machine.specs.declared.part.Part.{Part};
 ghost use Rattle.erm_model.specs.declared.outcome.Phase.TheVariants as phase;
 ghost use Rattle.erm_rows.specs.Safe.{DidReadSafe};
 ghost use Rattle.erm_rule.specs.Books.{book};
@@ -93,6 +94,18 @@ impl Session {
                 self.leave_snapshot(t, p);
                 Err(SafeStop::Unsafe { seat, stamp })
             }
+        }
+    }
+
+    /// The begin stamp of its snapshot, safe or not.
+    pub fn snapshot_begin(&self) -> Stamp
+        requires snapshot { IsSnapshotPhase (phase_of self.now.stage) }
+        ensures { (x : Part) → IsSession self.now x → result ≡ x.current.begin }
+    {
+        match &self.stage {
+            Stage::Pending { begin, .. } => *begin,
+            Stage::Safe { begin } => *begin,
+            _ => unreachable!(),
         }
     }
 

@@ -1,7 +1,7 @@
 -- Of a seat behind those of all places nothing is told, and each transaction that is told is one of its seat.
 use Rattle.std.proofs.Common.{◌≡◌, ℕ, zero, suc, ◌+◌, ◌<◌, ◌≤◌, ◌==◌, Bool, true, false, cond, List, [], ◌∷◌, ◌++◌, map, filter, fold, Option, Some, None, refl, sym, ap, ◌∙◌, subst, ne_eqb, arith}
 use Rattle.std.specs.Prelude.{IfSome}
-use Rattle.std.specs.List.{AllByRecursion, cons_option, flat_map, range_with_len}
+use Rattle.std.specs.List.{AllByRecursion, cons_option, filter_map, flat_map, range_with_len}
 use Rattle.std.specs.Option.{option_map, option_to_list}
 use Rattle.erm_model.specs.declared.outcome.Phase.{Phase}
 use Rattle.erm_model.specs.declared.outcome.Phase.TheVariants.{Idle}
@@ -11,7 +11,7 @@ use Rattle.erm_report.specs.declared.answer.Answer.{Answer}
 use Rattle.erm_report.specs.declared.answer.Answer.TheVariants as answer
 use Rattle.erm_script.specs.declared.script.Command.{Command}
 use Rattle.erm_good_report.specs.Phases.{phase_after, phase_of}
-use Rattle.erm_good_report.specs.Transactions.{Aborts, Commits, Ending, Excludes, Progress, Said, Transaction, committed_as, committed_of, ended, goes_on, heard, history_of, nothing, progress_of, transactions_of, with_ending, with_line, with_seal}
+use Rattle.erm_good_report.specs.Transactions.{Aborts, Commits, Ending, Excludes, Progress, Said, Snapshot, Transaction, committed_as, committed_of, ended, ended_as, ended_of, goes_on, heard, history_of, nothing, own_snapshot, placed_at, progress_of, transactions_of, with_end, with_ending, with_line, with_seal}
 
 -- ---- what is so of all elements
 
@@ -116,7 +116,12 @@ told_without_spare sessions spare said first =
     flat_spare (λ seat. (progress_of seat said).over ++ option_to_list (progress_of seat said).current) 1 sessions spare
     (λ seat low. spare_tells_none sessions seat (omega (arith, low)) said first)
 
--- ---- a transaction that is told is one of its seat
+pub ended_without_spare : (sessions spare : ℕ) (said : List Said) → IsSaidOfFirst sessions said → ended_of (sessions + spare) said ≡ ended_of sessions said
+ended_without_spare sessions spare said first =
+    flat_spare (λ seat. filter_map (ended_as seat) (progress_of seat said).snapshots) 1 sessions spare
+    (λ seat low. ap (λ (p : Progress). filter_map (ended_as seat) p.snapshots) (no_progress sessions seat (omega (arith, low)) said first nothing))
+
+-- ---- a transaction that is told is one of its seat, and so is a snapshot that ended
 
 abbrev IsOf : ℕ → Transaction → Type 0
 IsOf seat t = t.session ≡ seat
@@ -156,6 +161,11 @@ after_answer seat asked answer.NotIdle p are = are
 after_answer seat asked answer.NoTransaction p are = are
 after_answer seat asked answer.IsSealed p are = are
 after_answer seat asked answer.NotSealed p are = are
+after_answer seat asked answer.ReadOnly p are = are
+after_answer seat asked answer.NotSafe p are = are
+after_answer seat asked (answer.Safe begin) p are = are
+after_answer seat asked (answer.Unsafe other stamp) p are = over seat Aborts (record p { snapshot = Some (own_snapshot p) }) are
+after_answer seat asked answer.Ended p are = over seat Aborts (record p { snapshot = option_map with_end p.snapshot }) are
 after_answer seat asked a p are = on seat asked a p are
 
 either : (seat : ℕ) (own : Bool) (p q : Progress) → AreOf seat p → AreOf seat q → AreOf seat (cond own q p)
@@ -202,3 +212,26 @@ module _ (P : ℕ → Type 0) where
   pub commits_of_seats : (ts : List Transaction) → AllByRecursion (λ t. P t.session) ts → AllByRecursion (λ c. P c.session) (history_of ts)
   commits_of_seats [] all = tt
   commits_of_seats (t ∷ ts) all = of_option (committed_of t) (history_of ts) (of_commit t.ending t all.0) (commits_of_seats ts all.1)
+
+  -- so it is of each snapshot that ended
+  flat_ended : (f : ℕ → List Committed) → ((seat : ℕ) → AllByRecursion (λ c. c.session ≡ seat) (f seat)) → (a n : ℕ) → ((q : ℕ) → a ≤ q → q < a + n → P q)
+      → AllByRecursion (λ c. P c.session) (flat_map f (range_with_len a n))
+  flat_ended f each a zero is = tt
+  flat_ended f each a (suc n) is =
+      each_joined (λ c. P c.session) (f a) (flat_map f (range_with_len (a + 1) n))
+      (each_weaker (λ c. c.session ≡ a) (λ c. P c.session) (λ c same. subst P (sym same) (is a (omega arith) (omega arith))) (f a) (each a))
+      (flat_ended f each (a + 1) n (λ q low high. is q (omega (arith, low)) (omega (arith, high))))
+
+of_snapshot : (seat : ℕ) (placed : Bool) (begin : Option ℕ) (s : Snapshot) → IfSome (cond placed (option_map (placed_at seat s) begin) None) (λ (c : Committed). c.session ≡ seat)
+of_snapshot seat true None s = tt
+of_snapshot seat true (Some begin) s = refl
+of_snapshot seat false begin s = tt
+
+each_ended : (seat : ℕ) (ss : List Snapshot) → AllByRecursion (λ (c : Committed). c.session ≡ seat) (filter_map (ended_as seat) ss)
+each_ended seat [] = tt
+each_ended seat (s ∷ ss) = of_option (λ q. q ≡ seat) (ended_as seat s) (filter_map (ended_as seat) ss) (of_snapshot seat s.placed s.begin s) (each_ended seat ss)
+
+pub ended_of_seats : (P : ℕ → Type 0) (sessions : ℕ) (said : List Said) → ((q : ℕ) → 1 ≤ q → q ≤ sessions → P q) → AllByRecursion (λ c. P c.session) (ended_of sessions said)
+ended_of_seats P sessions said is =
+    flat_ended P (λ seat. filter_map (ended_as seat) (progress_of seat said).snapshots) (λ seat. each_ended seat (progress_of seat said).snapshots) 1 sessions
+    (λ q low high. is q low (omega (arith, high)))

@@ -1,11 +1,12 @@
 -- A report of sessions at once with spare names is one with the script's names alone.
-use Rattle.std.proofs.Common.{◌≡◌, ℕ, ◌+◌, ◌-◌, ◌≤◌, Bool, not, List, [], ◌∷◌, ◌++◌, length, length-append, map, filter, None, inl, inr, refl, sym, ap, ◌∙◌, subst, arith}
+use Rattle.std.proofs.Common.{◌≡◌, ℕ, ◌+◌, ◌-◌, ◌≤◌, Bool, true, false, not, List, [], ◌∷◌, ◌++◌, length, length-append, map, filter, None, inl, inr, refl, sym, ap, ◌∙◌, subst, arith}
 use Rattle.std.specs.Prelude.{nat_lt}
 use Rattle.std.specs.List.{AllByRecursion, range_with_len}
 use Rattle.std.proofs.lemmas.Bool.{cases_lt}
 use Rattle.std.proofs.lemmas.List.{get_or_append_left}
 use Rattle.std.proofs.lemmas.List.Elements.{All-from_recursion, recursion_from_All}
 use Rattle.std.proofs.lemmas.List.Sorted.{All-permutation}
+use Rattle.erm_model.specs.declared.limits.TheConstants.{LOG_END}
 use Rattle.erm_model.specs.declared.outcome.Phase.{Phase}
 use Rattle.erm_model.specs.declared.outcome.Phase.TheVariants.{Idle, Sealed}
 use Rattle.erm_model.specs.Committed.{Committed, rank_of}
@@ -16,14 +17,14 @@ use Rattle.erm_report.specs.declared.line.Line.{Line}
 use Rattle.erm_report.specs.declared.line.Line.TheVariants as line
 use Rattle.erm_script.specs.declared.script.ScriptLine.{ScriptLine}
 use Rattle.erm_script.specs.Script.{name_of}
-use Rattle.erm_good_report.specs.GoodReport.{HaveTightWindows, IsGoodReport, OrderAgrees, OwesToAnswers, Report, answer_lines, close_line, commit_line, places_of, report_lines}
+use Rattle.erm_good_report.specs.GoodReport.{HaveTightWindows, IsGoodReport, OrderAgrees, OwesToAnswers, Report, answer_lines, close_line, line_in_order, order_line, places_of, report_lines, serial_of}
 use Rattle.erm_good_report.specs.Opening.{AtOnce, Opening}
 use Rattle.erm_good_report.specs.Phases.{Closed, ClosesAgree, is_idle, phase_of}
-use Rattle.erm_good_report.specs.Transactions.{Said, Transaction, history_of, said_of, transactions_of}
+use Rattle.erm_good_report.specs.Transactions.{Said, Transaction, ended_of, history_of, said_of, transactions_of}
 use Rattle.erm_good_at_once.specs.CutReports.{IsUnseen, OwesInPart, answered_of, less}
 use Rattle.erm_good_at_once.specs.Rising.{StampsRise}
 use Rattle.erm_spare_names.specs.Spare.{CutWithoutSpare, GoodWithoutSpare, NamesOnlyFirst, SpareNamesTellNothing, TellNoMore}
-use Rattle.erm_spare_names.proofs.Seats.{IsSaidOfFirst, commits_of_seats, each_before, each_either, each_joined, each_mapped, each_member, each_weaker, filter_spare, filter_within, spare_is_idle, told_of_seats, told_without_spare}
+use Rattle.erm_spare_names.proofs.Seats.{IsSaidOfFirst, commits_of_seats, each_before, each_either, each_joined, each_mapped, each_member, each_weaker, ended_of_seats, ended_without_spare, filter_spare, filter_within, spare_is_idle, told_of_seats, told_without_spare}
 
 -- ---- places of a script's lines, and of sessions that were closed
 
@@ -55,6 +56,11 @@ same_mapped : {X Y : Type 0} (f g : X → Y) (xs : List X) → AllByRecursion (�
 same_mapped f g [] all = refl
 same_mapped f g (x ∷ xs) all = ap (λ y. y ∷ map f xs) all.0 ∙ ap (λ ys. g x ∷ ys) (same_mapped f g xs all.1)
 
+-- a line of the order is the same where its session's name is
+alike_line : (b : Bool) (names more : List (List ℕ)) (c : Committed) → name_of names c.session ≡ name_of more c.session → line_in_order b names c ≡ line_in_order b more c
+alike_line true names more c same = ap (λ (name : List ℕ). line.Commit name c.number c.stamp c.succ c.pred) same
+alike_line false names more c same = ap (λ (name : List ℕ). line.Safe name c.number c.succ) same
+
 module _ (names spare : List (List ℕ)) where
   -- a session has one name, with spare names behind the others and without
   abbrev IsNamedAlike : ℕ → Type 0
@@ -66,8 +72,8 @@ module _ (names spare : List (List ℕ)) where
   lines_without : (opening : Opening) (script : List ScriptLine) (r : Report) → AllByRecursion (λ c. IsNamedAlike c.session) r.closed → AllByRecursion (λ c. IsNamedAlike c.session) r.order
       → report_lines opening (names ++ spare) script r ≡ report_lines opening names script r
   lines_without opening script r closed order =
-      ap (λ (ends : List Line). lines ends (map (commit_line (names ++ spare)) r.order)) (same_mapped (close_line (names ++ spare)) (close_line names) r.closed ends_alike)
-      ∙ ap (λ (commits : List Line). lines (map (close_line names) r.closed) commits) (same_mapped (commit_line (names ++ spare)) (commit_line names) r.order commits_alike)
+      ap (λ (ends : List Line). lines ends (map (order_line (names ++ spare)) r.order)) (same_mapped (close_line (names ++ spare)) (close_line names) r.closed ends_alike)
+      ∙ ap (λ (commits : List Line). lines (map (close_line names) r.closed) commits) (same_mapped (order_line (names ++ spare)) (order_line names) r.order commits_alike)
     where
       lines : (ends commits : List Line) → List Line
       lines ends commits =
@@ -80,10 +86,10 @@ module _ (names spare : List (List ℕ)) where
           each_weaker (λ (c : Closed). IsNamedAlike c.session) (λ (c : Closed). close_line (names ++ spare) c ≡ close_line names c)
           (λ c same. ap (λ (name : List ℕ). line.Close name c.answer) same) r.closed closed
 
-      commits_alike : AllByRecursion (λ (c : Committed). commit_line (names ++ spare) c ≡ commit_line names c) r.order
+      commits_alike : AllByRecursion (λ (c : Committed). order_line (names ++ spare) c ≡ order_line names c) r.order
       commits_alike =
-          each_weaker (λ (c : Committed). IsNamedAlike c.session) (λ (c : Committed). commit_line (names ++ spare) c ≡ commit_line names c)
-          (λ c same. ap (λ (name : List ℕ). line.Commit name c.number c.stamp c.succ c.pred) same) r.order order
+          each_weaker (λ (c : Committed). IsNamedAlike c.session) (λ (c : Committed). order_line (names ++ spare) c ≡ order_line names c)
+          (λ c same. alike_line (nat_lt c.stamp LOG_END) (names ++ spare) names c same) r.order order
 
   -- what is so of each commit is so in their order
   in_order : (P : Committed → Type 0) (commits order : List Committed) → IsSerialOrder rank_of commits order → AllByRecursion P commits → AllByRecursion P order
@@ -97,6 +103,14 @@ module _ (names spare : List (List ℕ)) where
   module _ (said : List Said) (first : IsSaidOfFirst (length names) said) where
     no_more : TellNoMore names spare said
     no_more = sym (ap (λ (n : ℕ). transactions_of n said) seats ∙ told_without_spare (length names) (length spare) said first)
+
+    no_more_ended : ended_of (length names) said ≡ ended_of (length (names ++ spare)) said
+    no_more_ended = sym (ap (λ (n : ℕ). ended_of n said) seats ∙ ended_without_spare (length names) (length spare) said first)
+
+    no_more_placed : serial_of (length names) said ≡ serial_of (length (names ++ spare)) said
+    no_more_placed =
+        ap (λ (ts : List Transaction). history_of ts ++ ended_of (length names) said) no_more
+        ∙ ap (λ (cs : List Committed). history_of (transactions_of (length (names ++ spare)) said) ++ cs) no_more_ended
 
     -- just the sessions that aren't idle are closed, and no spare one is among them
     abbrev is_busy : ℕ → Bool
@@ -135,7 +149,7 @@ good opening names spare script lines few told = (
       each = g.each;
       closes = closes;
       owes = subst (λ (ts : List Transaction). OwesToAnswers AtOnce opening script r.answers ts) (sym same) g.owes;
-      order = subst (λ (ts : List Transaction). OrderAgrees (history_of ts) opening.map r) (sym same) g.order;
+      order = subst (λ (cs : List Committed). OrderAgrees cs opening.map r) (sym placed) g.order;
     };
     rise = subst (λ (ts : List Transaction). StampsRise AtOnce ts (said_of script r.answers)) (sym same) told.rise;
     tight = subst HaveTightWindows (sym same) told.tight;
@@ -165,38 +179,53 @@ good opening names spare script lines few told = (
     ends_first : AllByRecursion (λ (c : Closed). c.session ≤ length names) r.closed
     ends_first = closed_of_seats names spare (said_of script r.answers) said (λ (seat : ℕ). seat ≤ length names) (λ seat some most. most) r.closed closes
 
+    first : IsSaidOfFirst (length names) places
+    first = places_first (length names) script r.answers r.closed lines_first ends_first
+
     same : TellNoMore names spare places
-    same = no_more names spare places (places_first (length names) script r.answers r.closed lines_first ends_first)
+    same = no_more names spare places first
+
+    placed : serial_of (length names) places ≡ serial_of (length (names ++ spare)) places
+    placed = no_more_placed names spare places first
 
     ends_named : AllByRecursion (λ (c : Closed). IsNamedAlike names spare c.session) r.closed
     ends_named = closed_of_seats names spare (said_of script r.answers) said (IsNamedAlike names spare) (named_alike names spare) r.closed closes
 
-    told_named : AllByRecursion (λ (c : Committed). IsNamedAlike names spare c.session) (history_of (transactions_of (length names) places))
+    told_named : AllByRecursion (λ (c : Committed). IsNamedAlike names spare c.session) (serial_of (length names) places)
     told_named =
-        commits_of_seats (IsNamedAlike names spare) (transactions_of (length names) places) (told_of_seats (IsNamedAlike names spare) (length names) places (named_alike names spare))
+        each_joined (λ (c : Committed). IsNamedAlike names spare c.session) (history_of (transactions_of (length names) places)) (ended_of (length names) places)
+        (commits_of_seats (IsNamedAlike names spare) (transactions_of (length names) places) (told_of_seats (IsNamedAlike names spare) (length names) places (named_alike names spare)))
+        (ended_of_seats (IsNamedAlike names spare) (length names) places (named_alike names spare))
 
     order_named : AllByRecursion (λ (c : Committed). IsNamedAlike names spare c.session) r.order
     order_named =
-        in_order names spare (λ (c : Committed). IsNamedAlike names spare c.session) (history_of (transactions_of (length (names ++ spare)) places)) r.order g.order.serial
-        (subst (λ (ts : List Transaction). AllByRecursion (λ (c : Committed). IsNamedAlike names spare c.session) (history_of ts)) same told_named)
+        in_order names spare (λ (c : Committed). IsNamedAlike names spare c.session) (serial_of (length (names ++ spare)) places) r.order g.order.serial
+        (subst (λ (cs : List Committed). AllByRecursion (λ (c : Committed). IsNamedAlike names spare c.session) cs) placed told_named)
 
 -- Behind the lines answered sessions were closed that no line tells: they are sessions of these lines, so that spare names tell nothing of them.
-pub unseen_no_more : (names spare : List (List ℕ)) (script : List ScriptLine) (counts : ℕ → ℕ) (answers : List Answer) (closed : List Closed) → NamesOnlyFirst (length names) script
-    → ((c : Closed) → c ∈ closed → IsUnseen script (answered_of counts script) answers c) → TellNoMore names spare (places_of (answered_of counts script) answers closed)
-unseen_no_more names spare script counts answers closed few unseen =
+unseen_first : (names spare : List (List ℕ)) (script : List ScriptLine) (counts : ℕ → ℕ) (answers : List Answer) (closed : List Closed) → NamesOnlyFirst (length names) script
+    → ((c : Closed) → c ∈ closed → IsUnseen script (answered_of counts script) answers c) → IsSaidOfFirst (length names) (places_of (answered_of counts script) answers closed)
+unseen_first names spare script counts answers closed few unseen =
     let part = answered_of counts script in
     let part_first : AllByRecursion (λ (l : ScriptLine). l.session ≤ length names) part = answered_first (length names) counts script (each_member (λ (l : ScriptLine). l.session ≤ length names) script few) in
     let said : IsSaidOfFirst (length names) (said_of part answers) = said_first (length names) part answers part_first in
     let ends_first : AllByRecursion (λ (c : Closed). c.session ≤ length names) closed =
     each_member (λ (c : Closed). c.session ≤ length names) closed (λ c m. sealed_first names spare (said_of part answers) said c.session (unseen c m).sealed)
     in
-    no_more names spare (places_of part answers closed) (places_first (length names) part answers closed part_first ends_first)
+    places_first (length names) part answers closed part_first ends_first
+
+pub unseen_no_more : (names spare : List (List ℕ)) (script : List ScriptLine) (counts : ℕ → ℕ) (answers : List Answer) (closed : List Closed) → NamesOnlyFirst (length names) script
+    → ((c : Closed) → c ∈ closed → IsUnseen script (answered_of counts script) answers c) → TellNoMore names spare (places_of (answered_of counts script) answers closed)
+unseen_no_more names spare script counts answers closed few unseen =
+    no_more names spare (places_of (answered_of counts script) answers closed) (unseen_first names spare script counts answers closed few unseen)
 
 cut : (opening : Opening) (names spare : List (List ℕ)) (script : List ScriptLine) (lines : List Line) → NamesOnlyFirst (length names) script
     → CutWithoutSpare opening names spare script lines
 cut opening names spare script lines few told =
     let part = answered_of told.counts script in
-    let same : TellNoMore names spare (places_of part told.answers told.closed) = unseen_no_more names spare script told.counts told.answers told.closed few told.unseen in (
+    let places = places_of part told.answers told.closed in
+    let first : IsSaidOfFirst (length names) places = unseen_first names spare script told.counts told.answers told.closed few told.unseen in
+    let same : TellNoMore names spare places = no_more names spare places first in (
       record {
         counts = told.counts;
         answers = told.answers;
@@ -206,7 +235,9 @@ cut opening names spare script lines few told =
         closed = told.closed;
         once = told.once;
         unseen = told.unseen;
-        owes = subst (λ (ts : List Transaction). OwesInPart opening script part told.answers ts) (sym same) told.owes;
+        owes =
+            subst (λ (cs : List Committed). OwesInPart opening script part told.answers (transactions_of (length names) places) cs) (sym (no_more_ended names spare places first))
+            (subst (λ (ts : List Transaction). OwesInPart opening script part told.answers ts (ended_of (length (names ++ spare)) places)) (sym same) told.owes);
       },
       refl,
       refl,

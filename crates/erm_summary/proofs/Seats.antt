@@ -1,6 +1,6 @@
 -- What is kept of all sessions, answer by answer.
 use Rattle.std.proofs.Common.{◌≡◌, ℕ, zero, suc, ◌+◌, ◌<◌, ◌≤◌, ◌^◌, true, eqb, cond, List, [], ◌∷◌, ◌++◌, length, get_or, take, Option, Some, None, Result, Ok, Err, OnOk, refl, sym, ap, ◌∙◌, subst, arith, append-nil}
-use Rattle.std.specs.List.{flat_map, range_with_len, slice_get}
+use Rattle.std.specs.List.{filter_map, flat_map, range_with_len, slice_get}
 use Rattle.std.specs.Option.{option_to_list}
 use Rattle.std.proofs.Math.ListN.{set}
 use Rattle.std.proofs.lemmas.Bool.{ne_eqb}
@@ -10,10 +10,11 @@ use Rattle.std.proofs.lemmas.List.Sums.{fold-append}
 use Rattle.std.proofs.lemmas.List.Elements.{filter_map-append}
 use Rattle.erm_report.specs.declared.answer.Answer.{Answer}
 use Rattle.erm_script.specs.declared.script.ScriptLine.{ScriptLine}
-use Rattle.erm_good_report.specs.Transactions.{Said, said_of, Transaction, Progress, nothing, heard, progress_of, committed_of, history_of}
+use Rattle.erm_good_report.specs.GoodReport.{serial_of}
+use Rattle.erm_good_report.specs.Transactions.{Said, said_of, Transaction, Progress, ended_as, nothing, heard, progress_of, committed_of, history_of, transactions_of}
 use Rattle.erm_summary.specs.declared.hearing.Begun.{Begun}
 use Rattle.erm_summary.specs.declared.hearing.Session.{Session}
-use Rattle.erm_summary.specs.Told.{Follows, IsCurrent, FollowEach, HaveRoom, committed_as_told, history_told}
+use Rattle.erm_summary.specs.Told.{Follows, IsCurrent, FollowEach, HaveRoom, committed_as_told, history_told, taken_in}
 
 own : (a b : ℕ) → a ≡ b → eqb a b ≡ true
 own a b same = grind (arith, nat_tests)
@@ -65,7 +66,7 @@ module _ (script : List ScriptLine) (answers : List Answer) where
   one_more_seat first [] s seat follows each = (omega (arith, seat), follows, tt)
   one_more_seat first (x ∷ sessions) s seat follows (same, before, each) = (same, before, one_more_seat (first + 1) sessions s (omega (arith, seat)) follows each)
 
-  -- the commits of one session, and of all
+  -- the commits of one session, and of all; and so the snapshots that ended
   none_current : (seat : ℕ) (o : Option Transaction) (b : Option Begun) → IsCurrent script answers seat o b → history_of (option_to_list o) ≡ []
   none_current seat None b h = refl
   none_current seat (Some t) None h = absurd h
@@ -78,7 +79,7 @@ module _ (script : List ScriptLine) (answers : List Answer) where
       ∙ ap (λ more. history_of p.over ++ more) (none_current s.seat p.current s.current f.current)
       ∙ append-nil (history_of p.over) ∙ f.commits
 
-  pub all_histories : (said : List Said) (first : ℕ) (sessions : List Session) → FollowEach script answers said first sessions →
+  all_histories : (said : List Said) (first : ℕ) (sessions : List Session) → FollowEach script answers said first sessions →
       history_told script answers (flat_map (λ s. s.commits.items) sessions)
       ≡ history_of (flat_map (λ session. (progress_of session said).over ++ option_to_list (progress_of session said).current) (range_with_len first (length sessions)))
   all_histories said first [] each = refl
@@ -90,24 +91,44 @@ module _ (script : List ScriptLine) (answers : List Answer) where
       ∙ ap (λ more. more ++ history_of rest) (sym (one_history p s follows))
       ∙ sym (filter_map-append committed_of (p.over ++ option_to_list p.current) rest)
 
--- room for transactions
+  all_ended : (said : List Said) (first : ℕ) (sessions : List Session) → FollowEach script answers said first sessions →
+      history_told script answers (flat_map (λ s. s.ended.items) sessions)
+      ≡ flat_map (λ session. filter_map (ended_as session) (progress_of session said).snapshots) (range_with_len first (length sessions))
+  all_ended said first [] each = refl
+  all_ended said first (s ∷ sessions) (seat, follows, each) =
+      let rest = flat_map (λ session. filter_map (ended_as session) (progress_of session said).snapshots) (range_with_len (first + 1) (length sessions)) in
+      let here : filter_map (ended_as first) (progress_of first said).snapshots ≡ history_told script answers s.ended.items =
+      subst (λ (q : ℕ). filter_map (ended_as q) (progress_of first said).snapshots ≡ history_told script answers s.ended.items) seat follows.ended
+      in
+      map-append (committed_as_told script answers) s.ended.items (flat_map (λ s. s.ended.items) sessions)
+      ∙ ap (λ more. history_told script answers s.ended.items ++ more) (all_ended said (first + 1) sessions each)
+      ∙ ap (λ more. more ++ rest) (sym here)
+
+  pub all_placed : (said : List Said) (sessions : List Session) → FollowEach script answers said 1 sessions →
+      history_told script answers (flat_map (λ s. s.commits.items) sessions ++ flat_map (λ s. s.ended.items) sessions) ≡ serial_of (length sessions) said
+  all_placed said sessions each =
+      map-append (committed_as_told script answers) (flat_map (λ s. s.commits.items) sessions) (flat_map (λ s. s.ended.items) sessions)
+      ∙ ap (λ more. more ++ history_told script answers (flat_map (λ s. s.ended.items) sessions)) (all_histories said 1 sessions each)
+      ∙ ap (λ more. history_of (transactions_of (length sessions) said) ++ more) (all_ended said 1 sessions each)
+
+-- room for transactions and snapshots
 pub less_room : (n m : ℕ) (sessions : List Session) → n ≤ m → HaveRoom m sessions → HaveRoom n sessions
 less_room n m [] less room = tt
 less_room n m (s ∷ sessions) less (here, room) = (omega (arith, less, here), less_room n m sessions less room)
 
-pub room_at : (n k : ℕ) (sessions : List Session) (s : Session) → k < length sessions → get_or sessions k s ≡ s → HaveRoom n sessions → s.over + n < 2 ^ 32
+pub room_at : (n k : ℕ) (sessions : List Session) (s : Session) → k < length sessions → get_or sessions k s ≡ s → HaveRoom n sessions → taken_in s + n < 2 ^ 32
 room_at n k [] s within at room = absurd (omega (arith, within))
-room_at n zero (x ∷ sessions) s within at (here, room) = subst (λ (y : Session). y.over + n < 2 ^ 32) at here
+room_at n zero (x ∷ sessions) s within at (here, room) = subst (λ (y : Session). taken_in y + n < 2 ^ 32) at here
 room_at n (suc k) (x ∷ sessions) s within at (here, room) = room_at n k sessions s (omega (arith, within)) at room
 
-pub room_left : (n k : ℕ) (sessions : List Session) (old new : Session) → k < length sessions → get_or sessions k old ≡ old → new.over ≤ old.over + 1 → HaveRoom (n + 1) sessions → HaveRoom n (set sessions k new)
+pub room_left : (n k : ℕ) (sessions : List Session) (old new : Session) → k < length sessions → get_or sessions k old ≡ old → taken_in new ≤ taken_in old + 1 → HaveRoom (n + 1) sessions → HaveRoom n (set sessions k new)
 room_left n k [] old new within at grows room = absurd (omega (arith, within))
 room_left n zero (x ∷ sessions) old new within at grows (here, room) =
-    let now : old.over + (n + 1) < 2 ^ 32 = subst (λ (y : Session). y.over + (n + 1) < 2 ^ 32) at here in
+    let now : taken_in old + (n + 1) < 2 ^ 32 = subst (λ (y : Session). taken_in y + (n + 1) < 2 ^ 32) at here in
     (omega (arith, now, grows), less_room n (n + 1) sessions (omega arith) room)
 room_left n (suc k) (x ∷ sessions) old new within at grows (here, room) = (omega (arith, here), room_left n k sessions old new (omega (arith, within)) at grows room)
 
-pub room_for_one : (n : ℕ) (sessions : List Session) (s : Session) → s.over + n < 2 ^ 32 → HaveRoom n sessions → HaveRoom n (sessions ++ s ∷ [])
+pub room_for_one : (n : ℕ) (sessions : List Session) (s : Session) → taken_in s + n < 2 ^ 32 → HaveRoom n sessions → HaveRoom n (sessions ++ s ∷ [])
 room_for_one n [] s more room = (more, tt)
 room_for_one n (x ∷ sessions) s more (here, room) = (here, room_for_one n sessions s more room)
 

@@ -1,21 +1,22 @@
-//! The transactions that a report tells committed.
+//! The transactions that a report tells committed, and the safe snapshots that it tells ended.
 ghost use Rattle.std.specs.Prelude.{◌≡◌, ℕ, ◌+◌, ◌^◌, ◌<◌, ◌≤◌, List, [], ◌∷◌, ◌++◌, Some, IfOk, OnOk, length, map, Option};
 ghost use Rattle.std.specs.List.{flat_map};
 ghost use Rattle.erm_report.specs.declared.answer.Answer.{Answer as Answered};
-ghost use Rattle.erm_script.specs.declared.script.Command.{Command};
+ghost use Rattle.erm_script.specs.declared.script.Command.{Command as Asked};
 ghost use Rattle.erm_script.specs.declared.script.ScriptLine.{ScriptLine as LineOfScript};
-ghost use Rattle.erm_good_report.specs.GoodReport.{places_of};
-ghost use Rattle.erm_good_report.specs.Transactions.{Said, said_of, history_of, transactions_of};
+ghost use Rattle.erm_good_report.specs.GoodReport.{places_of, serial_of};
+ghost use Rattle.erm_good_report.specs.Phases.{asks_safe};
+ghost use Rattle.erm_good_report.specs.Transactions.{Said, said_of};
 ghost use Rattle.erm_summary.specs.Told.{FollowEach, HaveRoom, IsAskedAt, closed_of, closes_of, history_told};
 
 use crate::hearing::Session;
 use crate::{ClosedSession, ToldCommit};
 use erm_model::Seat;
 use erm_report::Answer;
-use erm_script::ScriptLine;
+use erm_script::{Command, ScriptLine};
 use std::alloc::{AllocError, Global};
 
-/// The transactions that the answers tell committed, session by session, and in each in turn.
+/// The transactions that the answers tell committed, session by session, and in each in turn; and then so the safe snapshots that ended.
 pub fn commits_told(
     alloc: Global,
     sessions: Seat,
@@ -25,7 +26,7 @@ pub fn commits_told(
 ) -> Result<Vec<ToldCommit>, AllocError>
     requires short { length script.now + length closed.now < 2 ^ 32 }
     ensures { IfOk result (λ commits. history_told script.now answers.now commits.items
-        ≡ history_of (transactions_of sessions (places_of script.now answers.now (map closed_of closed.now)))) }
+        ≡ serial_of sessions (places_of script.now answers.now (map closed_of closed.now))) }
 {
     let mut heard = silent(alloc, sessions)?;
     hear_lines(alloc, &mut heard, script, answers)?;
@@ -46,6 +47,8 @@ fn silent(alloc: Global, sessions: Seat) -> Result<Vec<Session>, AllocError>
             over: 0,
             commits: Vec::new(alloc),
             current: None,
+            ended: Vec::new(alloc),
+            watched: None,
         })?;
     }
     Ok(heard)
@@ -66,7 +69,8 @@ fn hear_lines(
 {
     for (place, line) in script.iter().enumerate() {
         if let Some(answer) = answers.get(place) {
-            hear_at(alloc, heard, line.session, Some(place), answer)?;
+            let asks = asks_safe(&line.command);
+            hear_at(alloc, heard, line.session, Some(place), asks, answer)?;
         }
     }
     Ok(())
@@ -84,7 +88,7 @@ fn hear_closes(
     ensures count { OnOk result (length heard.new.items ≡ length heard.old.items) }
 {
     for close in closed {
-        hear_at(alloc, heard, close.session, None, &close.answer)?;
+        hear_at(alloc, heard, close.session, None, false, &close.answer)?;
     }
     Ok(())
 }
@@ -95,11 +99,12 @@ fn hear_at(
     heard: &mut Vec<Session>,
     seat: Seat,
     place: Option<usize>,
+    asks: bool,
     answer: &Answer,
 ) -> Result<(), AllocError>
     requires room { HaveRoom 1 heard.old.items }
-    ensures follows { OnOk result ((script : List LineOfScript) (answers : List Answered) (said : List Said) (asked : Option Command)
-        → IsAskedAt script answers place asked answer.now → FollowEach script answers said 1 heard.old.items
+    ensures follows { OnOk result ((script : List LineOfScript) (answers : List Answered) (said : List Said) (asked : Option Asked)
+        → IsAskedAt script answers place asked answer.now → asks_safe asked ≡ asks → FollowEach script answers said 1 heard.old.items
         → FollowEach script answers (said ++ record { session = seat; asked = asked; answer = answer.now } ∷ []) 1 heard.new.items) }
     ensures room { OnOk result ((more : ℕ) → HaveRoom (more + 1) heard.old.items → HaveRoom more heard.new.items) }
     ensures count { OnOk result (length heard.new.items ≡ length heard.old.items) }
@@ -108,16 +113,26 @@ fn hear_at(
     if number == 0 || number > heard.len() {
         return Ok(());
     }
-    heard[number - 1].hear(alloc, place, answer)
+    heard[number - 1].hear(alloc, place, asks, answer)
 }
 
-// The commits of the sessions, one session after another.
-fn gather(alloc: Global, heard: Vec<Session>) -> Result<Vec<ToldCommit>, AllocError>
-    ensures { IfOk result (λ commits. commits.items ≡ flat_map (λ s. s.commits.items) heard.items) }
+// Whether a line asks for a safe snapshot.
+fn asks_safe(command: &Command) -> bool
+    ensures { result ≡ asks_safe (Some command.now) }
 {
-    let mut commits = Vec::new(alloc);
+    matches!(command, Command::Safe)
+}
+
+// The commits of the sessions, one session after another, and then their snapshots that ended.
+fn gather(alloc: Global, heard: Vec<Session>) -> Result<Vec<ToldCommit>, AllocError>
+    ensures { IfOk result (λ placed. placed.items ≡ flat_map (λ s. s.commits.items) heard.items ++ flat_map (λ s. s.ended.items) heard.items) }
+{
+    let mut placed = Vec::new(alloc);
+    let mut ended = Vec::new(alloc);
     for mut session in heard {
-        commits.append(&mut session.commits)?;
+        placed.append(&mut session.commits)?;
+        ended.append(&mut session.ended)?;
     }
-    Ok(commits)
+    placed.append(&mut ended)?;
+    Ok(placed)
 }

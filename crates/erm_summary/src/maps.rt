@@ -1,4 +1,4 @@
-//! The map after the transactions that committed.
+//! The map after the transactions that committed. The snapshots among them only read.
 ghost use Rattle.std.specs.Prelude.{◌≡◌, IfOk, OnOk, List};
 ghost use Rattle.std.specs.FinMap.{from_entries};
 ghost use Rattle.std.specs.Option.{option_to_list};

@@ -1,4 +1,4 @@
-//! The serial order of the transactions that committed.
+//! The serial order of the transactions that committed and the safe snapshots that ended.
 ghost use Rattle.std.specs.Prelude.{◌≡◌, List, IfOk, IsPermutation, length, map};
 ghost use Rattle.std.specs.List.{range_with_len};
 ghost use Rattle.erm_model.specs.Committed.{rank_of};

@@ -5,10 +5,10 @@ ghost use Rattle.erm_good_report.specs.GoodReport.{close_line};
 ghost use Rattle.erm_report.specs.declared.line.Line.TheVariants as line;
 ghost use Rattle.erm_script.specs.Script.{name_of};
 ghost use Rattle.erm_summary.specs.Told.{closed_of};
-ghost use Rattle.erm_summary.specs.Summary.{Summarizes, at_places, commit_told, opening_at};
+ghost use Rattle.erm_summary.specs.Summary.{Summarizes, at_places, opening_at, order_told};
 
 use crate::{ClosedSession, ToldCommit, commits_told, map_after, order_of};
-use erm_model::{Map, Name, Pair, Seat, Stamp};
+use erm_model::{LOG_END, Map, Name, Pair, Seat, Stamp};
 use erm_report::{Answer, Line};
 use erm_script::ScriptLine;
 use std::alloc::{AllocError, Global};
@@ -85,7 +85,7 @@ fn lines_of_closes(
         .collect(alloc)
 }
 
-// Adds the lines of the commits, in this order.
+// Adds the lines of the commits and snapshots, in this order.
 fn push_order(
     names: &[Name],
     commits: &[ToldCommit],
@@ -93,23 +93,39 @@ fn push_order(
     lines: &mut Vec<Line>,
 ) -> Result<(), AllocError>
     ensures { OnOk result (lines.new.items ≡ lines.old.items ++ line.Order (length commits.now)
-        ∷ map (commit_told names.now) (at_places commits.now order.now)) }
+        ∷ map (order_told names.now) (at_places commits.now order.now)) }
 {
     lines.push(Line::Order {
         commits: commits.len(),
     })?;
     for place in order {
         if let Some(commit) = commits.get(*place) {
-            lines.push(Line::Commit {
-                session: name(names, commit.session),
-                number: commit.number,
-                stamp: commit.stamp,
-                succ: commit.succ,
-                pred: commit.pred,
-            })?;
+            lines.push(line_of(names, commit))?;
         }
     }
     Ok(())
+}
+
+// The line of one of the order: a commit has its stamp within the log, and a snapshot that ended has one above it.
+fn line_of(names: &[Name], commit: &ToldCommit) -> Line
+    ensures { result ≡ order_told names.now commit.now }
+{
+    let session = name(names, commit.session);
+    if commit.stamp < LOG_END {
+        Line::Commit {
+            session,
+            number: commit.number,
+            stamp: commit.stamp,
+            succ: commit.succ,
+            pred: commit.pred,
+        }
+    } else {
+        Line::Safe {
+            session,
+            number: commit.number,
+            at: commit.succ,
+        }
+    }
 }
 
 // Adds the lines of the map.

@@ -9,7 +9,8 @@ pub struct ClosedSession {
     pub answer: Answer,
 }
 
-/// A transaction that committed.
+/// A transaction that committed, or a safe snapshot that ended, which stands in the serial order at its begin stamp: that is its successor
+/// stamp, and its stamp is above all commits'.
 #[derive(Drop)]
 pub struct ToldCommit {
     pub session: Seat,

@@ -15,6 +15,10 @@ impl<L: RowLaw> SafeWorld for TableWorld<L> {
         self.safe(seat)
     }
 
+    fn snapshot_begin(&self, seat: Seat) -> Stamp {
+        self.snapshot_begin(seat)
+    }
+
     fn safe_read(&mut self, seat: Seat, oid: Oid) -> Row {
         standing_worlds_have_laws::<L>();
         self.safe_read(seat, oid)

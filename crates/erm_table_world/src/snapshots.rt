@@ -6,7 +6,7 @@ ghost use Rattle.erm_table_world.specs.Stands.{Stands, table_view};
 ghost use Rattle.erm_world.specs.declared.stops.BeginStop.TheVariants.{Memory};
 ghost use Rattle.erm_world.specs.Calls.{DidAbort, MayNotBegin};
 ghost use Rattle.erm_world.specs.Safe.{DidBeginSafe, DidNotSafe, DidSafe, DidSafeRead, HasSnapshot};
-ghost use Rattle.erm_world.specs.World.{IsSession, phase_at};
+ghost use Rattle.erm_world.specs.World.{IsSession, phase_at, work_at};
 
 use crate::TableWorld;
 use erm_model::{Oid, Row, RowLaw, Seat, Stamp};
@@ -38,6 +38,16 @@ impl<L: RowLaw> TableWorld<L> {
         ensures err { IfErr result (λ stop. DidNotSafe (table_view self.old) seat stop (table_view self.new)) }
     {
         self.sessions[seat as usize - 1].safe(&self.table, &mut self.pass)
+    }
+
+    /// The begin stamp of the snapshot, safe or not.
+    pub fn snapshot_begin(&self, seat: Seat) -> Stamp
+        requires stands { Stands L.law self.now }
+        requires session { IsSession (table_view self.now) seat }
+        requires snapshot { HasSnapshot (table_view self.now) seat }
+        ensures { result ≡ (work_at (table_view self.now) seat).begin }
+    {
+        self.sessions[seat as usize - 1].snapshot_begin()
     }
 
     /// The row of an object, below 2^14, as the safe snapshot sees it: the newest below its begin stamp.

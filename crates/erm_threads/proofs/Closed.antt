@@ -18,15 +18,15 @@ close_idle : (phase : Phase) (seat : ℕ) (a : Answer) (v t : View) → DidClose
 close_idle Idle seat a v t did = absurd did
 close_idle Active seat a v t (u, passes, did) = ap (λ (s : Session). phase_of s.stand) did.own
 close_idle Sealed seat a v t did = decided_idle seat a v t did
-close_idle Pending seat a v t did = absurd did
-close_idle Safe seat a v t did = absurd did
+close_idle Pending seat a v t (u, passes, did) = ap (λ (s : Session). phase_of s.stand) did.own
+close_idle Safe seat a v t (u, passes, did) = ap (λ (s : Session). phase_of s.stand) did.own
 
 end_idle : (phase : Phase) (seat : ℕ) (a : Answer) (v t : View) → WasEnded phase seat (Some a) v t → phase_at t seat ≡ Idle
 end_idle Idle seat a v t did = absurd (let no : Some a ≡ None = did.0 in cc)
 end_idle Active seat a v t did = close_idle (phase_at v seat) seat a v t did.did
 end_idle Sealed seat a v t did = close_idle (phase_at v seat) seat a v t did.did
-end_idle Pending seat a v t did = absurd (let no : Some a ≡ None = did.0 in cc)
-end_idle Safe seat a v t did = absurd (let no : Some a ≡ None = did.0 in cc)
+end_idle Pending seat a v t did = close_idle (phase_at v seat) seat a v t did.did
+end_idle Safe seat a v t did = close_idle (phase_at v seat) seat a v t did.did
 
 pub closed_idle : (f : View) (seat : ℕ) (lines : List ScriptLine) (answers : List Answer) (a : Answer) (v t : View) → DidWork f seat lines answers (Some a) v t → length answers ≡ length lines
     → phase_at t seat ≡ Idle

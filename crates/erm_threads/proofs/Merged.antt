@@ -21,6 +21,7 @@ move_own (command.Del table key) seat l a = refl
 move_own (command.Next table from) seat l a = refl
 move_own (command.Scan table low high) seat l a = refl
 move_own (command.Tidy table key) seat l a = refl
+move_own command.Safe seat l a = refl
 move_own command.Seal seat l a = refl
 move_own command.Settle seat l a = refl
 move_own command.Commit seat l a = refl

@@ -2,7 +2,7 @@
 use Rattle.std.specs.Prelude.{◌≡◌, ℕ, ◌<◌, ◌≤◌, ◌⊎◌, false, List, [], length, Option, None, Some, vec_capacity}
 use Rattle.std.specs.List.{slice_get}
 use Rattle.erm_model.specs.declared.outcome.Phase.{Phase}
-use Rattle.erm_model.specs.declared.outcome.Phase.TheVariants.{Active, Sealed}
+use Rattle.erm_model.specs.declared.outcome.Phase.TheVariants.{Active, Idle, Sealed}
 use Rattle.erm_model.specs.Member.{◌∈◌}
 use Rattle.erm_report.specs.declared.answer.Answer.{Answer}
 use Rattle.erm_script.specs.declared.script.ScriptLine.{ScriptLine}
@@ -18,11 +18,10 @@ pub record MayWork (seat : ℕ) (v : View) (lines : List ScriptLine) : Type 0 wh
   pub may : (l : ScriptLine) → l ∈ lines → MayBeAsked l.command
   pub ready : IsReady (v.session seat) None
 
--- behind its last line an idle session stood, as one with a snapshot would, and another was closed, or is sealed and waits
+-- behind its last line an idle session stood, and another was closed, or is sealed and waits
 abbrev pub WasEnded : Phase → ℕ → Option Answer → View → View → Type 0
-WasEnded Active seat closed v t = WasClosed seat closed v t
-WasEnded Sealed seat closed v t = WasClosed seat closed v t
-WasEnded phase seat closed v t = (closed ≡ None) × (t ≡ v)
+WasEnded Idle seat closed v t = (closed ≡ None) × (t ≡ v)
+WasEnded phase seat closed v t = WasClosed seat closed v t
 
 -- The first lines of a session were answered, in order. Where all were, it was ended behind them; else it was left, and isn't closed.
 pub record DidWork (f : View) (seat : ℕ) (lines : List ScriptLine) (answers : List Answer) (closed : Option Answer) (v t : View) : Type 0 where

@@ -63,6 +63,7 @@ fn copied_command(command: &Command) -> Command
             table: *table,
             key: *key,
         },
+        Command::Safe => Command::Safe,
         Command::Seal => Command::Seal,
         Command::Settle => Command::Settle,
         Command::Commit => Command::Commit,

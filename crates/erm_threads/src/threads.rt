@@ -6,14 +6,14 @@ ghost use Rattle.erm_node.specs.Sound.{sound_law};
 ghost use Rattle.erm_threads.specs.Work.{AllLeftWhenTold, AllWorked, IsJob, LeftWhenTold, Worked, done_of};
 
 use crate::{Job, work};
-use erm_beside::SharedSession;
+use erm_beside::SafeSession;
 use erm_worker::Turns;
 use std::alloc::Global;
 use std::sync::Wait;
 use std::thread::{self, Threads};
 
 /// Works all jobs, each on a thread of its own where one can be made. What their workers did stands in the jobs: no session goes elsewhere.
-pub fn work_all<S: SharedSession + Send, T: Turns + Send, R: Threads + Wait + Sync>(
+pub fn work_all<S: SafeSession + Send, T: Turns + Send, R: Threads + Wait + Sync>(
     rt: &R,
     alloc: Global,
     shared: &S::Shared,

@@ -10,7 +10,7 @@ ghost use Rattle.erm_worker.specs.Work.{GaveUp, RanShort};
 ghost use Rattle.erm_threads.specs.Work.{DidWork, IsJob, LeftWhenTold, MayWork, WasEnded, Worked, done_of};
 
 use crate::Job;
-use erm_beside::SharedSession;
+use erm_beside::{SafeSession, SharedSession};
 use erm_model::Phase;
 use erm_report::Answer;
 use erm_script::ScriptLine;
@@ -31,8 +31,8 @@ fn leave<S: SharedSession>(session: &mut S, shared: &S::Shared)
     }
 }
 
-// Closes a session behind its last line where it has a transaction.
-fn end<S: SharedSession, T: Turns, R: Wait>(
+// Closes a session behind its last line where it has a transaction, or a snapshot.
+fn end<S: SafeSession, T: Turns, R: Wait>(
     rt: &R,
     session: &mut S,
     shared: &S::Shared,
@@ -45,14 +45,13 @@ fn end<S: SharedSession, T: Turns, R: Wait>(
     ensures waits { result ≡ None → phase_at (S.own session.new) (S.seat session.old) ≡ Sealed → T.told turns.new }
 {
     match session.phase(shared) {
-        Phase::Active => close_session(rt, session, shared, turns),
-        Phase::Sealed => close_session(rt, session, shared, turns),
-        _ => None,
+        Phase::Idle => None,
+        _ => close_session(rt, session, shared, turns),
     }
 }
 
 // Runs the lines of a session, and closes it where none is left.
-fn run<S: SharedSession, T: Turns, R: Wait>(
+fn run<S: SafeSession, T: Turns, R: Wait>(
     rt: &R,
     alloc: Global,
     session: &mut S,
@@ -84,7 +83,7 @@ fn run<S: SharedSession, T: Turns, R: Wait>(
 
 /// Runs the lines of a session to their end, and closes it behind them, unless the worker is told to stop. Where memory runs out, the
 /// session stays all the same, with the answers up to then, and the other workers are told; and so does what the worker waited by.
-pub fn work<S: SharedSession, T: Turns, R: Wait>(
+pub fn work<S: SafeSession, T: Turns, R: Wait>(
     rt: &R,
     alloc: Global,
     shared: &S::Shared,

@@ -46,10 +46,10 @@ module _ (laws : HistoryLaws) (v : View) (sessions : ℕ) (said : List Said) (ho
   all = transactions_of sessions said
 
   known : (t : Transaction) (stamp succ : ℕ) → IsCommit all t stamp succ → IsCommitted v t stamp succ
-  known = commit_known v sessions said of tells marked
+  known = commit_known v sessions said of holds.numbered tells marked
 
   below_at : (bound : ℕ) → 0 < bound → RowsBelow v bound
-  below_at = rows_below laws v holds (record_told v sessions said of tells marked)
+  below_at = rows_below laws v holds (record_told v sessions said of holds.numbered tells marked)
 
   -- the rows on which a commit began
   began : (r : TransactionRecord) → r ∈ history_of v → RowsBelow v r.begin
@@ -112,7 +112,7 @@ module _ (laws : HistoryLaws) (v : View) (sessions : ℕ) (said : List Said) (ho
           omega (arith, newest, over.first)
 
       told_m : IsCommitTold all m
-      told_m = commit_told v sessions said of tells marked m within
+      told_m = commit_told v sessions said of holds.numbered tells marked m within
 
       was_put : WasPut all table key told_m.told.begin
       was_put = record { by = by; stamp = u.stamp; succ = succ; commit = commit; below = omega (arith, begins_later, told_m.begin); puts = puts }
@@ -298,7 +298,7 @@ module _ (laws : HistoryLaws) (v : View) (sessions : ℕ) (said : List Said) (ho
   both_ends t Aborts low high = tt
 
   pub tight_windows : IsOrderly v → HaveTightWindows all
-  tight_windows orderly t m = elim (one_told v sessions said of tells marked t m) as (λ _. IsTightAt t.ending all t) [
+  tight_windows orderly t m = elim (one_told v sessions said of holds.numbered tells marked t m) as (λ _. IsTightAt t.ending all t) [
     | inl it ↦ both_ends t t.ending (low_ends laws v sessions said holds of tells marked t m) (high_at orderly t it m t.ending refl)
     | inr none ↦ subst (λ (e : Ending). IsTightAt e all t) (sym none) tt
   ]

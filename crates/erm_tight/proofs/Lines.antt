@@ -23,6 +23,7 @@ use Rattle.erm_good_report.specs.Transactions.{Aborts, Ending, Excludes, op_of, 
 use Rattle.erm_good_report.specs.Windows.{IsReplied, IsTidied}
 use Rattle.erm_lines.specs.Answers.{DidOperation, WasRefusedAs, stop_told}
 use Rattle.erm_lines.specs.Operations.{AsksOf, FrontOf, Ran, WereCutOff}
+use Rattle.erm_causes.proofs.Answered.{last_number}
 use Rattle.erm_causes.proofs.Operated.{EndsBy, GoesOnBy, excluded_done, newer_done, owned_done}
 use Rattle.erm_told_limits.proofs.Ran.{ran}
 use Rattle.erm_tight.proofs.Calls.{same_kept}
@@ -33,7 +34,7 @@ use Rattle.erm_tight.proofs.Whole.{KeyLaws, Overwrites, WholeDid, front_only, ti
 pub data Called (v : View) (seat : ℕ) (c : Command) (a : Answer) (u : View) : Type 0 where
   goes : (events : List Event) → Ran v seat events u → LineDid (record { asked = c; answer = a }) events
       → ((before : List Step) → IsRunOf (work_at v seat) before → (steps : List Step) × IsRunOf (work_at u seat) steps) → GoesOnBy a → Called v seat c a u
-  out : (w : Work) (ending : Ending) → u.session seat ≡ record { over = (v.session seat).over ++ record { work = w; fate = world.aborts } ∷ []; stand = world.idle } → EndsBy a ending
+  out : (w : Work) (ending : Ending) → w.number ≡ (work_at v seat).number → u.session seat ≡ record { over = (v.session seat).over ++ record { work = w; fate = world.aborts } ∷ []; stand = world.idle } → EndsBy a ending
       → Called v seat c a u
 
 -- ANSWERED. What the events of a whole line tell of it.
@@ -77,27 +78,27 @@ module _ (laws : KeyLaws) (v u : View) (seat : ℕ) (c : Command) (k : ℕ) (nam
         let is : u ≡ did.at = (stopped did.at seat did.asked why u (ap phase_of gone.0.stand) did.refused).stays still in
         goes did.events (subst (λ (x : View). Ran v seat did.events x) (sym is) did.ran) (front_did why did) (λ before run. (before, did.run still before run)) hears
 
-    ends_at : (why : RowStop) (did : WereCutOff v seat (FrontOf c) (AsksOf c) why u) (w : Work) (ending : Ending) → IsDone did.at seat w world.aborts u → EndsBy a ending → Called v seat c a u
-    ends_at why did w ending done hears =
+    ends_at : (why : RowStop) (did : WereCutOff v seat (FrontOf c) (AsksOf c) why u) (w : Work) (ending : Ending) → w.number ≡ (work_at did.at seat).number → IsDone did.at seat w world.aborts u → EndsBy a ending → Called v seat c a u
+    ends_at why did w ending number done hears =
         let gone = ran sound_law did.events v did.at seat active did.ran in
-        out w ending (done.own ∙ ap (λ (fs : List Finished). record { over = fs ++ record { work = w; fate = world.aborts } ∷ []; stand = world.idle }) gone.0.over) hears
+        out w ending (number ∙ gone.0.more.number) (done.own ∙ ap (λ (fs : List Finished). record { over = fs ++ record { work = w; fate = world.aborts } ∷ []; stand = world.idle }) gone.0.over) hears
 
     refused : (why : RowStop) → stop_told why ≡ Some a → WereCutOff v seat (FrontOf c) (AsksOf c) why u → Called v seat c a u
     refused (stop.NotYet other seen) told did = let same : answer.WaitSeat other seen ≡ a = cc in stays_at (stop.NotYet other seen) did refl (subst GoesOnBy same (λ q asked p. refl))
     refused stop.ReadsFull told did = let same : answer.ReadsFull ≡ a = cc in stays_at stop.ReadsFull did refl (subst GoesOnBy same (λ q asked p. refl))
     refused (stop.Owned other number) told did =
         let same : answer.Owned other number ≡ a = cc in
-        ends_at (stop.Owned other number) did (work_at did.at seat) Aborts (owned_done did.at u seat other number did.asked did.refused) (subst (λ (b : Answer). EndsBy b Aborts) same (λ q asked p. refl))
+        ends_at (stop.Owned other number) did (work_at did.at seat) Aborts refl (owned_done did.at u seat other number did.asked did.refused) (subst (λ (b : Answer). EndsBy b Aborts) same (λ q asked p. refl))
     refused (stop.Newer stamp) told did =
         let same : answer.Newer stamp ≡ a = cc in
-        ends_at (stop.Newer stamp) did (work_at did.at seat) Aborts (newer_done did.at u seat stamp did.asked did.refused) (subst (λ (b : Answer). EndsBy b Aborts) same (λ q asked p. refl))
+        ends_at (stop.Newer stamp) did (work_at did.at seat) Aborts refl (newer_done did.at u seat stamp did.asked did.refused) (subst (λ (b : Answer). EndsBy b Aborts) same (λ q asked p. refl))
     refused stop.WritesFull told did = let same : answer.WritesFull ≡ a = cc in stays_at stop.WritesFull did refl (subst GoesOnBy same (λ q asked p. refl))
     refused (stop.CellsFull drawn) told did = let same : answer.CellsFull drawn ≡ a = cc in stays_at (stop.CellsFull drawn) did refl (subst GoesOnBy same (λ q asked p. refl))
     refused (stop.OidsFull drawn) told did = let same : answer.OidsFull drawn ≡ a = cc in stays_at (stop.OidsFull drawn) did refl (subst GoesOnBy same (λ q asked p. refl))
     refused (stop.Excluded succ pred) told did =
         let same : answer.ExcludedEarly succ pred ≡ a = cc in
         let shut = excluded_done did.at u seat succ pred did.asked did.refused in
-        ends_at (stop.Excluded succ pred) did shut.work (Excludes None succ pred) shut.done (subst (λ (b : Answer). EndsBy b (Excludes None succ pred)) same (λ q asked p. refl))
+        ends_at (stop.Excluded succ pred) did shut.work (Excludes None succ pred) (last_number did.asked (work_at did.at seat) shut.work shut.last) shut.done (subst (λ (b : Answer). EndsBy b (Excludes None succ pred)) same (λ q asked p. refl))
     refused stop.Memory told did = let never : None ≡ Some a = told in cc
 
     refused_as : WasRefusedAs v seat c a u → Called v seat c a u

@@ -31,12 +31,12 @@ module _ (laws : HistoryLaws) (v : View) (sessions : ℕ) (said : List Said) (ho
   module _ (t : Transaction) (it : IsOne v t) where
     -- the rows on which it began
     pub began : RowsBelow v it.one.work.begin
-    began = rows_below laws v holds (record_told v sessions said of tells marked) it.one.work.begin
+    began = rows_below laws v holds (record_told v sessions said of holds.numbered tells marked) it.one.work.begin
         (begins_above sound_law v holds it.seat it.one.work it.session (inl (it.one, it.over, refl)))
 
     low_of : (stamp : ℕ) → stamp_of it.one.fate ≡ Some stamp → (pred : ℕ) → AreBelow it.one.work pred → IsLowEnd all t pred
     low_of own is pred bounded table key stamp succ u line commit less puts =
-        let by = commit_known v sessions said of tells marked u stamp succ commit in
+        let by = commit_known v sessions said of holds.numbered tells marked u stamp succ commit in
         let w = it.one.work in
         let begin : t.begin ≡ w.begin = it.both.tells.work.begin in
         let below : by.by.stamp < w.begin = omega (arith, less, begin, by.stamp_is) in
@@ -79,7 +79,7 @@ module _ (laws : HistoryLaws) (v : View) (sessions : ℕ) (said : List Said) (ho
     low_at Aborts is = tt
 
   pub low_ends : (t : Transaction) → t ∈ all → IsLowAt t.ending all t
-  low_ends t m = elim (one_told v sessions said of tells marked t m) as (λ _. IsLowAt t.ending all t) [
+  low_ends t m = elim (one_told v sessions said of holds.numbered tells marked t m) as (λ _. IsLowAt t.ending all t) [
     | inl it ↦ low_at t it t.ending refl
     | inr none ↦ subst (λ (e : Ending). IsLowAt e all t) (sym none) tt
   ]

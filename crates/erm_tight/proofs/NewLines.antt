@@ -6,7 +6,7 @@ use Rattle.erm_model.specs.declared.limits.TheConstants.{PUT_OBJECTS}
 use Rattle.erm_model.specs.declared.outcome.Phase.TheVariants.{Active}
 use Rattle.erm_model.specs.Member.{◌∈◌}
 use Rattle.erm_node.specs.Sound.{sound_law}
-use Rattle.erm_world.specs.Laws.{IsSerializable}
+use Rattle.erm_world.specs.Laws.{IsNumbered, IsSerializable}
 use Rattle.erm_world.specs.World.{IsSession, Stand, View, history_of, phase_at, phase_of, work_at, work_of}
 use Rattle.erm_world.specs.World as world
 use Rattle.erm_maps.proofs.Histories.{work_in}
@@ -15,15 +15,17 @@ use Rattle.erm_report.specs.declared.answer.Answer.TheVariants as answer
 use Rattle.erm_script.specs.declared.script.Command.{Command}
 use Rattle.erm_script.specs.declared.script.Command.TheVariants as command
 use Rattle.erm_script.specs.declared.script.ScriptLine.{ScriptLine}
-use Rattle.erm_good_report.specs.Phases.{refusal_of}
+use Rattle.erm_good_report.specs.Phases.{NeedsWriter, refusal_of}
 use Rattle.erm_good_report.specs.Refusals.{claims_of, makes_of}
 use Rattle.erm_good_report.specs.Transactions.{Said, Transaction, progress_of}
 use Rattle.erm_lines.specs.Answers.{DidAsked, DidLine, DidOperation}
 use Rattle.erm_lines.specs.Told.{Tells, TellsNow}
+use Rattle.erm_lines.proofs.Moved.{active_where}
+use Rattle.erm_told.proofs.Lines.{in_either}
 use Rattle.erm_told_limits.proofs.Holds.{Laws, said_by}
 use Rattle.erm_told_limits.proofs.Totals.{mades_by_all, mades_turned}
 use Rattle.erm_told_limits.proofs.Lines.{Known}
-use Rattle.erm_told_limits.proofs.Turns.{line_turned, wanted}
+use Rattle.erm_told_limits.proofs.Turns.{line_turned}
 use Rattle.erm_told_limits.proofs.Given.{HistoryLaws}
 use Rattle.erm_tight.specs.NewKeys.{HaveNewKeys, PutsNewKey}
 use Rattle.erm_tight.proofs.Marks.{Puts}
@@ -53,7 +55,8 @@ new_keys-more sessions before (r ∷ said) s n (inl have) puts =
 new_keys-more sessions before (r ∷ said) s n (inr (first, (m, is, have))) puts =
     inr (first, (suc m, ap suc is, new_keys-more sessions (before ++ r ∷ []) said s m have (subst (λ (b : List Said). PutsNewKey sessions b s) (sym (append_assoc before (r ∷ []) said)) puts)))
 
-module _ (laws : HistoryLaws) (limits : Laws) (v t : View) (before : List Said) (tells : (seat : ℕ) → IsSession v seat → Tells seat (progress_of seat before) (v.session seat))
+module _ (laws : HistoryLaws) (limits : Laws) (v t : View) (before : List Said) (numbered : (seat : ℕ) → IsSession v seat → IsNumbered (v.session seat))
+    (tells : (seat : ℕ) → IsSession v seat → Tells seat (progress_of seat before) (v.session seat))
     (marked : (seat : ℕ) → IsSession v seat → IsMarked (progress_of seat before) (v.session seat)) (holds : IsSerializable sound_law t)
     (told : (r : TransactionRecord) → r ∈ history_of t → IsTold r) (stays : (r : TransactionRecord) → r ∈ history_of v → r ∈ history_of t) where
   pub going : (seat : ℕ) → IsSession v seat → phase_at v seat ≡ Active → IsGoing (progress_of seat before).current (work_at v seat)
@@ -84,7 +87,7 @@ module _ (laws : HistoryLaws) (limits : Laws) (v t : View) (before : List Said) 
         own = g.told;
         current = g.is;
         new = λ by stamp succ commit less puts.
-            let known = commit_known v v.opening.sessions before refl tells marked by stamp succ commit in
+            let known = commit_known v v.opening.sessions before refl numbered tells marked by stamp succ commit in
             let begin = begin_now l.session (progress_of l.session before).current (v.session l.session).stand g.told (tells l.session session).now g.is active in
             none known.by known.within (omega (arith, known.stamp_is, less, begin)) (known.marks.puts table key puts);
       }
@@ -98,11 +101,10 @@ module _ (laws : HistoryLaws) (limits : Laws) (v t : View) (before : List Said) 
         let turned = line_turned limits.rows_below limits.ways v l a t did holds (λ active. let g = going l.session did.session active in (g.steps, g.run)) in
         mades_turned (Known l.command t) (makes_of l.command) (claims_of l.command) 1 v l.session t did.session turned
 
-    by_growth : (table key : ℕ) (value : List ℕ) → l.command ≡ command.Put table key value → refusal_of (phase_at v l.session) (command.Put table key value) ≡ None
+    by_growth : (table key : ℕ) (value : List ℕ) → l.command ≡ command.Put table key value → phase_at v l.session ≡ Active
         → DidOperation v l.session (command.Put table key value) a t → (mades_by_all v < mades_by_all t) ⊎ (mades_by_all t ≤ mades_by_all v) → Counts l a
-    by_growth table key value asks allowed by_it (inr none) = inl none
-    by_growth table key value asks allowed by_it (inl some) =
-        let active = wanted Active (phase_at v l.session) tt allowed in
+    by_growth table key value asks active by_it (inr none) = inl none
+    by_growth table key value asks active by_it (inl some) =
         inr (
           put_new l a table key value asks did.session active (λ by within below puts. let none = known_none l.session table key value a did.session active by_it by within below puts in absurd (omega (arith, some, none))),
           omega (arith, most, ap makes_of asks),
@@ -110,8 +112,11 @@ module _ (laws : HistoryLaws) (limits : Laws) (v t : View) (before : List Said) 
 
     by_command : (c : Command) → l.command ≡ c → (refusal : Option Answer) → refusal_of (phase_at v l.session) c ≡ refusal → DidAsked refusal v l.session c a t → Counts l a
     by_command c is (Some r) refused same = inl (omega (arith, ap (λ (x : View). mades_by_all x) same))
-    by_command (command.Put table key value) is None allowed by_it = by_growth table key value is allowed by_it (cases_lt (mades_by_all v) (mades_by_all t))
-    by_command c is None allowed by_it = inl (omega (arith, most, ap makes_of is))
+    by_command (command.Put table key value) is None allowed did_in =
+        in_either (Counts l a) v t l.session (command.Put table key value) a
+        (λ plain by_it. by_growth table key value is (active_where NeedsWriter (phase_at v l.session) tt plain allowed) by_it (cases_lt (mades_by_all v) (mades_by_all t)))
+        (λ has by_it. absurd by_it) did_in
+    by_command c is None allowed did_in = inl (omega (arith, most, ap makes_of is))
 
     pub line_counts : Counts l a
     line_counts = by_command l.command refl (refusal_of (phase_at v l.session) l.command) refl did.did

@@ -5,23 +5,26 @@ use Rattle.erm_model.specs.declared.limits.TheConstants.{OID_LIMIT, PUT_OBJECTS}
 use Rattle.erm_model.specs.declared.row_stop.RowStop.TheVariants as stop
 use Rattle.erm_model.specs.Member.{◌∈◌}
 use Rattle.erm_model.specs.RowTransaction.{Asked, asked_claim, asked_make, asked_read}
+use Rattle.erm_model.specs.Run.{Step}
 use Rattle.erm_machine.proofs.Listed.{∈-head}
 use Rattle.erm_model.proofs.Members.{∈-behind}
 use Rattle.erm_node.specs.Sound.{sound_law}
 use Rattle.erm_tree.specs.Change.{count_makes}
 use Rattle.erm_world.specs.Calls.{AreAllMade}
 use Rattle.erm_world.specs.Face.{WasRefused}
-use Rattle.erm_world.specs.Laws.{IsSerializable}
-use Rattle.erm_world.specs.World.{IsSession, Session, View, history_of, phase_at, work_at}
+use Rattle.erm_world.specs.Going.{Extends}
+use Rattle.erm_world.specs.Laws.{IsNumbered, IsSerializable}
+use Rattle.erm_world.specs.World.{IsSession, Session, View, Work, history_of, phase_at, work_at}
 use Rattle.erm_world.specs.World as world
-use Rattle.erm_maps.specs.Runs.{IsRunOf}
+use Rattle.erm_maps.specs.Runs.{IsAnswered, IsRunOf}
 use Rattle.erm_report.specs.declared.answer.Answer.{Answer}
 use Rattle.erm_report.specs.declared.answer.Answer.TheVariants as answer
 use Rattle.erm_script.specs.declared.script.Command.{Command}
 use Rattle.erm_script.specs.declared.script.Command.TheVariants as command
 use Rattle.erm_script.specs.declared.script.ScriptLine.{ScriptLine}
 use Rattle.erm_script.specs.Script.{IsInRange}
-use Rattle.erm_good_report.specs.Phases.{FitsRefusal, IsAnswerTo, phase_asked, refusal_in, refusal_of}
+use Rattle.erm_good_report.specs.Phases.{FitsRefusal, IsAnswerTo, need_of, refusal_in, refusal_of}
+use Rattle.erm_good_report.proofs.Phases.{phase_refuses}
 use Rattle.erm_good_report.specs.Transactions.{Progress, Said, nothing, progress_of, said_of}
 use Rattle.erm_lines.specs.Answers.{DidLine}
 use Rattle.erm_lines.specs.Executions.{DidLog, DidLogLine, DidMove, IsCourse, IsExecution, IsOpened, Move, line_moves, move_of, said_in}
@@ -29,13 +32,13 @@ use Rattle.erm_lines.specs.Laws.{ExecutionsTell}
 use Rattle.erm_lines.specs.Operations.{AsksOf, FrontOf, WereCutOff}
 use Rattle.erm_lines.specs.Told.{Tells}
 use Rattle.erm_lines.proofs.Moved.{log_flushes, moved, said_move}
-use Rattle.erm_told.proofs.Runs.{executed_both, said_both}
-use Rattle.erm_causes.proofs.Moves.{move_history, move_range, session_before}
+use Rattle.erm_told.proofs.Runs.{executed_both, said_both, serializable_then}
+use Rattle.erm_causes.proofs.Moves.{move_history, move_range, opened_told, session_before}
 use Rattle.erm_causes.proofs.Tables.{AreMovesInRange, heard_said, run_opening}
 use Rattle.erm_told_limits.proofs.Holds.{Laws, said_by}
 use Rattle.erm_told_limits.proofs.Moved.{mades_in}
 use Rattle.erm_told_limits.proofs.Pigeons.{has_made, made_few}
-use Rattle.erm_told_limits.proofs.Refused.{WasFull, kind_of, oids_full, was_full}
+use Rattle.erm_told_limits.proofs.Refused.{WasFull, oids_full, was_full}
 use Rattle.erm_told_limits.proofs.Totals.{all_made, length_all, mades_by_all, mades_kept, times_all, total_zero}
 use Rattle.erm_told_limits.proofs.Given.{HistoryLaws}
 use Rattle.erm_tight.specs.NewKeys.{HaveNewKeys, PutsNewKey}
@@ -65,7 +68,7 @@ only_put drawn c fits = absurd fits
 fits_put : (drawn : ℕ) (v : View) (seat : ℕ) (c : Command) (refusal : Option Answer) → refusal_of (phase_at v seat) c ≡ refusal → FitsRefusal refusal c (answer.OidsFull drawn) → IsPutOf c
 fits_put drawn v seat c None is fits = only_put drawn c fits
 fits_put drawn v seat c (Some r) is fits =
-    let kind = kind_of (phase_asked c) (phase_at v seat) r is in
+    let kind = phase_refuses (need_of c) (phase_at v seat) r is in
     let none : refusal_in r ≡ None = ap refusal_in (sym fits) in
     absurd (cc)
 
@@ -80,7 +83,8 @@ asked_for_one drawn at t seat (asked_read oid) did = absurd did
 asked_for_one drawn at t seat (asked_claim oid) did = absurd did
 asked_for_one drawn at t seat asked_make did = (refl, did.0, did.2)
 
-module _ (laws : HistoryLaws) (limits : Laws) (keys : KeyLaws) (begun : (number begin : ℕ) → IsRunOf (world.begun number begin) []) (tell : ExecutionsTell) (v0 : View) (opened : IsOpened v0) where
+module _ (laws : HistoryLaws) (limits : Laws) (keys : KeyLaws) (begun : (number begin : ℕ) → IsRunOf (world.begun number begin) [])
+    (stay : (w u : Work) (steps : List Step) → Extends w u → IsAnswered w steps → IsAnswered u steps) (tell : ExecutionsTell) (v0 : View) (opened : IsOpened v0) where
   -- AFTER MOVES
   module _ (moves : List Move) (v : View) (run : IsExecution v0 moves v) (range : AreMovesInRange moves) where
     same : v.opening ≡ v0.opening
@@ -89,13 +93,16 @@ module _ (laws : HistoryLaws) (limits : Laws) (keys : KeyLaws) (begun : (number 
     tells : (seat : ℕ) → IsSession v seat → Tells seat (progress_of seat (said_in moves)) (v.session seat)
     tells seat session = (tell v0 v moves opened run seat (session_before v0 v seat same session)).0
 
+    numbered : (seat : ℕ) → IsSession v seat → IsNumbered (v.session seat)
+    numbered = (serializable_then moves v0 v opened.serializable run).numbered
+
     marked : (seat : ℕ) → IsSession v seat → IsMarked (progress_of seat (said_in moves)) (v.session seat)
     marked seat session =
         subst (λ (p : Progress). IsMarked p (v.session seat)) (heard_said moves (λ q. nothing) seat)
-        (run_marked keys begun moves (λ q. nothing) v0 v run range (opened_marked v0 opened) seat session)
+        (run_marked keys begun stay moves (λ q. nothing) v0 v run range (opened_told v0 opened) (opened_marked v0 opened) seat session)
 
     told : (r : TransactionRecord) → r ∈ history_of v → IsTold r
-    told r within = record_told v v.opening.sessions (said_in moves) refl tells marked r within
+    told r within = record_told v v.opening.sessions (said_in moves) refl numbered tells marked r within
 
   -- so many lines have put new keys
   record Counted (moves : List Move) (v : View) : Type 0 where
@@ -121,7 +128,7 @@ module _ (laws : HistoryLaws) (limits : Laws) (keys : KeyLaws) (begun : (number 
     of_line line =
         ⊎_elim (λ (none : mades_by_all u ≤ mades_by_all v). record { n = counted.n; have = still; most = omega (arith, none, counted.most) })
         (λ (some : PutsNewKey v.opening.sessions (said_in moves) (said_by l a) × (mades_by_all u ≤ mades_by_all v + PUT_OBJECTS)). record { n = suc counted.n; have = one_more some.0; most = omega (arith, some.1, counted.most) })
-        (line_counts laws limits v u (said_in moves) (tells moves v run range) (marked moves v run range) holds (told (moves ++ move_of l a ∷ []) u run_then range_then) (λ r within. move_history v (move_of l a) u did r within) l a line)
+        (line_counts laws limits v u (said_in moves) (numbered moves v run range) (tells moves v run range) (marked moves v run range) holds (told (moves ++ move_of l a ∷ []) u run_then range_then) (λ r within. move_history v (move_of l a) u did r within) l a line)
 
     of_log : DidLogLine v l a u → Counted (moves ++ move_of l a ∷ []) u
     of_log logged = record { n = counted.n; have = still; most = omega (arith, mades_kept v u (log_flushes v u l a logged), counted.most) }
@@ -145,10 +152,10 @@ module _ (laws : HistoryLaws) (limits : Laws) (keys : KeyLaws) (begun : (number 
         let cut : WereCutOff v l.session (FrontOf (command.Put table key value)) (AsksOf (command.Put table key value)) why u =
         subst (λ (c : Command). WereCutOff v l.session (FrontOf c) (AsksOf c) why u) put.is full.cut in
         let one = asked_for_one drawn cut.at u l.session cut.asked cut.refused in
-        let g = going laws limits v u (said_in moves) (tells moves v run range) (marked moves v run range) holds told_then stays l.session line.session full.active in
+        let g = going laws limits v u (said_in moves) (numbered moves v run range) (tells moves v run range) (marked moves v run range) holds told_then stays l.session line.session full.active in
         let lines = g.told.lines in
         let puts : PutsNewKey v.opening.sessions (said_in moves) (said_by l (answer.OidsFull drawn)) =
-        put_new laws limits v u (said_in moves) (tells moves v run range) (marked moves v run range) holds told_then stays l (answer.OidsFull drawn) table key value put.is line.session full.active
+        put_new laws limits v u (said_in moves) (numbered moves v run range) (tells moves v run range) (marked moves v run range) holds told_then stays l (answer.OidsFull drawn) table key value put.is line.session full.active
         (λ by within below known.
         cut_asks_none laws v u l.session line.session full.active holds told_then lines g.marks g.run.lawful table key value why cut by (stays by within) below known one.0) in
         let less : count_makes cut.events + 1 ≤ PUT_OBJECTS = cut_less laws v u l.session line.session full.active holds told_then lines g.marks g.run.lawful table key value why cut one.0 in

@@ -25,11 +25,13 @@ use Rattle.erm_causes.proofs.Moves.{session_before}
 use Rattle.erm_causes.proofs.Operated.{Operated, operated}
 use Rattle.erm_causes.proofs.Operated as operated
 use Rattle.erm_causes.proofs.Quiet.{HasNow}
+use Rattle.erm_causes.proofs.Snapshots.{Watches}
+use Rattle.erm_causes.proofs.Snapshots as snapshots
 use Rattle.erm_told_limits.proofs.Ran.{stays_one}
 use Rattle.erm_tight.proofs.Newest.{IsNewestMaker, newest_maker}
 use Rattle.erm_tight.proofs.Quiet.{Lined, Quiet, closed_quiet, lined}
 use Rattle.erm_tight.proofs.Quiet as quiet
-use Rattle.erm_tight.proofs.Undecided.{AreApart, IsOrderly, aborted_orderly, active_orderly, done_orderly, flushed_orderly, none_claimed, sealed_orderly}
+use Rattle.erm_tight.proofs.Undecided.{AreApart, IsOrderly, aborted_orderly, active_orderly, done_orderly, flushed_orderly, none_claimed, sealed_orderly, snapshot_orderly}
 
 -- CLAIMED. Nobody else made a version of a claimed object from the begin on.
 module _ (v : View) (seat : ℕ) (session : IsSession v seat) (active : phase_at v seat ≡ Active) (before : IsOrderly v) where
@@ -97,6 +99,11 @@ is_now : (v : View) (seat : ℕ) (w : Work) → HasNow (v.session seat).stand w 
 is_now v seat w (inl active) = ap work_of active
 is_now v seat w (inr (stamp, sealed)) = ap work_of sealed
 
+watched_orderly : (v t : View) (seat : ℕ) → Watches v seat t → IsOrderly v → IsOrderly t
+watched_orderly v t seat (snapshots.looks is) before = subst IsOrderly (sym is) before
+watched_orderly v t seat (snapshots.watches x did) before = snapshot_orderly v t seat x did before
+watched_orderly v t seat (snapshots.ends number begin did) before = aborted_orderly v t seat (world.begun number begin) did before
+
 quiet_orderly : (v : View) (seat : ℕ) (asked : Option Command) (a : Answer) (t : View) → IsSession v seat → AreApart v → AreStampedBelow v → Quiet v seat asked a t → IsOrderly v → IsOrderly t
 quiet_orderly v seat asked a t session apart below (quiet.still is hears) before = subst IsOrderly (sym is) before
 quiet_orderly v seat asked a t session apart below (quiet.begins number begin idle at works hears) before =
@@ -106,6 +113,7 @@ quiet_orderly v seat asked a t session apart below (quiet.begins number begin id
 quiet_orderly v seat asked a t session apart below (quiet.seals stamp active did hears) before = sealed_orderly v t seat stamp did session before below
 quiet_orderly v seat asked a t session apart below (quiet.done w fate ending now did bounded decides hears) before =
     done_orderly v t seat w fate (is_now v seat w now) did session apart before decides
+quiet_orderly v seat asked a t session apart below (quiet.watched starts did hears) before = watched_orderly v t seat did before
 
 -- a seal leaves what was claimed, and the stamps of those that are over
 module _ (v t : View) (seat own : ℕ) (did : DidSeal v seat own t) where

@@ -5,7 +5,7 @@ use Rattle.erm_model.specs.declared.history.TransactionRecord.{TransactionRecord
 use Rattle.erm_model.specs.Member.{◌∈◌}
 use Rattle.erm_model.proofs.Members.{none_in_nil}
 use Rattle.erm_machine.proofs.Listed.{∈-either, ∈-first}
-use Rattle.erm_world.specs.Laws.{IsCommitOf}
+use Rattle.erm_world.specs.Laws.{IsCommitOf, IsNumbered}
 use Rattle.erm_world.specs.World.{Fate, Finished, IsSession, Stand, View, history_of, record_of}
 use Rattle.erm_world.specs.World as world
 use Rattle.erm_world.proofs.Commits.{tells_commits}
@@ -18,7 +18,7 @@ use Rattle.erm_tight.proofs.Marks.{Marks}
 use Rattle.erm_tight.proofs.Moves.{IsMarked, MarkedOne}
 use Rattle.erm_tight.proofs.Serial.{IsTold}
 use Rattle.erm_causes.proofs.Causes.{from_flat, in_flat}
-use Rattle.erm_causes.proofs.Together.{Both, both_over, both_told, commits_as}
+use Rattle.erm_causes.proofs.Together.{Both, both_over, both_told, commits_as, commits_stay}
 
 -- A transaction of the world that is over and told.
 pub record IsOne (v : View) (t : Transaction) : Type 0 where
@@ -44,7 +44,7 @@ pub record IsCommitTold (transactions : List Transaction) (r : TransactionRecord
   pub begin : told.begin ≡ r.begin
   pub marks : Marks told.lines (work_in r)
 
-module _ (v : View) (sessions : ℕ) (said : List Said) (of : sessions ≡ v.opening.sessions)
+module _ (v : View) (sessions : ℕ) (said : List Said) (of : sessions ≡ v.opening.sessions) (numbered : (seat : ℕ) → IsSession v seat → IsNumbered (v.session seat))
     (tells : (seat : ℕ) → IsSession v seat → Tells seat (progress_of seat said) (v.session seat))
     (marked : (seat : ℕ) → IsSession v seat → IsMarked (progress_of seat said) (v.session seat)) where
   abbrev of_seat : ℕ → List Transaction
@@ -59,11 +59,13 @@ module _ (v : View) (sessions : ℕ) (said : List Said) (of : sessions ≡ v.ope
   commit_told r within =
       let own : IsCommitOf v r = (tells_commits v).only r within in
       let f : Finished = record { work = own.work; fate = world.commits own.stamp own.succ own.pred } in
-      let found = both_over own.seat MarkedOne (progress_of own.seat said).over (v.session own.seat).over own.over.0 f (tells own.seat own.session).over (marked own.seat own.session).over own.over.1 in
+      let p = progress_of own.seat said in
+      let found = both_over own.seat MarkedOne p.over p.snapshots (v.session own.seat).over f (tells own.seat own.session).over (marked own.seat own.session).over (numbered own.seat own.session).over
+      (commits_stay own.stamp own.succ own.pred) own.over in
       subst (λ (u : TransactionRecord). IsCommitTold (transactions_of sessions said) u) (sym own.is) (record {
         told = found.0;
         commit = record {
-          of = told_over own.seat own.session found.0 (own.over.0, found.1);
+          of = told_over own.seat own.session found.0 found.1;
           pred = own.pred;
           ending = commits_as found.0.ending own.stamp own.succ own.pred found.2.tells.ends;
         };
@@ -92,8 +94,9 @@ module _ (v : View) (sessions : ℕ) (said : List Said) (of : sessions ≡ v.ope
       let session : IsSession v seat = (omega (arith, bounds.0), omega (arith, bounds.1, of)) in
       elim (∈-either (progress_of seat said).over (option_to_list (progress_of seat said).current) t found.2) as (λ _. IsOne v t ⊎ (t.ending ≡ Unfinished)) [
         | inl over ↦
-            let both = both_told seat MarkedOne (progress_of seat said).over (v.session seat).over over.0 t (tells seat session).over (marked seat session).over over.1 in
-            inl (record { seat = seat; session = session; one = both.0; over = (over.0, both.1); both = both.2 })
+            let p = progress_of seat said in
+            let both = both_told seat MarkedOne p.over p.snapshots (v.session seat).over t (tells seat session).over (marked seat session).over (numbered seat session).over over in
+            inl (record { seat = seat; session = session; one = both.0; over = both.1; both = both.2 })
         | inr now ↦ inr (unfinished seat (progress_of seat said).current (v.session seat).stand (tells seat session).now t now)
       ]
 

@@ -9,8 +9,10 @@ use Rattle.erm_model.specs.History.{IsSuccessorStamp, Makes, OverwritesReadOf}
 use Rattle.erm_model.specs.Member.{◌∈◌}
 use Rattle.erm_model.proofs.Members.{none_in_nil}
 use Rattle.erm_machine.proofs.Listed.{∈-cons}
-use Rattle.erm_world.specs.Calls.{AreReady, DidSeal, IsDone}
+use Rattle.erm_world.specs.Calls.{AreReady, Becomes, DidSeal, IsDone}
 use Rattle.erm_world.specs.Laws.{IsCommitOf}
+use Rattle.erm_world.specs.Safe.{with_snapshot}
+use Rattle.erm_world.specs.Snapshots.{snapshot_not_active}
 use Rattle.erm_world.specs.Works.{is_claimed}
 use Rattle.erm_world.specs.World.{Fate, Finished, IsSession, Session, Stand, View, Work, bare, history_of, phase_at, phase_of, record_of, stamp_of, work_at, work_of}
 use Rattle.erm_world.specs.World as world
@@ -352,6 +354,21 @@ module _ (v t : View) (seat : ℕ) (w : Work) (did : IsDone v seat w world.abort
     excluded = λ stamp succ pred y new. let never : world.excluded stamp succ pred ≡ world.aborts = other_fate _ new in cc;
     claimed = λ x u is within makes. absurd (none_claimed x (subst (λ (at : Stand). is_claimed (work_of at).claims x ≡ true) aborted_stand is));
     earlier = λ stamp f active within is. let never = ap phase_of (sym aborted_stand) ∙ active in cc;
+  })
+
+-- A SNAPSHOT claims nothing, and isn't active.
+module _ (v t : View) (seat : ℕ) (x : world.Snapshot) (did : Becomes v seat (with_snapshot v seat x) t) (before : IsOrderly v) where
+  snapshot_stand : (t.session seat).stand ≡ world.snapshot x
+  snapshot_stand = ap (λ (s : Session). s.stand) did.own
+
+  pub snapshot_orderly : IsOrderly t
+  snapshot_orderly = orderly_then v t seat did.others did.opening [] (no_more (v.session seat) (t.session seat) (ap (λ (s : Session). s.over) did.own)) before (record {
+    sealed = λ q stamp succ pred seen y z in_v was stand less. absurd (let never : world.snapshot x ≡ world.sealed z seen = sym snapshot_stand ∙ stand in cc);
+    commits = λ q stamp succ pred y u in_v was new less. absurd (none_new seat u new);
+    apart = λ q y u another in_v is new makes. none_new seat u new;
+    excluded = λ stamp succ pred y new. absurd (none_in_nil _ new);
+    claimed = λ y u is within makes. absurd (none_claimed y (subst (λ (at : Stand). is_claimed (work_of at).claims y ≡ true) snapshot_stand is));
+    earlier = λ stamp f active within is. absurd (snapshot_not_active x (ap phase_of (sym snapshot_stand) ∙ active));
   })
 
 -- FLUSHED. All sessions stay.

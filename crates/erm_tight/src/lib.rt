@@ -19,6 +19,7 @@ pub fn runs_have_tight_windows()
     erm_node::map_has_values_of_records();
     erm_record::record_values();
     erm_maps::begun_transactions_are_runs();
+    erm_maps::answers_stay();
     erm_told::runs_tell_sessions();
 }
 
@@ -36,5 +37,6 @@ pub fn oids_are_full()
     erm_record::record_values();
     erm_tree::calls_stay_in_their_table();
     erm_maps::begun_transactions_are_runs();
+    erm_maps::answers_stay();
     erm_told::executions_tell_sessions();
 }

@@ -107,7 +107,9 @@ leaves_idle Active x a fits = absurd fits
 leaves_idle Sealed x (answer.Committed stamp succ pred) fits = refl
 leaves_idle Sealed x (answer.Excluded stamp succ pred) fits = refl
 leaves_idle Sealed x a fits = absurd fits
+leaves_idle Pending x answer.Aborted fits = refl
 leaves_idle Pending x a fits = absurd fits
+leaves_idle Safe x answer.Aborted fits = refl
 leaves_idle Safe x a fits = absurd fits
 
 pub idle_after : (v : View) (seat : ℕ) (a : Answer) (t : View) → DidEnd v seat a t → phase_at t seat ≡ Idle

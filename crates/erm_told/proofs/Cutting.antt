@@ -9,12 +9,13 @@ use Rattle.erm_script.specs.declared.script.Command.{Command}
 use Rattle.erm_script.specs.declared.script.Command.TheVariants as command
 use Rattle.erm_script.specs.declared.script.ScriptLine.{ScriptLine}
 use Rattle.erm_world.specs.World.{Opening, View, phase_at}
-use Rattle.erm_good_report.specs.Phases.{FitsRefusal, phase_asked, refusal_in, refusal_of}
-use Rattle.erm_lines.specs.Answers.{DidAsked, DidCommand, DidLine}
+use Rattle.erm_good_report.specs.Phases.{FitsRefusal, need_of, refusal_in, refusal_of}
+use Rattle.erm_good_report.proofs.Phases.{phase_refuses}
+use Rattle.erm_lines.specs.Answers.{DidAsked, DidCommand, DidLine, DidOfSnapshot}
 use Rattle.erm_lines.specs.Executions.{DidLog, DidLogLine, DidMove, IsExecution, line_moves, move_of}
 use Rattle.erm_lines.specs.Laws.{ExecutionsGoOn, PartsCutFew, RunsCutFew}
 use Rattle.erm_lines.proofs.Moved.{moved}
-use Rattle.erm_told.proofs.Lines.{phase_refuses}
+use Rattle.erm_lines.proofs.Watched.{in_phase}
 
 module _ (v t : View) (seat cells : ℕ) where
   commanded : (c : Command) → DidCommand v seat c (answer.Cut cells) t → cells ≤ v.opening.cuts
@@ -24,15 +25,23 @@ module _ (v t : View) (seat cells : ℕ) where
   commanded (command.Next table from) did = did.1
   commanded (command.Scan table low high) did = did.1
   commanded (command.Tidy table key) did = did.1
+  commanded command.Safe did = absurd did.asked
   commanded command.Commit did = absurd did.decided
   commanded c did = absurd did
 
+  -- a snapshot has no tidy
+  watched : (c : Command) → DidOfSnapshot v seat c (answer.Cut cells) t → cells ≤ v.opening.cuts
+  watched command.Safe did = absurd did
+  watched command.Durable did = absurd did
+  watched c did = absurd did
+
   asked : (c : Command) (refusal : Option Answer) → refusal_of (phase_at v seat) c ≡ refusal → FitsRefusal refusal c (answer.Cut cells) → DidAsked refusal v seat c (answer.Cut cells) t
       → cells ≤ v.opening.cuts
-  asked c None is fits did = commanded c did
+  asked c None is fits did =
+      in_phase (cells ≤ v.opening.cuts) v t seat c (answer.Cut cells) (λ plain did. commanded c did) (λ rests did. watched c did) did
   asked c (Some r) is fits did =
       let refused : refusal_in (answer.Cut cells) ≡ Some (answer.Cut cells) =
-      subst (λ (x : Answer). refusal_in x ≡ Some x) (sym fits) (phase_refuses (phase_asked c) (phase_at v seat) r is)
+      subst (λ (x : Answer). refusal_in x ≡ Some x) (sym fits) (phase_refuses (need_of c) (phase_at v seat) r is)
       in
       let never : None ≡ Some (answer.Cut cells) = refused in
       absurd (cc)

@@ -1,6 +1,6 @@
 -- The stamps that a line tells lie between the ends of the log before and after it, those that it prints of others and a place that it tells to be
 -- flushed below the latter.
-use Rattle.std.proofs.Common.{◌≡◌, ℕ, ◌+◌, ◌<◌, ◌≤◌, List, Bool, true, false, cond, [], ◌∷◌, Option, Some, None, refl, sym, ap, ◌∙◌, subst, inl, ⊎_elim, arith}
+use Rattle.std.proofs.Common.{◌≡◌, ℕ, ◌+◌, ◌<◌, ◌≤◌, List, Bool, true, false, cond, [], ◌∷◌, Option, Some, None, refl, sym, ap, ◌∙◌, subst, inl, inr, ⊎_elim, arith}
 use Rattle.erm_model.specs.declared.limits.TheConstants.{LEAST_BLOCK, STOP}
 use Rattle.erm_model.specs.declared.row_stop.RowStop.{RowStop}
 use Rattle.erm_model.specs.declared.row_stop.RowStop.TheVariants as stop
@@ -14,16 +14,18 @@ use Rattle.erm_script.specs.declared.script.Command.TheVariants as command
 use Rattle.erm_script.specs.declared.script.ScriptLine.{ScriptLine}
 use Rattle.erm_world.specs.Calls.{DidBegin, DidSeal, IsDone}
 use Rattle.erm_world.specs.Laws.{IsSerializable}
-use Rattle.erm_world.specs.World.{Fate, Finished, HasStamp, IsSession, Session, Stand, View, Work, phase_at, size_of, stamp_of, work_at}
+use Rattle.erm_world.specs.Safe.{HasSnapshot}
+use Rattle.erm_world.specs.World.{Fate, Finished, HasStamp, IsCurrent, IsSession, Session, Stand, View, Work, phase_at, size_of, stamp_of, work_at, work_of}
 use Rattle.erm_world.specs.World as world
-use Rattle.erm_good_report.specs.Phases.{FitsRefusal, asks_commit, phase_asked, refusal_in, refusal_of}
+use Rattle.erm_good_report.specs.Phases.{FitsRefusal, asks_commit, need_of, refusal_in, refusal_of}
 use Rattle.erm_good_report.specs.Stamps.{begin_told, place_told, stamp_drawn, stamp_printed, stamp_told}
-use Rattle.erm_lines.specs.Answers.{DidAskDurable, DidAsked, DidCommand, DidCommit, DidDecide, DidLine, DidOperation, WasRefusedAs, stop_told}
+use Rattle.erm_good_report.proofs.Phases.{phase_refuses}
+use Rattle.erm_lines.specs.Answers.{DidAskDurable, DidAskSafe, DidAskSnapshot, DidAsked, DidCommand, DidCommit, DidDecide, DidLine, DidOfSnapshot, DidOperation, WasRefusedAs, stop_told}
 use Rattle.erm_lines.specs.Executions.{DidLog, DidLogLine, DidMove, FlushesTo, move_of}
 use Rattle.erm_lines.proofs.Moved.{moved}
 use Rattle.erm_told.proofs.Executed.{still_session}
-use Rattle.erm_told.proofs.Lines.{phase_refuses}
-use Rattle.erm_told.proofs.Printing.{refusal_below, wait_below}
+use Rattle.erm_told.proofs.Lines.{in_either}
+use Rattle.erm_told.proofs.Printing.{committed_below, refusal_below, wait_below}
 
 -- the stamps that an answer tells, and the place that it tells to be flushed, beside the ends of the log before and after it
 pub record Draws (m n : ℕ) (asked : Option Command) (a : Answer) : Type 0 where
@@ -62,6 +64,7 @@ undrawn m n asked a no_begin no_stamp printed placed = record {
 told_none : (a : Answer) → stamp_printed a ≡ None → stamp_told a ≡ None
 told_none (answer.WaitSeat seat seen) is = absurd (cc)
 told_none (answer.Newer stamp) is = absurd (cc)
+told_none (answer.Unsafe seat stamp) is = absurd (cc)
 told_none (answer.Durable stamp) is = absurd (cc)
 told_none a is = is
 
@@ -78,6 +81,8 @@ phase_silent m n asked answer.NotIdle is = silent m n asked answer.NotIdle refl 
 phase_silent m n asked answer.NoTransaction is = silent m n asked answer.NoTransaction refl refl refl
 phase_silent m n asked answer.IsSealed is = silent m n asked answer.IsSealed refl refl refl
 phase_silent m n asked answer.NotSealed is = silent m n asked answer.NotSealed refl refl refl
+phase_silent m n asked answer.ReadOnly is = silent m n asked answer.ReadOnly refl refl refl
+phase_silent m n asked answer.NotSafe is = silent m n asked answer.NotSafe refl refl refl
 phase_silent m n asked a is = absurd (cc)
 
 abbrev IsSilent : Option Answer → Type 0
@@ -249,11 +254,46 @@ durable_draws v seat stamp asked t session lawful (same, (end, last, flushed)) =
     (λ other told. let is = the_number stamp other told in omega (arith, below, is))
     (λ place told. let is = the_number (stamp + 1) place told in omega (arith, below, is))
 
+-- A SNAPSHOT prints what was seen of others, below its own begin stamp, and commits.
+asked_draws_safe : (m : ℕ) (v : View) (seat : ℕ) (a : Answer) (t : View) → IsSerializable sound_law t → (t ≡ v → (work_at v seat).begin ≤ v.tail) → DidAskSafe v seat a t → Draws m t.tail (Some command.Safe) a
+asked_draws_safe m v seat (answer.Safe stamp) t lawful within did = silent m t.tail (Some command.Safe) (answer.Safe stamp) refl refl refl
+asked_draws_safe m v seat (answer.WaitSeat other seen) t lawful within did =
+    undrawn m t.tail (Some command.Safe) (answer.WaitSeat other seen) refl refl
+    (λ stamp told. let same = the_number seen stamp told in omega (arith, same, did.1.below, within did.0, ap (λ (x : View). x.tail) did.0))
+    (λ place told. no_number None place (place ≤ t.tail) refl told)
+asked_draws_safe m v seat (answer.Unsafe other at) t lawful within did =
+    undrawn m t.tail (Some command.Safe) (answer.Unsafe other at) refl refl
+    (λ stamp told.
+    let same = the_number at stamp told in
+    let below = committed_below v t seat did.1.by did.0 lawful did.1.committed (λ is. did.1.another (sym did.1.seat_is ∙ is)) in
+    omega (arith, same, below, did.1.stamp_is))
+    (λ place told. no_number None place (place ≤ t.tail) refl told)
+asked_draws_safe m v seat a t lawful within did = absurd did
+
+snapshot_draws : (v : View) (seat : ℕ) (a : Answer) (t : View) → IsSerializable sound_law t → DidAskSnapshot v seat a t → Draws v.tail t.tail (Some command.Safe) a
+snapshot_draws v seat (answer.LogEnd tail) t lawful did = silent v.tail t.tail (Some command.Safe) (answer.LogEnd tail) refl refl refl
+snapshot_draws v seat answer.NumbersEnd t lawful did = silent v.tail t.tail (Some command.Safe) answer.NumbersEnd refl refl refl
+snapshot_draws v seat a t lawful did =
+    let u = did.between in
+    let now = did.began.3 in
+    let begin : (work_at u seat).begin ≡ did.begin = ap (λ (s : Session). (work_of s.stand).begin) now.own in
+    asked_draws_safe v.tail u seat a t lawful (λ same. omega (arith, begin, did.began.2, now.tail)) did.asked
+
+-- the begin stamp of one that isn't over lies within the log
+begin_within : (v t : View) (seat : ℕ) → HasSnapshot v seat → IsSession t seat → IsSerializable sound_law t → t ≡ v → (work_at v seat).begin ≤ v.tail
+begin_within v t seat has session lawful same =
+    let x = has.0 in
+    let w : Work = world.begun x.number x.begin in
+    let stand : (t.session seat).stand ≡ world.snapshot x = ap (λ (u : View). (u.session seat).stand) same ∙ has.1 in
+    let within = (lawful.begins seat w session (inr (subst (λ (at : Stand). IsCurrent at w) (sym stand) refl))).1 in
+    omega (arith, within, ap (λ (at : Stand). (work_of at).begin) has.1, ap (λ (u : View). u.tail) same)
+
 -- THE LINES.
 command_draws : (v : View) (seat : ℕ) (c : Command) (a : Answer) (t : View) → IsSession t seat → IsSerializable sound_law t → DidCommand v seat c a t → Draws v.tail t.tail (Some c) a
 command_draws v seat command.Begin (answer.Began stamp) t session lawful did = begin_draws v seat stamp (Some command.Begin) t did
 command_draws v seat command.Begin (answer.LogEnd tail) t session lawful did = silent v.tail t.tail (Some command.Begin) (answer.LogEnd tail) refl refl refl
 command_draws v seat command.Begin answer.NumbersEnd t session lawful did = silent v.tail t.tail (Some command.Begin) answer.NumbersEnd refl refl refl
+command_draws v seat command.Safe a t session lawful did = snapshot_draws v seat a t lawful did
 command_draws v seat command.Seal (answer.Sealed stamp) t session lawful did = seal_draws v seat stamp (Some command.Seal) t did
 command_draws v seat command.Settle a t session lawful did = settle_draws v seat a t session lawful did
 command_draws v seat command.Commit a t session lawful did = commit_draws v seat a t session lawful did
@@ -269,11 +309,22 @@ command_draws v seat command.Durable (answer.NotFlushed flushed) t session lawfu
 command_draws v seat command.Durable answer.NoReceipt t session lawful did = silent v.tail t.tail (Some command.Durable) answer.NoReceipt refl refl refl
 command_draws v seat c a t session lawful did = absurd did
 
+watched_draws : (v : View) (seat : ℕ) (c : Command) (a : Answer) (t : View) → HasSnapshot v seat → IsSession t seat → IsSerializable sound_law t → DidOfSnapshot v seat c a t → Draws v.tail t.tail (Some c) a
+watched_draws v seat command.Safe a t has session lawful did = asked_draws_safe v.tail v seat a t lawful (begin_within v t seat has session lawful) did
+watched_draws v seat (command.Get table key) (answer.Replied r) t has session lawful did = silent v.tail t.tail (Some (command.Get table key)) (answer.Replied r) refl refl refl
+watched_draws v seat (command.Next table from) (answer.Replied r) t has session lawful did = silent v.tail t.tail (Some (command.Next table from)) (answer.Replied r) refl refl refl
+watched_draws v seat (command.Scan table low high) (answer.Replied r) t has session lawful did = silent v.tail t.tail (Some (command.Scan table low high)) (answer.Replied r) refl refl refl
+watched_draws v seat command.Commit answer.Ended t has session lawful did = silent v.tail t.tail (Some command.Commit) answer.Ended refl refl refl
+watched_draws v seat command.Abort answer.Aborted t has session lawful did = silent v.tail t.tail (Some command.Abort) answer.Aborted refl refl refl
+watched_draws v seat command.Durable a t has session lawful did = command_draws v seat command.Durable a t session lawful did
+watched_draws v seat c a t has session lawful did = absurd did
+
 asked_draws : (v : View) (seat : ℕ) (c : Command) (a : Answer) (t : View) (refusal : Option Answer) → refusal_of (phase_at v seat) c ≡ refusal → FitsRefusal refusal c a
     → IsSession t seat → IsSerializable sound_law t → DidAsked refusal v seat c a t → Draws v.tail t.tail (Some c) a
-asked_draws v seat c a t None is fits session lawful did = command_draws v seat c a t session lawful did
+asked_draws v seat c a t None is fits session lawful did =
+    in_either (Draws v.tail t.tail (Some c) a) v t seat c a (λ plain did. command_draws v seat c a t session lawful did) (λ has did. watched_draws v seat c a t has session lawful did) did
 asked_draws v seat c a t (Some r) is fits session lawful did =
-    phase_silent v.tail t.tail (Some c) a (subst (λ (x : Answer). refusal_in x ≡ Some x) (sym fits) (phase_refuses (phase_asked c) (phase_at v seat) r is))
+    phase_silent v.tail t.tail (Some c) a (subst (λ (x : Answer). refusal_in x ≡ Some x) (sym fits) (phase_refuses (need_of c) (phase_at v seat) r is))
 
 line_draws : (v : View) (l : ScriptLine) (a : Answer) (t : View) → IsSession t l.session → IsSerializable sound_law t → DidLine v l a t → Draws v.tail t.tail (Some l.command) a
 line_draws v l a t session lawful did =

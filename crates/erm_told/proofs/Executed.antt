@@ -33,14 +33,14 @@ pub record Knows (seat : ℕ) (p : Progress) (phase : Phase) (v : View) : Type 0
   pub phase_is : phase ≡ phase_at v seat
 
 -- a session that is the same
-knows_still : (seat : ℕ) (p : Progress) (phase : Phase) (v t : View) → t.session seat ≡ v.session seat → Knows seat p phase v → Knows seat p phase t
+pub knows_still : (seat : ℕ) (p : Progress) (phase : Phase) (v t : View) → t.session seat ≡ v.session seat → Knows seat p phase v → Knows seat p phase t
 knows_still seat p phase v t is knows = record {
   tells = subst (λ (s : Session). Tells seat p s) (sym is) knows.tells;
   phase_is = knows.phase_is ∙ sym (ap (λ (s : Session). phase_of s.stand) is);
 }
 
 -- a turn of some session
-knows_turn : (seat at : ℕ) (asked : Option Command) (a : Answer) (p : Progress) (phase : Phase) (v t : View) → Turn v at asked a t → Knows seat p phase v
+pub knows_turn : (seat at : ℕ) (asked : Option Command) (a : Answer) (p : Progress) (phase : Phase) (v t : View) → Turn v at asked a t → Knows seat p phase v
     → Knows seat (cond (at == seat) (heard seat asked a p) p) (cond (at == seat) (phase_after asked a phase) phase) t
 knows_turn seat at asked a p phase v t turn knows = elim (cases_eq at seat) as (λ _. Knows seat (cond (at == seat) (heard seat asked a p) p) (cond (at == seat) (phase_after asked a phase) phase) t) [
   | inl is ↦
@@ -58,7 +58,7 @@ knows_turn seat at asked a p phase v t turn knows = elim (cases_eq at seat) as (
     }
 
 -- a line of another session, or of none, which left this one
-knows_logged : (seat at : ℕ) (asked : Option Command) (a : Answer) (p : Progress) (phase : Phase) (v t : View) → at ≢ seat → t.session seat ≡ v.session seat → Knows seat p phase v
+pub knows_logged : (seat at : ℕ) (asked : Option Command) (a : Answer) (p : Progress) (phase : Phase) (v t : View) → at ≢ seat → t.session seat ≡ v.session seat → Knows seat p phase v
     → Knows seat (cond (at == seat) (heard seat asked a p) p) (cond (at == seat) (phase_after asked a phase) phase) t
 knows_logged seat at asked a p phase v t another is knows =
     subst (λ (b : Bool). Knows seat (cond b (heard seat asked a p) p) (cond b (phase_after asked a phase) phase) t) (sym (ne_eqb at seat another))
@@ -67,6 +67,12 @@ knows_logged seat at asked a p phase v t another is knows =
 -- a session of a world that was opened so is one of it still
 pub still_session : (v t : View) (seat : ℕ) → t.opening ≡ v.opening → IsSession v seat → IsSession t seat
 still_session v t seat is session = (session.0, subst (λ (o : Opening). seat ≤ o.sessions) (sym is) session.1)
+
+-- what was told of one that was just opened
+pub knows_start : (v : View) (seat : ℕ) → v.session seat ≡ record { over = []; stand = world.idle } → Knows seat nothing Idle v
+knows_start v seat idle =
+    knows_still seat nothing Idle (record v { session = λ q. record { over = []; stand = world.idle } }) v idle
+    (record { tells = record { over = (refl, refl); now = tt; watched = tt }; phase_is = refl })
 
 -- a session that has a turn goes on, and another one stays
 goes_turn : (seat at : ℕ) (asked : Option Command) (a : Answer) (v t : View) → Turn v at asked a t → Continues (v.session seat) (t.session seat)
@@ -130,8 +136,7 @@ module _ (runs : (number begin : ℕ) → IsRunOf (world.begun number begin) [])
 
   pub executions_tell : ExecutionsTell
   executions_tell v t moves opened executed seat session =
-      let known = knows_all seat moves nothing Idle v t session executed (knows_still seat nothing Idle
-      (record v { session = λ q. record { over = []; stand = world.idle } }) v (opened.idle seat session) (record { tells = record { over = tt; now = tt }; phase_is = refl })) in
+      let known = knows_all seat moves nothing Idle v t session executed (knows_start v seat (opened.idle seat session)) in
       (known.tells, known.phase_is)
 
   goes_all : (moves : List Move) (v t : View) → IsExecution v moves t → AllGo v t

@@ -22,3 +22,9 @@ pub mod Steps
 pub mod Timing
 pub mod Turns
 pub mod Untold
+pub mod Watching
+pub mod Moving
+pub mod Comes
+pub mod Keeping
+pub mod Safely
+pub mod Lasting

@@ -1,5 +1,5 @@
 -- Turns of an active session: operations that were answered, and those that were cut off by a refusal.
-use Rattle.std.proofs.Common.{◌≡◌, ℕ, true, false, List, [], ◌∷◌, ◌++◌, append-nil, Option, Some, None, refl, sym, ap, ◌∙◌, subst, inl, inr}
+use Rattle.std.proofs.Common.{◌≡◌, ℕ, true, false, List, [], ◌∷◌, ◌++◌, append-nil, Option, Some, None, option_map, refl, sym, ap, ◌∙◌, subst, inl, inr}
 use Rattle.erm_model.specs.declared.outcome.Phase.TheVariants.{Idle, Active}
 use Rattle.erm_model.specs.declared.row_stop.RowStop.{RowStop}
 use Rattle.erm_model.specs.declared.row_stop.RowStop.TheVariants as stop
@@ -17,22 +17,26 @@ use Rattle.erm_world.specs.World.{Finished, Session, Stand, View, Work, phase_at
 use Rattle.erm_world.specs.World as world
 use Rattle.erm_world.proofs.Txns.{stopped}
 use Rattle.erm_maps.specs.Runs.{IsAnswered, IsRunOf}
-use Rattle.erm_good_report.specs.Phases.{phase_after, phase_after_wait}
-use Rattle.erm_good_report.specs.Transactions.{Aborts, Ending, Excludes, Progress, ended, goes_on, heard, reply_in}
+use Rattle.erm_good_report.specs.Phases.{asks_safe, phase_after, phase_after_wait}
+use Rattle.erm_good_report.specs.Transactions.{Aborts, Ending, Excludes, Progress, Snapshot, ended, goes_on, heard, reply_in, snapshot_after, with_look}
 use Rattle.erm_lines.specs.Answers.{DidOperation, WasRefusedAs, stop_told}
 use Rattle.erm_lines.specs.Operations.{AsksOf, DidCalls, FrontOf, WereCutOff, WholeOf}
-use Rattle.erm_lines.specs.Told.{EndsAs, Tells, TellsNow, TellsOver}
+use Rattle.erm_lines.specs.Told.{EndsAs, Tells, TellsNow, TellsOver, TellsWatched}
 use Rattle.erm_told.proofs.Going.{continues_from}
 use Rattle.erm_told.proofs.Running.{GoesOn, active_in, over_still, over_then, ran_on}
-use Rattle.erm_told.proofs.Sessions.{aborted_told, active_told, unchanged_told}
+use Rattle.erm_told.proofs.Sessions.{aborted_told, active_told, look_after, none_watched, unchanged_told}
 use Rattle.erm_told.proofs.Steps.{added, none_asked, none_replied, one_replied}
-use Rattle.erm_told.proofs.Turns.{Turn, now_active, same_tail}
+use Rattle.erm_told.proofs.Turns.{Turn, none_active, now_active, same_tail}
+
+-- a line that doesn't ask for a snapshot leaves a session without one
+pub none_after : (asked : Option Command) (a : Answer) (p : Progress) → asks_safe asked ≡ false → p.snapshot ≡ None → snapshot_after a asked p ≡ None
+none_after asked a p calm none = look_after a asked p calm ∙ ap (λ (o : Option Snapshot). option_map (with_look asked a) o) none
 
 -- a session that goes on with its transaction
-went_on : (v : View) (seat : ℕ) (asked : Option Command) (a : Answer) (t : View) → phase_at v seat ≡ Active → GoesOn v seat t
+went_on : (v : View) (seat : ℕ) (asked : Option Command) (a : Answer) (t : View) → phase_at v seat ≡ Active → asks_safe asked ≡ false → GoesOn v seat t
     → ((before : List Step) → IsRunOf (work_at v seat) before → IsRunOf (work_at t seat) (before ++ added asked a))
     → phase_after asked a (phase_at v seat) ≡ phase_at v seat → ((p : Progress) → heard seat asked a p ≡ goes_on asked a p) → Turn v seat asked a t
-went_on v seat asked a t active on run phase hears =
+went_on v seat asked a t active calm on run phase hears =
     let over : (t.session seat).over ≡ (v.session seat).over = over_still (v.session seat) (t.session seat) on.work on.goes.own on.stand in record {
       others = on.goes.others;
       opening = on.goes.opening;
@@ -41,39 +45,41 @@ went_on v seat asked a t active on run phase hears =
           (over ∙ sym (append-nil (v.session seat).over)) (on.work, on.more, inl on.stand);
       phase = phase ∙ active ∙ sym (ap phase_of on.stand);
       tells = λ p told. subst (λ (q : Progress). Tells seat q (t.session seat)) (sym (hears p)) (record {
-        over = subst (λ (fs : List Finished). TellsOver seat p.over fs) (sym over) told.over;
+        over = subst (λ (fs : List Finished). TellsOver seat p.over p.snapshots fs) (sym over) told.over;
         now = subst (λ (stand : Stand). TellsNow seat (goes_on asked a p).current stand) (sym on.stand)
             (active_told seat asked a p.current (work_at v seat) on.work on.more.number on.more.begin
             (λ before was. subst (λ (w : Work). IsRunOf w (before ++ added asked a)) (ap work_of on.stand) (run before was))
             (now_active seat p (v.session seat) active told));
+        watched = subst (λ (stand : Stand). TellsWatched (goes_on asked a p).snapshot stand) (sym on.stand)
+            (none_watched (goes_on asked a p).snapshot (world.active on.work) tt (none_after asked a p calm (none_active seat p (v.session seat) active told)));
       });
     }
 
 -- calls that were answered count as what the line tells
 pub turn_ran : (v : View) (seat : ℕ) (asked : Option Command) (a : Answer) (t : View) (steps : List Step) (kind : Rows → List Event → Type 0) → phase_at v seat ≡ Active
-    → DidCalls v seat steps kind t → added asked a ≡ steps → phase_after asked a (phase_at v seat) ≡ phase_at v seat
+    → asks_safe asked ≡ false → DidCalls v seat steps kind t → added asked a ≡ steps → phase_after asked a (phase_at v seat) ≡ phase_at v seat
     → ((p : Progress) → heard seat asked a p ≡ goes_on asked a p) → Turn v seat asked a t
-turn_ran v seat asked a t steps kind active did tells phase hears =
-    went_on v seat asked a t active (ran_on v seat did.events t active did.ran)
+turn_ran v seat asked a t steps kind active calm did tells phase hears =
+    went_on v seat asked a t active calm (ran_on v seat did.events t active did.ran)
     (λ before was. subst (λ (list : List Step). IsRunOf (work_at t seat) (before ++ list)) (sym tells) (did.run before was)) phase hears
 
 -- a refusal that leaves the transaction as it is
 pub turn_cut : (v : View) (seat : ℕ) (c : Command) (a : Answer) (t : View) (why : RowStop) (front : Rows → List Event → Type 0) (asks : List Event → Rows → Asked → Type 0)
-    → phase_at v seat ≡ Active → WereCutOff v seat front asks why t → rows.ends why ≡ false → reply_in a ≡ None
+    → phase_at v seat ≡ Active → asks_safe (Some c) ≡ false → WereCutOff v seat front asks why t → rows.ends why ≡ false → reply_in a ≡ None
     → phase_after (Some c) a (phase_at v seat) ≡ phase_at v seat → ((p : Progress) → heard seat (Some c) a p ≡ goes_on (Some c) a p) → Turn v seat (Some c) a t
-turn_cut v seat c a t why front asks active cut stays none phase hears =
+turn_cut v seat c a t why front asks active calm cut stays none phase hears =
     let on = ran_on v seat cut.events cut.at active cut.ran in
     let is : t ≡ cut.at = (stopped cut.at seat cut.asked why t (ap phase_of on.stand) cut.refused).stays stays in
-    went_on v seat (Some c) a t active (subst (λ (u : View). GoesOn v seat u) (sym is) on)
+    went_on v seat (Some c) a t active calm (subst (λ (u : View). GoesOn v seat u) (sym is) on)
     (λ before was. subst (λ (list : List Step). IsRunOf (work_at t seat) list)
     (sym (ap (λ (list : List Step). before ++ list) (none_replied c a none) ∙ append-nil before)) (cut.run stays before was)) phase hears
 
 -- one that ends it
 pub turn_ended : (v : View) (seat : ℕ) (c : Command) (a : Answer) (t : View) (why : RowStop) (front : Rows → List Event → Type 0) (asks : List Event → Rows → Asked → Type 0)
     (ending : Ending) → ((w u : Work) (steps : List Step) → Extends w u → IsAnswered w steps → IsAnswered u steps) → phase_at v seat ≡ Active
-    → WereCutOff v seat front asks why t → rows.ends why ≡ true → reply_in a ≡ None → EndsAs ending world.aborts → phase_after (Some c) a (phase_at v seat) ≡ Idle
+    → asks_safe (Some c) ≡ false → WereCutOff v seat front asks why t → rows.ends why ≡ true → reply_in a ≡ None → EndsAs ending world.aborts → phase_after (Some c) a (phase_at v seat) ≡ Idle
     → ((p : Progress) → heard seat (Some c) a p ≡ ended ending (goes_on (Some c) a p)) → Turn v seat (Some c) a t
-turn_ended v seat c a t why front asks ending stay active cut ends none aborts phase hears =
+turn_ended v seat c a t why front asks ending stay active calm cut ends none aborts phase hears =
     let on = ran_on v seat cut.events cut.at active cut.ran in
     let out = stopped cut.at seat cut.asked why t (ap phase_of on.stand) cut.refused in
     let goes : Goes v seat t = goes_then v cut.at t seat seat refl on.goes out.goes in
@@ -89,11 +95,13 @@ turn_ended v seat c a t why front asks ending stay active cut ends none aborts p
           (done.0, done.1, inr (inr (f, [], (v.session seat).over, done.2, refl)));
       phase = phase ∙ sym (ap phase_of idle);
       tells = λ p told. subst (λ (q : Progress). Tells seat q (t.session seat)) (sym (hears p)) (record {
-        over = subst (λ (fs : List Finished). TellsOver seat (ended ending (goes_on (Some c) a p)).over fs) (sym done.2)
-            (aborted_told seat ending p.over (goes_on (Some c) a p).current (v.session seat).over w done.0 aborts done.1.number done.1.begin
+        over = subst (λ (fs : List Finished). TellsOver seat (ended ending (goes_on (Some c) a p)).over (ended ending (goes_on (Some c) a p)).snapshots fs) (sym done.2)
+            (aborted_told seat ending p.over (goes_on (Some c) a p).current p.snapshots (goes_on (Some c) a p).snapshot (v.session seat).over w done.0 aborts done.1.number done.1.begin
             (λ steps. stay w done.0 steps done.1) told.over
-            (unchanged_told seat (Some c) a p.current (world.active w) (none_replied c a none) (now_active seat p (v.session seat) active told)));
+            (unchanged_told seat (Some c) a p.current (world.active w) (none_replied c a none) (now_active seat p (v.session seat) active told))
+            (none_after (Some c) a p calm (none_active seat p (v.session seat) active told)));
         now = subst (λ (at : Stand). TellsNow seat None at) (sym idle) tt;
+        watched = subst (λ (at : Stand). TellsWatched None at) (sym idle) tt;
       });
     }
 
@@ -102,18 +110,19 @@ pub the_answer : (told a : Answer) → Some told ≡ Some a → told ≡ a
 the_answer told a is = cc
 
 module _ (stay : (w u : Work) (steps : List Step) → Extends w u → IsAnswered w steps → IsAnswered u steps) where
-  module _ (v : View) (seat : ℕ) (c : Command) (t : View) (active : phase_at v seat ≡ Active) (waits : phase_after_wait (Some c) (phase_at v seat) ≡ phase_at v seat) where
+  module _ (v : View) (seat : ℕ) (c : Command) (t : View) (active : phase_at v seat ≡ Active) (waits : phase_after_wait (Some c) (phase_at v seat) ≡ phase_at v seat)
+      (calm : asks_safe (Some c) ≡ false) where
     -- the answer to a refusal tells what it did
     abbrev Cut : RowStop → Type 0
     Cut why = WereCutOff v seat (FrontOf c) (AsksOf c) why t
 
     stays_so : (a : Answer) (why : RowStop) → Cut why → rows.ends why ≡ false → reply_in a ≡ None → phase_after (Some c) a (phase_at v seat) ≡ phase_at v seat
         → ((p : Progress) → heard seat (Some c) a p ≡ goes_on (Some c) a p) → Turn v seat (Some c) a t
-    stays_so a why cut = turn_cut v seat c a t why (FrontOf c) (AsksOf c) active cut
+    stays_so a why cut = turn_cut v seat c a t why (FrontOf c) (AsksOf c) active calm cut
 
     ends_so : (a : Answer) (why : RowStop) (ending : Ending) → Cut why → rows.ends why ≡ true → reply_in a ≡ None → EndsAs ending world.aborts
         → phase_after (Some c) a (phase_at v seat) ≡ Idle → ((p : Progress) → heard seat (Some c) a p ≡ ended ending (goes_on (Some c) a p)) → Turn v seat (Some c) a t
-    ends_so a why ending cut = turn_ended v seat c a t why (FrontOf c) (AsksOf c) ending stay active cut
+    ends_so a why ending cut = turn_ended v seat c a t why (FrontOf c) (AsksOf c) ending stay active calm cut
 
     abbrev At : Answer → Type 0
     At a = Turn v seat (Some c) a t
@@ -145,7 +154,7 @@ module _ (stay : (w u : Work) (steps : List Step) → Extends w u → IsAnswered
     -- an operation that was answered, or cut off
     pub turn_operation : (a : Answer) → DidOperation v seat c a t → At a
     turn_operation (answer.Replied r) (op, is, did) =
-        turn_ran v seat (Some c) (answer.Replied r) t (record { op = op; reply = r } ∷ []) (WholeOf c (answer.Replied r)) active did (one_replied c op r is) refl (λ p. refl)
+        turn_ran v seat (Some c) (answer.Replied r) t (record { op = op; reply = r } ∷ []) (WholeOf c (answer.Replied r)) active calm did (one_replied c op r is) refl (λ p. refl)
     turn_operation (answer.Cut cells) (is, few, did) =
-        turn_ran v seat (Some c) (answer.Cut cells) t [] (WholeOf c (answer.Cut cells)) active did (none_asked c (answer.Cut cells) is) refl (λ p. refl)
+        turn_ran v seat (Some c) (answer.Cut cells) t [] (WholeOf c (answer.Cut cells)) active calm did (none_asked c (answer.Cut cells) is) refl (λ p. refl)
     turn_operation a did = refused_as a did

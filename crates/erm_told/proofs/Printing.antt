@@ -1,5 +1,5 @@
 -- A stamp that a refusal prints, that of a session waited for or of a newer commit, lies below the end of the log.
-use Rattle.std.proofs.Common.{◌≡◌, ℕ, ◌<◌, ◌≤◌, Option, Some, None, refl, sym, ap, ◌∙◌, inl, inr, subst, arith}
+use Rattle.std.proofs.Common.{◌≡◌, ◌≢◌, ℕ, ◌<◌, ◌≤◌, Option, Some, None, refl, sym, ap, ◌∙◌, inl, inr, subst, arith}
 use Rattle.erm_model.specs.RowTransaction.{Asked, asked_claim, asked_make, asked_read}
 use Rattle.erm_model.specs.declared.history.TransactionRecord.{TransactionRecord}
 use Rattle.erm_model.specs.declared.row_stop.RowStop.{RowStop}
@@ -26,18 +26,23 @@ sealed_below v t seat stamp w same lawful session stand =
 ahead_below : (v t : View) (seat oid bound other seen : ℕ) → t ≡ v → IsSerializable sound_law t → IsAhead v seat oid bound other seen → seen < t.tail
 ahead_below v t seat oid bound other seen same lawful ahead = sealed_below v t other seen ahead.work same lawful ahead.session ahead.stand
 
--- and so has a commit
-newer_below : (v t : View) (seat oid stamp : ℕ) → IsDone v seat (work_at v seat) world.aborts t → IsSerializable sound_law t → IsNewer v seat oid stamp → stamp < t.tail
-newer_below v t seat oid stamp done lawful newer =
-    let commit = (tells_commits v).only newer.by newer.committed in
-    let by_seat : newer.by.seat ≡ commit.seat = ap (λ (r : TransactionRecord). r.seat) commit.is in
-    let by_stamp : newer.by.stamp ≡ commit.stamp = ap (λ (r : TransactionRecord). r.stamp) commit.is in
+-- and so has a commit of another session
+pub committed_below : (v t : View) (seat : ℕ) (by : TransactionRecord) → IsDone v seat (work_at v seat) world.aborts t → IsSerializable sound_law t → by ∈ history_of v → by.seat ≢ seat
+    → by.stamp < t.tail
+committed_below v t seat by done lawful committed another =
+    let commit = (tells_commits v).only by committed in
+    let by_seat : by.seat ≡ commit.seat = ap (λ (r : TransactionRecord). r.seat) commit.is in
+    let by_stamp : by.stamp ≡ commit.stamp = ap (λ (r : TransactionRecord). r.stamp) commit.is in
     let session : IsSession t commit.seat = subst (λ (o : world.Opening). (0 < commit.seat) × (commit.seat ≤ o.sessions)) (sym done.opening) commit.session in
     let f : Finished = record { work = commit.work; fate = world.commits commit.stamp commit.succ commit.pred } in
     let over : f ∈ (t.session commit.seat).over =
-    subst (λ (s : Session). f ∈ s.over) (sym (done.others commit.seat (λ same. newer.another (by_seat ∙ same)))) commit.over in
+    subst (λ (s : Session). f ∈ s.over) (sym (done.others commit.seat (λ same. another (by_seat ∙ same)))) commit.over in
     let below = (lawful.stamps commit.seat commit.work commit.stamp session (inl (f, over, refl, refl))).1 in
-    omega (arith, below, by_stamp, newer.stamp_is)
+    omega (arith, below, by_stamp)
+
+newer_below : (v t : View) (seat oid stamp : ℕ) → IsDone v seat (work_at v seat) world.aborts t → IsSerializable sound_law t → IsNewer v seat oid stamp → stamp < t.tail
+newer_below v t seat oid stamp done lawful newer =
+    let below = committed_below v t seat newer.by done lawful newer.committed newer.another in omega (arith, below, newer.stamp_is)
 
 printed_one : (m n : ℕ) → Some m ≡ Some n → m ≡ n
 printed_one m n is = cc

@@ -1,15 +1,16 @@
 -- The transactions that a report tells are those of its sessions, each once.
-use Rattle.std.proofs.Common.{◌≡◌, ◌≢◌, ◌⊎◌, ℕ, zero, suc, ◌+◌, ◌<◌, List, [], ◌∷◌, ◌++◌, length, slice_get, flat_map, option_to_list, Option, Some, None, refl, sym, ap, ◌∙◌, subst, inl, inr, ⊎_elim, arith}
+use Rattle.std.proofs.Common.{◌≡◌, ◌≢◌, ◌⊎◌, ℕ, zero, suc, ◌+◌, ◌<◌, ◌≤◌, List, [], ◌∷◌, ◌++◌, length, slice_get, flat_map, option_to_list, Option, Some, None, refl, sym, ap, ◌∙◌, subst, inl, inr, ⊎_elim, arith}
 use Rattle.std.specs.List.{range_with_len}
+use Rattle.std.proofs.lemmas.Option.{slice_get_within}
 use Rattle.erm_model.specs.Member.{◌∈◌}
 use Rattle.erm_model.proofs.Members.{none_in_nil, ∈-behind}
-use Rattle.erm_machine.proofs.Listed.{∈-either, ∈-head}
+use Rattle.erm_machine.proofs.Listed.{∈-cons, ∈-either, ∈-head}
 use Rattle.erm_world.specs.Laws.{IsNumbered}
-use Rattle.erm_world.specs.World.{Finished, Has, HasStamp, IsCurrent, IsSession, Stand, View, Work}
+use Rattle.erm_world.specs.World.{Finished, Has, HasStamp, IsCurrent, IsSession, Session, Stand, View, Work}
 use Rattle.erm_world.specs.World as world
 use Rattle.erm_good_report.specs.Stamps.{Told}
-use Rattle.erm_good_report.specs.Transactions.{Said, Transaction, progress_of, stamp_of, stamp_of_ending, transactions_of}
-use Rattle.erm_lines.specs.Told.{Tells, TellsCurrent, TellsNow, TellsOne, TellsOver, TellsWork}
+use Rattle.erm_good_report.specs.Transactions.{Progress, Said, Snapshot, Transaction, progress_of, stamp_of, stamp_of_ending, transactions_of}
+use Rattle.erm_lines.specs.Told.{Tells, TellsCurrent, TellsEnded, TellsNow, TellsOne, TellsOver, TellsWork}
 use Rattle.erm_told.proofs.Drawing.{no_number, the_number}
 use Rattle.erm_told.proofs.Endings.{ending_stamp, told_from, told_stamp, unfinished_stamp}
 use Rattle.erm_told.proofs.Pairs.{Pairs, pairs_from}
@@ -30,16 +31,26 @@ pub record IsTold (v : View) (t : Transaction) : Type 0 where
   pub session : IsSession v seat
   pub own : IsToldIn v seat t
 
--- what stands at a place of those told is that at the place of those over
-pub told_at : (seat : ℕ) (ts : List Transaction) (fs : List Finished) (k : ℕ) (t : Transaction) → TellsOver seat ts fs → slice_get ts k ≡ Some t
-    → (f : Finished) × (slice_get fs k ≡ Some f) × TellsOne seat t f
-told_at seat [] fs k t told at = absurd (cc)
-told_at seat (u ∷ ts) [] k t told at = absurd told
-told_at seat (u ∷ ts) (f ∷ fs) zero t told at = (f, refl, subst (λ (x : Transaction). TellsOne seat x f) (the_one u t at) told.0)
-  where
-    the_one : (x y : Transaction) → Some x ≡ Some y → x ≡ y
-    the_one x y is = cc
-told_at seat (u ∷ ts) (f ∷ fs) (suc k) t told at = told_at seat ts fs k t told.1 at
+-- one of those told is one of those over; so is a snapshot
+pub told_at : (seat : ℕ) (ts : List Transaction) (ss : List Snapshot) (fs : List Finished) (t : Transaction) → TellsOver seat ts ss fs → t ∈ ts
+    → (f : Finished) × (f ∈ fs) × TellsOne seat t f
+told_at seat ts ss [] t told m = absurd (none_in_nil t (subst (λ (list : List Transaction). t ∈ list) told.0 m))
+told_at seat ts ss (f ∷ fs) t (inl (u, us, is, one, rest)) m =
+    ⊎_elim (λ (here : u ≡ t). (f, ∈-head f fs, subst (λ (x : Transaction). TellsOne seat x f) here one))
+    (λ (later : t ∈ us). let found = told_at seat us ss fs t rest later in (found.0, ∈-behind f fs found.0 found.1, found.2))
+    (∈-cons t u us (subst (λ (list : List Transaction). t ∈ list) is m))
+told_at seat ts ss (f ∷ fs) t (inr (s, more, is, one, rest)) m =
+    let found = told_at seat ts more fs t rest m in (found.0, ∈-behind f fs found.0 found.1, found.2)
+
+pub ended_at : (seat : ℕ) (ts : List Transaction) (ss : List Snapshot) (fs : List Finished) (s : Snapshot) → TellsOver seat ts ss fs → s ∈ ss
+    → (f : Finished) × (f ∈ fs) × TellsEnded s f
+ended_at seat ts ss [] s told m = absurd (none_in_nil s (subst (λ (list : List Snapshot). s ∈ list) told.1 m))
+ended_at seat ts ss (f ∷ fs) s (inl (u, us, is, one, rest)) m =
+    let found = ended_at seat us ss fs s rest m in (found.0, ∈-behind f fs found.0 found.1, found.2)
+ended_at seat ts ss (f ∷ fs) s (inr (r, more, is, one, rest)) m =
+    ⊎_elim (λ (here : r ≡ s). (f, ∈-head f fs, subst (λ (x : Snapshot). TellsEnded x f) here one))
+    (λ (later : s ∈ more). let found = ended_at seat ts more fs s rest later in (found.0, ∈-behind f fs found.0 found.1, found.2))
+    (∈-cons s r more (subst (λ (list : List Snapshot). s ∈ list) is m))
 
 -- what stands in joined lists stands in one of them
 ∈-flat_map : {X Y : Type 0} (f : X → List Y) (xs : List X) (y : Y) → y ∈ flat_map f xs → (x : X) × (x ∈ xs) × (y ∈ f x)
@@ -63,13 +74,35 @@ pairs_flat f R (x ∷ xs) each cross =
     pairs_both R (f x) (flat_map f xs) (each x (∈-head x xs)) (pairs_flat f R xs (λ y m. each y (∈-behind x xs y m)) cross.1)
     (λ a b m n. let found = ∈-flat_map f xs b n in cross.0 found.0 found.1 a b m found.2)
 
--- numbers in turn ascend
-numbered_ascend : (ts : List Transaction) (c : ℕ) → ((k : ℕ) (t : Transaction) → slice_get ts k ≡ Some t → t.number ≡ k + c) → Pairs (λ (t u : Transaction). t.number < u.number) ts
-numbered_ascend [] c numbered = tt
-numbered_ascend (t ∷ ts) c numbered = (
-  λ u m. omega (arith, numbered zero t refl, numbered (suc m.0) u m.1),
-  numbered_ascend ts (c + 1) (λ k u at. omega (arith, numbered (suc k) u at)),
-)
+-- NUMBERS of transactions that are over: they ascend, from this one on
+abbrev pub Ascends : Transaction → Transaction → Type 0
+Ascends t u = t.number < u.number
+
+abbrev pub Numbered : ℕ → List Finished → Type 0
+Numbered c fs = (k : ℕ) (f : Finished) → slice_get fs k ≡ Some f → f.work.number ≡ k + c
+
+pub numbered_behind : (c : ℕ) (f : Finished) (fs : List Finished) → Numbered c (f ∷ fs) → Numbered (c + 1) fs
+numbered_behind c f fs numbered k g at = omega (arith, numbered (suc k) g at)
+
+pub over_between : (seat : ℕ) (ts : List Transaction) (ss : List Snapshot) (fs : List Finished) (c : ℕ) → TellsOver seat ts ss fs → Numbered c fs → (t : Transaction) → t ∈ ts
+    → (c ≤ t.number) × (t.number < c + length fs)
+over_between seat ts ss fs c told numbered t m =
+    let found = told_at seat ts ss fs t told m in
+    let number = numbered found.1.0 found.0 found.1.1 in
+    let within = slice_get_within fs found.1.0 found.0 found.1.1 in
+    let same = found.2.work.number in
+    (omega (arith, number, same), omega (arith, number, same, within))
+
+pub over_ascend : (seat : ℕ) (ts : List Transaction) (ss : List Snapshot) (fs : List Finished) (c : ℕ) → TellsOver seat ts ss fs → Numbered c fs → Pairs Ascends ts
+over_ascend seat ts ss [] c told numbered = subst (λ (list : List Transaction). Pairs Ascends list) (sym told.0) tt
+over_ascend seat ts ss (f ∷ fs) c (inl (t, us, is, one, rest)) numbered =
+    let later = numbered_behind c f fs numbered in
+    let first = numbered zero f refl in
+    subst (λ (list : List Transaction). Pairs Ascends list) (sym is) (
+      λ u m. omega (arith, first, one.work.number, (over_between seat us ss fs (c + 1) rest later u m).0),
+      over_ascend seat us ss fs (c + 1) rest later,
+    )
+over_ascend seat ts ss (f ∷ fs) c (inr (s, more, is, one, rest)) numbered = over_ascend seat ts more fs (c + 1) rest (numbered_behind c f fs numbered)
 
 -- transactions that have two names
 abbrev pub Differ : Transaction → Transaction → Type 0
@@ -109,13 +142,6 @@ told_now v seat t (world.sealed w drawn) is tells =
     (λ (some : t.sealed ≡ Some drawn). is ∙ ap (λ (n : ℕ). world.sealed w n) (the_number drawn stamp (sym some ∙ sealed))) tells.1)
 told_now v seat t (world.snapshot s) is tells = absurd tells
 
--- as many are told to be over as are
-pub same_length : (seat : ℕ) (ts : List Transaction) (fs : List Finished) → TellsOver seat ts fs → length ts ≡ length fs
-same_length seat [] [] tells = refl
-same_length seat [] (f ∷ fs) tells = absurd tells
-same_length seat (t ∷ ts) [] tells = absurd tells
-same_length seat (t ∷ ts) (f ∷ fs) tells = ap suc (same_length seat ts fs tells.1)
-
 -- the number of one that isn't over
 number_now : (seat : ℕ) (t : Transaction) (stand : Stand) (number : ℕ) → TellsNow seat (Some t) stand → ((w : Work) → IsCurrent stand w → w.number ≡ number) → t.number ≡ number
 number_now seat t world.idle number tells is = absurd tells
@@ -123,14 +149,26 @@ number_now seat t (world.active w) number tells is = tells.0.work.number ∙ is 
 number_now seat t (world.sealed w stamp) number tells is = tells.0.work.number ∙ is w refl
 number_now seat t (world.snapshot s) number tells is = absurd tells
 
--- what stands in a list, or behind it
-at_either : {X : Type 0} (xs : List X) (o : Option X) (k : ℕ) (x : X) → slice_get (xs ++ option_to_list o) k ≡ Some x → (slice_get xs k ≡ Some x) ⊎ ((o ≡ Some x) × (k ≡ length xs))
-at_either [] None k x at = absurd (cc)
-at_either [] (Some y) zero x at = inr (at, refl)
-at_either [] (Some y) (suc k) x at = absurd (cc)
-at_either (y ∷ xs) o zero x at = inl at
-at_either {X} (y ∷ xs) o (suc k) x at =
-    ⊎_elim (λ (here : slice_get xs k ≡ Some x). inl here) (λ (behind : (o ≡ Some x) × (k ≡ length xs)). inr (behind.0, ap suc behind.1)) (at_either xs o k x at)
+pub in_option : {X : Type 0} (o : Option X) (x : X) → x ∈ option_to_list o → o ≡ Some x
+in_option None x m = absurd (none_in_nil x m)
+in_option {X} (Some y) x m = ⊎_elim (λ (here : y ≡ x). ap Some here) (λ (later : x ∈ []). absurd (none_in_nil x later)) (∈-cons x y [] m)
+
+pairs_one : (o : Option Transaction) → Pairs Ascends (option_to_list o)
+pairs_one None = tt
+pairs_one (Some t) = (λ u m. absurd (none_in_nil u m), tt)
+
+-- NUMBERS of all transactions of a session: they ascend, and that of the one that isn't over is the last
+pub number_last : (seat : ℕ) (p : Progress) (s : Session) → Tells seat p s → IsNumbered s → (t : Transaction) → p.current ≡ Some t → t.number ≡ length s.over + 1
+number_last seat p s tells numbered t is =
+    number_now seat t s.stand (length s.over + 1) (subst (λ (o : Option Transaction). TellsNow seat o s.stand) is tells.now) numbered.now
+
+pub told_ascend : (seat : ℕ) (p : Progress) (s : Session) → Tells seat p s → IsNumbered s → Pairs Ascends (p.over ++ option_to_list p.current)
+told_ascend seat p s tells numbered =
+    pairs_both Ascends p.over (option_to_list p.current) (over_ascend seat p.over p.snapshots s.over 1 tells.over numbered.over) (pairs_one p.current)
+    (λ t u m n.
+    let before = over_between seat p.over p.snapshots s.over 1 tells.over numbered.over t m in
+    let last = number_last seat p s tells numbered u (in_option p.current u n) in
+    omega (arith, before.1, last))
 
 -- What was said tells the transactions of the world's sessions.
 module _ (v : View) (said : List Said) (tells : (seat : ℕ) → IsSession v seat → Tells seat (progress_of seat said) (v.session seat)) where
@@ -144,12 +182,12 @@ module _ (v : View) (said : List Said) (tells : (seat : ℕ) → IsSession v sea
   in_seat : (seat : ℕ) (t : Transaction) → IsSession v seat → t ∈ of_seat seat → IsToldIn v seat t
   in_seat seat t session m =
       ⊎_elim
-      (λ (at : slice_get (progress_of seat said).over m.0 ≡ Some t).
-      let found = told_at seat (progress_of seat said).over (v.session seat).over m.0 t (tells seat session).over at in
-      told_over v seat t found.0 (m.0, found.1) found.2)
-      (λ (at : ((progress_of seat said).current ≡ Some t) × (m.0 ≡ length (progress_of seat said).over)).
-      told_now v seat t (v.session seat).stand refl (now seat session t at.0))
-      (at_either (progress_of seat said).over (progress_of seat said).current m.0 t m.1)
+      (λ (over : t ∈ (progress_of seat said).over).
+      let found = told_at seat (progress_of seat said).over (progress_of seat said).snapshots (v.session seat).over t (tells seat session).over over in
+      told_over v seat t found.0 found.1 found.2)
+      (λ (last : t ∈ option_to_list (progress_of seat said).current).
+      told_now v seat t (v.session seat).stand refl (now seat session t (in_option (progress_of seat said).current t last)))
+      (∈-either (progress_of seat said).over (option_to_list (progress_of seat said).current) t m)
 
   of_range : (seat : ℕ) → seat ∈ range_with_len 1 v.opening.sessions → IsSession v seat
   of_range seat m = let bounds = in_range 1 v.opening.sessions seat m in (omega (arith, bounds.0), omega (arith, bounds.1))
@@ -160,21 +198,12 @@ module _ (v : View) (said : List Said) (tells : (seat : ℕ) → IsSession v sea
       let session = of_range found.0 found.1 in record { seat = found.0; session = session; own = in_seat found.0 t session found.2 }
 
   module _ (numbered : (seat : ℕ) → IsSession v seat → IsNumbered (v.session seat)) where
-    number : (seat : ℕ) → IsSession v seat → (k : ℕ) (t : Transaction) → slice_get (of_seat seat) k ≡ Some t → t.number ≡ k + 1
-    number seat session k t at =
-        ⊎_elim
-        (λ (over : slice_get (progress_of seat said).over k ≡ Some t).
-        let found = told_at seat (progress_of seat said).over (v.session seat).over k t (tells seat session).over over in
-        found.2.work.number ∙ (numbered seat session).over k found.0 found.1)
-        (λ (behind : ((progress_of seat said).current ≡ Some t) × (k ≡ length (progress_of seat said).over)).
-        let last = number_now seat t (v.session seat).stand (length (v.session seat).over + 1) (now seat session t behind.0) (numbered seat session).now in
-        omega (arith, last, behind.1, same_length seat (progress_of seat said).over (v.session seat).over (tells seat session).over))
-        (at_either (progress_of seat said).over (progress_of seat said).current k t at)
+    ascending : (seat : ℕ) → IsSession v seat → Pairs Ascends (of_seat seat)
+    ascending seat session = told_ascend seat (progress_of seat said) (v.session seat) (tells seat session) (numbered seat session)
 
     seat_differs : (seat : ℕ) → IsSession v seat → Pairs Differ (of_seat seat)
     seat_differs seat session =
-        pairs_from (λ (t u : Transaction). t.number < u.number) Differ (of_seat seat) (numbered_ascend (of_seat seat) 1 (number seat session))
-        (λ t u m n before session same. omega (arith, before, same))
+        pairs_from Ascends Differ (of_seat seat) (ascending seat session) (λ t u m n before session same. omega (arith, before, same))
 
     pub told_differ : Pairs Differ (transactions_of v.opening.sessions said)
     told_differ =

@@ -1,5 +1,5 @@
 -- What the report of a run tells of its sessions: their transactions, their phases, and which of them are closed.
-use Rattle.std.proofs.Common.{◌≡◌, ◌≢◌, ℕ, zero, suc, ◌<◌, Bool, true, not, List, [], ◌∷◌, ◌++◌, map, take, drop, filter, fold, slice_get, Some, None, refl, sym, ap, ◌∙◌, subst, ⊎_elim, arith}
+use Rattle.std.proofs.Common.{◌≡◌, ◌≢◌, ℕ, zero, suc, ◌<◌, Bool, true, not, List, [], ◌∷◌, ◌++◌, map, take, drop, filter, fold, slice_get, Option, Some, None, refl, sym, ap, ◌∙◌, subst, ⊎_elim, arith}
 use Rattle.std.specs.List.{range_with_len}
 use Rattle.std.proofs.lemmas.List.Sums.{fold-append}
 use Rattle.erm_model.specs.declared.outcome.Phase.{Phase}
@@ -8,15 +8,17 @@ use Rattle.erm_model.specs.Member.{◌∈◌}
 use Rattle.erm_machine.proofs.Listed.{∈-filter, ∈-filter_from, ∈-map, ∈-map_from}
 use Rattle.erm_node.specs.Sound.{sound_law}
 use Rattle.erm_report.specs.declared.answer.Answer.{Answer}
+use Rattle.erm_report.specs.declared.answer.Answer.TheVariants as answer
 use Rattle.erm_script.specs.declared.script.Command.{Command}
 use Rattle.erm_script.specs.declared.script.Command.TheVariants as command
 use Rattle.erm_script.specs.declared.script.ScriptLine.{ScriptLine}
 use Rattle.erm_world.specs.Laws.{IsSerializable}
 use Rattle.erm_world.specs.World.{IsSession, View, phase_at}
 use Rattle.erm_good_report.specs.GoodReport.{places_of}
-use Rattle.erm_good_report.specs.Phases.{Closed, Closes, ClosesAgree, FitsPhase, PhasesAgree, is_idle, phase_of}
+use Rattle.erm_good_report.specs.Phases.{Closed, Closes, ClosesAgree, FitsPhase, FitsRefusal, FitsSnapshot, PhasesAgree, is_idle, phase_of, refusal_of}
 use Rattle.erm_good_report.specs.Transactions.{Progress, Said, nothing, progress_of, said_of}
-use Rattle.erm_lines.specs.Answers.{DidLine}
+use Rattle.erm_good_report.specs.Windows.{IsReplied}
+use Rattle.erm_lines.specs.Answers.{DidAsked, DidCommit, DidIn, DidLine, DidOfSnapshot}
 use Rattle.erm_lines.specs.Executions.{AreClosed, DidLog, DidLogLine, DidMove, IsCourse, IsExecution, IsLast, Move, close, closed_in, flush, line, line_moves, log, move_of, said_in}
 use Rattle.erm_lines.specs.Laws.{ExecutionsGoOn, ExecutionsTell, OfCourses, RunsCloseSessions, RunsTell}
 use Rattle.erm_lines.specs.Told.{Tells}
@@ -109,6 +111,60 @@ log_fits v t phase command.Flush a did = logged_fits v t command.Flush a did
 log_fits v t phase command.Checkpoint a did = logged_fits v t command.Checkpoint a did
 log_fits v t phase c a did = absurd did
 
+-- SNAPSHOTS. A line of the log has nothing to do with one.
+log_watched : (v t : View) (phase : Phase) (c : Command) (a : Answer) → DidLog v c a t → FitsSnapshot phase c a
+log_watched v t Idle command.Flush a did = tt
+log_watched v t Active command.Flush a did = tt
+log_watched v t Sealed command.Flush a did = tt
+log_watched v t Pending command.Flush a did = tt
+log_watched v t Safe command.Flush a did = tt
+log_watched v t Idle command.Checkpoint a did = tt
+log_watched v t Active command.Checkpoint a did = tt
+log_watched v t Sealed command.Checkpoint a did = tt
+log_watched v t Pending command.Checkpoint a did = tt
+log_watched v t Safe command.Checkpoint a did = tt
+log_watched v t phase c a did = absurd did
+
+-- a look of a safe one is replied to, and a commit ends it; a pending one has begun
+replied : (v : View) (seat : ℕ) (c : Command) (a : Answer) (t : View) → DidOfSnapshot v seat c a t → (c ≡ command.Safe → ⊥) → (c ≡ command.Commit → ⊥) → (c ≡ command.Abort → ⊥)
+    → (c ≡ command.Durable → ⊥) → IsReplied a
+replied v seat command.Safe a t did one two three four = absurd (one refl)
+replied v seat command.Commit a t did one two three four = absurd (two refl)
+replied v seat command.Abort a t did one two three four = absurd (three refl)
+replied v seat command.Durable a t did one two three four = absurd (four refl)
+replied v seat (command.Get table key) (answer.Replied r) t did one two three four = (r, refl)
+replied v seat (command.Next table from) (answer.Replied r) t did one two three four = (r, refl)
+replied v seat (command.Scan table low high) (answer.Replied r) t did one two three four = (r, refl)
+replied v seat c a t did one two three four = absurd did
+
+ends_so : (v : View) (seat : ℕ) (a : Answer) (t : View) → DidOfSnapshot v seat command.Commit a t → a ≡ answer.Ended
+ends_so v seat answer.Ended t did = refl
+ends_so v seat a t did = absurd did
+
+no_end : (v : View) (seat : ℕ) (t : View) → DidCommit v seat answer.Ended t → ⊥
+no_end v seat t did = did.decided
+
+fits_in : (p : Phase) (v : View) (seat : ℕ) (c : Command) (a : Answer) (t : View) → (refusal_of p c ≡ None → DidIn p v seat c a t) → FitsRefusal (refusal_of p c) c a → FitsSnapshot p c a
+fits_in Safe v seat (command.Get table key) a t did fits = replied v seat (command.Get table key) a t (did refl) (λ e. cc) (λ e. cc) (λ e. cc) (λ e. cc)
+fits_in Safe v seat (command.Next table from) a t did fits = replied v seat (command.Next table from) a t (did refl) (λ e. cc) (λ e. cc) (λ e. cc) (λ e. cc)
+fits_in Safe v seat (command.Scan table low high) a t did fits = replied v seat (command.Scan table low high) a t (did refl) (λ e. cc) (λ e. cc) (λ e. cc) (λ e. cc)
+fits_in Safe v seat command.Commit a t did fits = ends_so v seat a t (did refl)
+fits_in Safe v seat c a t did fits = tt
+fits_in Pending v seat command.Safe (answer.LogEnd tail) t did fits = did refl
+fits_in Pending v seat command.Safe answer.NumbersEnd t did fits = did refl
+fits_in Pending v seat command.Commit answer.Ended t did fits = absurd (cc)
+fits_in Pending v seat c a t did fits = tt
+fits_in Idle v seat command.Commit answer.Ended t did fits = absurd (cc)
+fits_in Idle v seat c a t did fits = tt
+fits_in Active v seat command.Commit answer.Ended t did fits = no_end v seat t (did refl)
+fits_in Active v seat c a t did fits = tt
+fits_in Sealed v seat command.Commit answer.Ended t did fits = absurd (cc)
+fits_in Sealed v seat c a t did fits = tt
+
+line_looks : (v : View) (l : ScriptLine) (a : Answer) (t : View) → DidLine v l a t → FitsSnapshot (phase_at v l.session) l.command a
+line_looks v l a t done =
+    fits_in (phase_at v l.session) v l.session l.command a t (λ free. subst (λ (r : Option Answer). DidAsked r v l.session l.command a t) free done.did) done.fits
+
 -- THE SESSIONS CLOSED. Those that a report has are those that the execution closed.
 module _ (v t : View) (script : List ScriptLine) (answers : List Answer) (run : IsCourse v script answers t) (closed : List Closed) (are : AreClosed run.closing closed) where
   pub last_moves : AreLast run.closing
@@ -173,8 +229,8 @@ module _ (v t : View) (script : List ScriptLine) (answers : List Answer) (run : 
       closes_left Idle a fits = absurd fits
       closes_left Active a fits = refl
       closes_left Sealed a fits = refl
-      closes_left Pending a fits = absurd fits
-      closes_left Safe a fits = absurd fits
+      closes_left Pending a fits = refl
+      closes_left Safe a fits = refl
 
       idle_left : (phase : Phase) → phase ≡ Idle → not (is_idle phase) ≡ true → ⊥
       idle_left Idle is left = cc
@@ -248,5 +304,23 @@ module _ (tell : ExecutionsTell) where
             in
             subst (λ (x : Phase). FitsPhase x l.command a) (sym phase) did.fits
 
+    line_watched : (v t : View) (script : List ScriptLine) (answers : List Answer) (run : IsCourse v script answers t) (i : ℕ) (l : ScriptLine) (a : Answer)
+        → slice_get script i ≡ Some l → slice_get answers i ≡ Some a → FitsSnapshot (phase_of l.session (take i (said_of script answers))) l.command a
+    line_watched v t script answers run i l a at answered =
+        let there = at_line script answers v run.between i l a run.lines at answered in
+        ⊎_elim (of_session there.before there.after there.start)
+        (λ (of_log : DidLogLine there.before l a there.after). log_watched there.before there.after (phase_of l.session (take i (said_of script answers))) l.command a of_log.did)
+        (moved there.before l a there.after there.did)
+      where
+        of_session : (before after : View) → IsExecution v (line_moves (take i script) (take i answers)) before → DidLine before l a after
+            → FitsSnapshot (phase_of l.session (take i (said_of script answers))) l.command a
+        of_session before after start did =
+            let moves = line_moves (take i script) (take i answers) in
+            let session = still_session before v l.session (sym (go v before moves start).0) did.session in
+            let phase : phase_of l.session (take i (said_of script answers)) ≡ phase_at before l.session =
+            ap (λ (said : List Said). phase_of l.session said) (sym (said_first i script answers)) ∙ (tell v before moves run.opened start l.session session).1
+            in
+            subst (λ (x : Phase). FitsSnapshot x l.command a) (sym phase) (line_looks before l a after did)
+
     pub phases : OfCourses (λ opening script answers closed told. PhasesAgree script answers)
-    phases v t script answers run closed opening are of = record { fits = line_fits v t script answers run }
+    phases v t script answers run closed opening are of = record { fits = line_fits v t script answers run; snapshots = line_watched v t script answers run }

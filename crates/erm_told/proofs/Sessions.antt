@@ -1,44 +1,113 @@
 -- How what is told of a session goes on with the session.
-use Rattle.std.proofs.Common.{◌≡◌, ℕ, ◌+◌, List, [], ◌∷◌, ◌++◌, length, append-nil, Option, Some, None, option_map, option_to_list, refl, sym, ap, ◌∙◌, subst, inl, inr, ⊎_elim, arith}
+use Rattle.std.proofs.Common.{◌≡◌, ℕ, ◌+◌, false, List, [], ◌∷◌, ◌++◌, length, append-nil, Option, Some, None, option_map, option_to_list, refl, sym, ap, ◌∙◌, subst, inl, inr, ⊎_elim, arith}
 use Rattle.erm_model.specs.Run.{Step}
 use Rattle.erm_report.specs.declared.answer.Answer.{Answer}
 use Rattle.erm_report.specs.declared.answer.Answer.TheVariants as answer
 use Rattle.erm_script.specs.declared.script.Command.{Command}
+use Rattle.erm_script.specs.declared.script.Command.TheVariants as command
 use Rattle.erm_world.specs.World.{Fate, Finished, Stand, Work, stamp_of}
 use Rattle.erm_world.specs.World as world
 use Rattle.erm_maps.specs.Runs.{IsAnswered, IsRunOf}
-use Rattle.erm_good_report.specs.Transactions.{Ending, Progress, Transaction, heard, steps_of, with_ending, with_line, with_seal}
-use Rattle.erm_lines.specs.Told.{EndsAs, RanAs, Tells, TellsCurrent, TellsNow, TellsOne, TellsOver, TellsWork}
+use Rattle.erm_good_report.specs.Phases.{asks_safe}
+use Rattle.erm_good_report.specs.Transactions.{Ending, Progress, Snapshot, Transaction, heard, next_number, snapshot_after, steps_of, with_ending, with_line, with_look, with_seal}
+use Rattle.erm_lines.specs.Told.{EndsAs, RanAs, Tells, TellsCurrent, TellsEnded, TellsNow, TellsOne, TellsOver, TellsSnapshot, TellsWatch, TellsWatched, TellsWork}
 use Rattle.erm_told.proofs.Steps.{added, steps_with}
 
 -- as many are told as are over
-pub same_length : (seat : ℕ) (ts : List Transaction) (fs : List Finished) → TellsOver seat ts fs → length ts ≡ length fs
-same_length seat [] [] told = refl
-same_length seat [] (f ∷ fs) told = absurd told
-same_length seat (t ∷ ts) [] told = absurd told
-same_length seat (t ∷ ts) (f ∷ fs) told = omega (arith, same_length seat ts fs told.1)
+pub same_length : (seat : ℕ) (ts : List Transaction) (ss : List Snapshot) (fs : List Finished) → TellsOver seat ts ss fs → length ts + length ss ≡ length fs
+same_length seat ts ss [] told = omega (arith, ap (λ (list : List Transaction). length list) told.0, ap (λ (list : List Snapshot). length list) told.1)
+same_length seat ts ss (f ∷ fs) (inl (t, us, is, one, rest)) =
+    omega (arith, ap (λ (list : List Transaction). length list) is, same_length seat us ss fs rest)
+same_length seat ts ss (f ∷ fs) (inr (s, more, is, one, rest)) =
+    omega (arith, ap (λ (list : List Snapshot). length list) is, same_length seat ts more fs rest)
 
--- one more is over
-pub one_more : (seat : ℕ) (ts : List Transaction) (fs : List Finished) (t : Transaction) (f : Finished) → TellsOver seat ts fs → TellsOne seat t f
-    → TellsOver seat (ts ++ t ∷ []) (fs ++ f ∷ [])
-one_more seat [] [] t f told one = (one, tt)
-one_more seat [] (g ∷ fs) t f told one = absurd told
-one_more seat (u ∷ ts) [] t f told one = absurd told
-one_more seat (u ∷ ts) (g ∷ fs) t f told one = (told.0, one_more seat ts fs t f told.1 one)
+-- so the next one's number is told
+pub next_is : (seat : ℕ) (p : Progress) (over : List Finished) → TellsOver seat p.over p.snapshots over → next_number p ≡ length over + 1
+next_is seat p over told = omega (arith, same_length seat p.over p.snapshots over told)
+
+-- one more is over, a transaction or a snapshot
+pub one_more : (seat : ℕ) (ts : List Transaction) (ss : List Snapshot) (fs : List Finished) (t : Transaction) (f : Finished) → TellsOver seat ts ss fs → TellsOne seat t f
+    → TellsOver seat (ts ++ t ∷ []) ss (fs ++ f ∷ [])
+one_more seat ts ss [] t f told one = inl (t, [], ap (λ (list : List Transaction). list ++ t ∷ []) told.0, one, (refl, told.1))
+one_more seat ts ss (g ∷ fs) t f (inl (u, us, is, first, rest)) one =
+    inl (u, us ++ t ∷ [], ap (λ (list : List Transaction). list ++ t ∷ []) is, first, one_more seat us ss fs t f rest one)
+one_more seat ts ss (g ∷ fs) t f (inr (s, more, is, first, rest)) one = inr (s, more, is, first, one_more seat ts more fs t f rest one)
+
+pub one_ended : (seat : ℕ) (ts : List Transaction) (ss : List Snapshot) (fs : List Finished) (s : Snapshot) (f : Finished) → TellsOver seat ts ss fs → TellsEnded s f
+    → TellsOver seat ts (ss ++ s ∷ []) (fs ++ f ∷ [])
+one_ended seat ts ss [] s f told one = inr (s, [], ap (λ (list : List Snapshot). list ++ s ∷ []) told.1, one, (told.0, refl))
+one_ended seat ts ss (g ∷ fs) s f (inl (u, us, is, first, rest)) one = inl (u, us, is, first, one_ended seat us ss fs s f rest one)
+one_ended seat ts ss (g ∷ fs) s f (inr (r, more, is, first, rest)) one =
+    inr (r, more ++ s ∷ [], ap (λ (list : List Snapshot). list ++ s ∷ []) is, first, one_ended seat ts more fs s f rest one)
+
+-- SNAPSHOTS. A session that isn't that of a snapshot tells of none.
+abbrev pub HasNone : Stand → Type 0
+HasNone world.idle = Unit {0}
+HasNone (world.active w) = Unit {0}
+HasNone (world.sealed w stamp) = Unit {0}
+HasNone (world.snapshot x) = ⊥
+
+pub watched_none : (watched : Option Snapshot) (stand : Stand) → HasNone stand → TellsWatched watched stand → watched ≡ None
+watched_none None stand none told = refl
+watched_none (Some s) world.idle none told = absurd told
+watched_none (Some s) (world.active w) none told = absurd told
+watched_none (Some s) (world.sealed w stamp) none told = absurd told
+watched_none (Some s) (world.snapshot x) none told = absurd none
+
+pub none_watched : (watched : Option Snapshot) (stand : Stand) → HasNone stand → watched ≡ None → TellsWatched watched stand
+none_watched watched stand none is = subst (λ (o : Option Snapshot). TellsWatched o stand) (sym is) (there stand none)
+  where
+    there : (at : Stand) → HasNone at → TellsWatched None at
+    there world.idle none = tt
+    there (world.active w) none = tt
+    there (world.sealed w stamp) none = tt
+    there (world.snapshot x) none = absurd none
+
+-- and a session without a transaction tells of none
+pub now_none : (seat : ℕ) (current : Option Transaction) → TellsNow seat current world.idle → current ≡ None
+now_none seat None told = refl
+now_none seat (Some t) told = absurd told
+
+pub now_watching : (seat : ℕ) (current : Option Transaction) (x : world.Snapshot) → TellsNow seat current (world.snapshot x) → current ≡ None
+now_watching seat None x told = refl
+now_watching seat (Some t) x told = absurd told
+
+-- a line that doesn't ask for a snapshot leaves it, with this line
+pub look_after : (a : Answer) (asked : Option Command) (p : Progress) → asks_safe asked ≡ false → snapshot_after a asked p ≡ option_map (with_look asked a) p.snapshot
+look_after (answer.WaitSeat other seen) None p calm = refl
+look_after (answer.WaitSeat other seen) (Some command.Safe) p calm = absurd (cc)
+look_after (answer.WaitSeat other seen) (Some c) p calm = refl
+look_after a asked p calm = refl
+
+pub look_watched : (asked : Option Command) (a : Answer) (watched : Option Snapshot) (stand : Stand) → TellsWatched watched stand → TellsWatched (option_map (with_look asked a) watched) stand
+look_watched asked a None stand told = told
+look_watched asked a (Some s) world.idle told = absurd told
+look_watched asked a (Some s) (world.active w) told = absurd told
+look_watched asked a (Some s) (world.sealed w stamp) told = absurd told
+look_watched asked a (Some s) (world.snapshot x) told = record {
+  snapshot = record { number_is = told.snapshot.number_is; begin_is = told.snapshot.begin_is };
+  safe = told.safe;
+  unfinished = told.unfinished;
+}
+
+pub still_watched : (asked : Option Command) (a : Answer) (p : Progress) (stand : Stand) → asks_safe asked ≡ false → TellsWatched p.snapshot stand → TellsWatched (snapshot_after a asked p) stand
+still_watched asked a p stand calm told = subst (λ (o : Option Snapshot). TellsWatched o stand) (sym (look_after a asked p calm)) (look_watched asked a p.snapshot stand told)
 
 -- a transaction begins
 pub begun_told : (seat begin : ℕ) (asked : Option Command) (p : Progress) (over : List Finished) → IsRunOf (world.begun (length over + 1) begin) []
-    → TellsOver seat p.over over → Tells seat (heard seat asked (answer.Began begin) p) (record { over = over; stand = world.active (world.begun (length over + 1) begin) })
-begun_told seat begin asked p over run told = record {
+    → TellsOver seat p.over p.snapshots over → TellsWatched p.snapshot world.idle
+    → Tells seat (heard seat asked (answer.Began begin) p) (record { over = over; stand = world.active (world.begun (length over + 1) begin) })
+begun_told seat begin asked p over run told watched = record {
   over = told;
   now = (
     record {
-      work = record { session = refl; number = ap (λ n. n + 1) (same_length seat p.over over told); begin = refl };
+      work = record { session = refl; number = next_is seat p over told; begin = refl };
       unfinished = refl;
       ran = run;
     },
     refl,
   );
+  watched = none_watched p.snapshot (world.active (world.begun (length over + 1) begin)) tt (watched_none p.snapshot world.idle tt watched);
 }
 
 -- a line more of one that goes on
@@ -92,28 +161,34 @@ sealed_untold seat stamp (Some t) w told = (told.0, inl told.1)
 unsealed : (sealed : Option ℕ) (stamp : ℕ) (P : Type 0) → sealed ≡ None → sealed ≡ Some stamp → P
 unsealed sealed stamp P none some = absurd (cc)
 
+-- nothing more is over of what isn't there
+more_none : (ss : List Snapshot) (watched : Option Snapshot) → watched ≡ None → ss ≡ ss ++ option_to_list watched
+more_none ss watched is = sym (ap (λ (o : Option Snapshot). ss ++ option_to_list o) is ∙ append-nil ss)
+
 -- it was aborted
-pub aborted_told : (seat : ℕ) (ending : Ending) (ts : List Transaction) (current : Option Transaction) (over : List Finished) (w u : Work)
+pub aborted_told : (seat : ℕ) (ending : Ending) (ts : List Transaction) (current : Option Transaction) (ss : List Snapshot) (watched : Option Snapshot) (over : List Finished) (w u : Work)
     → EndsAs ending world.aborts → u.number ≡ w.number → u.begin ≡ w.begin → ((steps : List Step) → IsAnswered w steps → IsAnswered u steps)
-    → TellsOver seat ts over → TellsNow seat current (world.active w)
-    → TellsOver seat (ts ++ option_to_list (option_map (with_ending ending) current)) (over ++ record { work = u; fate = world.aborts } ∷ [])
-aborted_told seat ending ts None over w u ends number begin answered told now = absurd now
-aborted_told seat ending ts (Some t) over w u ends number begin answered told now =
-    one_more seat ts over (with_ending ending t) (record { work = u; fate = world.aborts }) told (record {
+    → TellsOver seat ts ss over → TellsNow seat current (world.active w) → watched ≡ None
+    → TellsOver seat (ts ++ option_to_list (option_map (with_ending ending) current)) (ss ++ option_to_list watched) (over ++ record { work = u; fate = world.aborts } ∷ [])
+aborted_told seat ending ts None ss watched over w u ends number begin answered told now none = absurd now
+aborted_told seat ending ts (Some t) ss watched over w u ends number begin answered told now none =
+    subst (λ (list : List Snapshot). TellsOver seat (ts ++ with_ending ending t ∷ []) list (over ++ record { work = u; fate = world.aborts } ∷ [])) (more_none ss watched none)
+    (one_more seat ts ss over (with_ending ending t) (record { work = u; fate = world.aborts }) told (record {
       work = record { session = now.0.work.session; number = now.0.work.number ∙ sym number; begin = now.0.work.begin ∙ sym begin };
       ends = ends;
       ran = answered (steps_of t) now.0.ran.run;
       sealed = λ stamp is. unsealed t.sealed stamp (stamp_of world.aborts ≡ Some stamp) now.1 is;
-    })
+    }))
 
 -- one with its commit stamp was decided
-pub decided_told : (seat : ℕ) (ending : Ending) (fate : Fate) (ts : List Transaction) (current : Option Transaction) (over : List Finished) (w : Work) (stamp : ℕ)
-    → EndsAs ending fate → stamp_of fate ≡ Some stamp → ((steps : List Step) → IsRunOf w steps → RanAs fate w steps)
-    → TellsOver seat ts over → TellsNow seat current (world.sealed w stamp)
-    → TellsOver seat (ts ++ option_to_list (option_map (with_ending ending) current)) (over ++ record { work = w; fate = fate } ∷ [])
-decided_told seat ending fate ts None over w stamp ends is ran told now = absurd now
-decided_told seat ending fate ts (Some t) over w stamp ends is ran told now =
-    one_more seat ts over (with_ending ending t) (record { work = w; fate = fate }) told (record {
+pub decided_told : (seat : ℕ) (ending : Ending) (fate : Fate) (ts : List Transaction) (current : Option Transaction) (ss : List Snapshot) (watched : Option Snapshot) (over : List Finished)
+    (w : Work) (stamp : ℕ) → EndsAs ending fate → stamp_of fate ≡ Some stamp → ((steps : List Step) → IsRunOf w steps → RanAs fate w steps)
+    → TellsOver seat ts ss over → TellsNow seat current (world.sealed w stamp) → watched ≡ None
+    → TellsOver seat (ts ++ option_to_list (option_map (with_ending ending) current)) (ss ++ option_to_list watched) (over ++ record { work = w; fate = fate } ∷ [])
+decided_told seat ending fate ts None ss watched over w stamp ends is ran told now none = absurd now
+decided_told seat ending fate ts (Some t) ss watched over w stamp ends is ran told now none =
+    subst (λ (list : List Snapshot). TellsOver seat (ts ++ with_ending ending t ∷ []) list (over ++ record { work = w; fate = fate } ∷ [])) (more_none ss watched none)
+    (one_more seat ts ss over (with_ending ending t) (record { work = w; fate = fate }) told (record {
       work = of_work seat t (with_ending ending t) w refl refl refl now.0.work;
       ends = ends;
       ran = ran (steps_of t) now.0.ran;
@@ -121,4 +196,13 @@ decided_told seat ending fate ts (Some t) over w stamp ends is ran told now =
           (λ (none : t.sealed ≡ None). unsealed t.sealed other (stamp_of fate ≡ Some other) none same)
           (λ (some : t.sealed ≡ Some stamp). is ∙ sym some ∙ same)
           now.1;
-    })
+    }))
+
+-- a snapshot is over, whether it is told to have its place or not
+pub ended_told : (seat : ℕ) (ts : List Transaction) (current : Option Transaction) (f : Transaction → Transaction) (ss : List Snapshot) (s : Snapshot) (x : world.Snapshot) (over : List Finished)
+    → TellsOver seat ts ss over → TellsNow seat current (world.snapshot x) → TellsSnapshot s x.number x.begin
+    → TellsOver seat (ts ++ option_to_list (option_map f current)) (ss ++ s ∷ []) (over ++ record { work = world.begun x.number x.begin; fate = world.aborts } ∷ [])
+ended_told seat ts (Some t) f ss s x over told now tells = absurd now
+ended_told seat ts None f ss s x over told now tells =
+    subst (λ (list : List Transaction). TellsOver seat list (ss ++ s ∷ []) (over ++ record { work = world.begun x.number x.begin; fate = world.aborts } ∷ [])) (sym (append-nil ts))
+    (one_ended seat ts ss over s (record { work = world.begun x.number x.begin; fate = world.aborts }) told (record { snapshot = tells; bare = refl; aborted = refl }))

@@ -1,5 +1,5 @@
 -- Turns: what an answer to a session tells, beside what its world did.
-use Rattle.std.proofs.Common.{◌≡◌, ◌≢◌, ℕ, ◌+◌, ◌≤◌, List, [], ◌∷◌, ◌++◌, append-nil, length, Option, Some, refl, sym, ap, ◌∙◌, subst, inl, inr, arith}
+use Rattle.std.proofs.Common.{◌≡◌, ◌≢◌, ℕ, ◌+◌, ◌≤◌, false, List, [], ◌∷◌, ◌++◌, append-nil, length, Option, Some, None, refl, sym, ap, ◌∙◌, subst, inl, inr, arith}
 use Rattle.erm_model.specs.declared.outcome.Phase.TheVariants.{Idle, Active}
 use Rattle.erm_model.specs.Run.{Step}
 use Rattle.erm_report.specs.declared.answer.Answer.{Answer}
@@ -10,12 +10,12 @@ use Rattle.erm_world.specs.Snapshots.{snapshot_not_idle}
 use Rattle.erm_world.specs.World.{Fate, Finished, Opening, Session, Stand, View, Work, phase_at, phase_of, stamp_of, work_at, work_of}
 use Rattle.erm_world.specs.World as world
 use Rattle.erm_maps.specs.Runs.{IsRunOf}
-use Rattle.erm_good_report.specs.Phases.{phase_after}
+use Rattle.erm_good_report.specs.Phases.{asks_safe, phase_after}
 use Rattle.erm_good_report.specs.Transactions.{Ending, Aborts, Progress, ended, goes_on, heard}
-use Rattle.erm_lines.specs.Told.{Continues, EndsAs, RanAs, Tells, TellsNow}
+use Rattle.erm_lines.specs.Told.{Continues, EndsAs, RanAs, Tells, TellsNow, TellsWatched}
 use Rattle.erm_told.proofs.Going.{continues_from, continues_itself, extends_itself}
 use Rattle.erm_told.proofs.Running.{active_in}
-use Rattle.erm_told.proofs.Sessions.{aborted_told, begun_told, decided_told, sealed_told, sealed_untold, unchanged_told}
+use Rattle.erm_told.proofs.Sessions.{aborted_told, begun_told, decided_told, none_watched, sealed_told, sealed_untold, still_watched, unchanged_told, watched_none}
 use Rattle.erm_told.proofs.Steps.{added}
 
 -- A session was answered: the others stay, and its transactions and its phase are those told.
@@ -51,11 +51,15 @@ turn_still v seat asked a t is phase tells = record {
 }
 
 -- a line that tells no operation leaves what was told
-pub told_still : (seat : ℕ) (asked : Option Command) (a : Answer) (p : Progress) (s : Session) → added asked a ≡ [] → Tells seat p s → Tells seat (goes_on asked a p) s
-told_still seat asked a p s none told = record { over = told.over; now = unchanged_told seat asked a p.current s.stand none told.now }
+pub told_still : (seat : ℕ) (asked : Option Command) (a : Answer) (p : Progress) (s : Session) → asks_safe asked ≡ false → added asked a ≡ [] → Tells seat p s → Tells seat (goes_on asked a p) s
+told_still seat asked a p s calm none told = record {
+  over = told.over;
+  now = unchanged_told seat asked a p.current s.stand none told.now;
+  watched = still_watched asked a p s.stand calm told.watched;
+}
 
 -- One session became another.
-becomes : (v : View) (seat : ℕ) (s : Session) (asked : Option Command) (a : Answer) (t : View) → Becomes v seat s t → Continues (v.session seat) s
+pub becomes : (v : View) (seat : ℕ) (s : Session) (asked : Option Command) (a : Answer) (t : View) → Becomes v seat s t → Continues (v.session seat) s
     → phase_after asked a (phase_at v seat) ≡ phase_of s.stand → ((p : Progress) → Tells seat p (v.session seat) → Tells seat (heard seat asked a p) s)
     → Turn v seat asked a t
 becomes v seat s asked a t now goes phase tells = record {
@@ -75,7 +79,8 @@ turn_begun v seat begin asked t runs idle (few, room, is, now) =
     let s : Session = record { over = over; stand = world.active (world.begun (length over + 1) begin) } in
     becomes v seat s asked (answer.Began begin) t now
     (continues_from (v.session seat) s world.idle (idle_in (v.session seat).stand idle) [] (sym (append-nil over)) tt) refl
-    (λ p told. begun_told seat begin asked p over (runs (length over + 1) begin) told.over)
+    (λ p told. begun_told seat begin asked p over (runs (length over + 1) begin) told.over
+    (subst (λ (stand : Stand). TellsWatched p.snapshot stand) (idle_in (v.session seat).stand idle) told.watched))
 
 -- One was sealed, and so it was told; or it is told later.
 pub seals : (v : View) (seat stamp : ℕ) (t : View) → phase_at v seat ≡ Active → DidSeal v seat stamp t → Continues (v.session seat) (t.session seat)
@@ -89,6 +94,11 @@ seals v seat stamp t active did =
 pub now_active : (seat : ℕ) (p : Progress) (s : Session) → phase_of s.stand ≡ Active → Tells seat p s → TellsNow seat p.current (world.active (work_of s.stand))
 now_active seat p s active told = subst (λ (stand : Stand). TellsNow seat p.current stand) (active_in s.stand active) told.now
 
+-- which has no snapshot
+pub none_active : (seat : ℕ) (p : Progress) (s : Session) → phase_of s.stand ≡ Active → Tells seat p s → p.snapshot ≡ None
+none_active seat p s active told =
+    watched_none p.snapshot (world.active (work_of s.stand)) tt (subst (λ (stand : Stand). TellsWatched p.snapshot stand) (active_in s.stand active) told.watched)
+
 pub turn_sealed : (v : View) (seat stamp : ℕ) (asked : Option Command) (t : View) → phase_at v seat ≡ Active → DidSeal v seat stamp t
     → Turn v seat asked (answer.Sealed stamp) t
 turn_sealed v seat stamp asked t active did = record {
@@ -98,13 +108,21 @@ turn_sealed v seat stamp asked t active did = record {
   goes = seals v seat stamp t active did;
   phase = sym (ap (λ (s : Session). phase_of s.stand) did.own);
   tells = λ p told. subst (λ (s : Session). Tells seat (heard seat asked (answer.Sealed stamp) p) s) (sym did.own)
-      (record { over = told.over; now = sealed_told seat stamp p.current (work_at v seat) (now_active seat p (v.session seat) active told) });
+      (record {
+        over = told.over;
+        now = sealed_told seat stamp p.current (work_at v seat) (now_active seat p (v.session seat) active told);
+        watched = none_watched p.snapshot (world.sealed (work_at v seat) stamp) tt (none_active seat p (v.session seat) active told);
+      });
 }
 
 -- what was told before the seal is told still
 pub told_sealed : (v : View) (seat stamp : ℕ) (t : View) (p : Progress) → phase_at v seat ≡ Active → DidSeal v seat stamp t → Tells seat p (v.session seat) → Tells seat p (t.session seat)
 told_sealed v seat stamp t p active did told = subst (λ (s : Session). Tells seat p s) (sym did.own)
-    (record { over = told.over; now = sealed_untold seat stamp p.current (work_at v seat) (now_active seat p (v.session seat) active told) })
+    (record {
+      over = told.over;
+      now = sealed_untold seat stamp p.current (work_at v seat) (now_active seat p (v.session seat) active told);
+      watched = none_watched p.snapshot (world.sealed (work_at v seat) stamp) tt (none_active seat p (v.session seat) active told);
+    })
 
 -- One was aborted.
 pub turn_aborted : (v : View) (seat : ℕ) (asked : Option Command) (t : View) → phase_at v seat ≡ Active → DidAbort v seat t → Turn v seat asked answer.Aborted t
@@ -116,8 +134,10 @@ turn_aborted v seat asked t active now =
     becomes v seat s asked answer.Aborted t now
     (continues_from (v.session seat) s (world.active w) (active_in (v.session seat).stand active) (f ∷ []) refl (w, extends_itself w, inr (inr (f, [], over, refl, refl)))) refl
     (λ p told. record {
-      over = aborted_told seat Aborts p.over p.current over w w tt refl refl (λ steps answered. answered) told.over (now_active seat p (v.session seat) active told);
+      over = aborted_told seat Aborts p.over p.current p.snapshots p.snapshot over w w tt refl refl (λ steps answered. answered) told.over
+          (now_active seat p (v.session seat) active told) (none_active seat p (v.session seat) active told);
       now = tt;
+      watched = tt;
     })
 
 -- One with its commit stamp was decided.
@@ -132,6 +152,9 @@ turn_decided v seat asked a t w stamp ending fate stand now phase hears ends is 
     becomes v seat s asked a t now
     (continues_from (v.session seat) s (world.sealed w stamp) stand (f ∷ []) refl (inr (f, [], over, refl, refl, is))) phase
     (λ p told. subst (λ (q : Progress). Tells seat q s) (sym (hears p)) (record {
-      over = decided_told seat ending fate p.over p.current over w stamp ends is ran told.over (subst (λ (at : Stand). TellsNow seat p.current at) stand told.now);
+      over = decided_told seat ending fate p.over p.current p.snapshots p.snapshot over w stamp ends is ran told.over
+          (subst (λ (at : Stand). TellsNow seat p.current at) stand told.now)
+          (watched_none p.snapshot (world.sealed w stamp) tt (subst (λ (at : Stand). TellsWatched p.snapshot at) stand told.watched));
       now = tt;
+      watched = tt;
     }))

@@ -10,20 +10,21 @@ use Rattle.erm_script.specs.declared.script.Command.TheVariants as command
 use Rattle.erm_script.specs.declared.script.ScriptLine.{ScriptLine}
 use Rattle.erm_world.specs.World.{IsSession, Session, Stand, View, phase_at, work_at, work_of}
 use Rattle.erm_world.specs.World as world
-use Rattle.erm_good_report.specs.Phases.{Closed, FitsRefusal, phase_asked, refusal_in, refusal_of}
+use Rattle.erm_good_report.specs.Phases.{Closed, FitsRefusal, need_of, refusal_in, refusal_of}
 use Rattle.erm_good_report.specs.Stamps.{DrawsUntold, IsWait, LiesAbove, LiesBelow, begin_told, place_told, stamp_drawn}
 use Rattle.erm_good_report.specs.Transactions.{Said, Transaction, progress_of, said_of, stamp_of}
+use Rattle.erm_good_report.proofs.Phases.{phase_refuses}
 use Rattle.erm_good_report.proofs.Places.{Place, place_at, said_by}
-use Rattle.erm_lines.specs.Answers.{DidAsked, DidCommand, DidCommit, DidDecide, DidLine}
+use Rattle.erm_lines.specs.Answers.{DidAsked, DidCommand, DidCommit, DidDecide, DidIn, DidLine, DidOfSnapshot}
 use Rattle.erm_lines.specs.Executions.{AreClosed, DidLog, DidLogLine, DidMove, IsCourse, line_moves, move_of}
 use Rattle.erm_lines.specs.Laws.{ExecutionsGoOn, ExecutionsTell}
 use Rattle.erm_lines.specs.Told.{TellsNow, TellsWork}
 use Rattle.erm_lines.proofs.Moved.{moved}
+use Rattle.erm_lines.proofs.Watched.{in_phase}
 use Rattle.erm_told.proofs.Drawing.{commit_fits}
 use Rattle.erm_told.proofs.Ended.{opening_is, reported, stamp_later}
 use Rattle.erm_told.proofs.Endings.{if_told}
 use Rattle.erm_told.proofs.Executed.{still_session}
-use Rattle.erm_told.proofs.Lines.{phase_refuses}
 use Rattle.erm_told.proofs.Runs.{AtLine, executed_both}
 use Rattle.erm_told.proofs.Sealing.{line_tells, there as line_there}
 use Rattle.erm_told.proofs.Timing.{Earlier, Later, all_earlier, all_later}
@@ -56,19 +57,28 @@ wait_still v seat (answer.WaitRing flushed) t waits did = did.0
 wait_still v seat a t waits did = absurd waits
 
 asked_did : (v : View) (seat : ℕ) (c : Command) (a : Answer) (t : View) (refusal : Option Answer) → refusal_of (phase_at v seat) c ≡ refusal → FitsRefusal refusal c a → refusal_in a ≡ None
-    → DidAsked refusal v seat c a t → DidCommand v seat c a t
+    → DidAsked refusal v seat c a t → DidIn (phase_at v seat) v seat c a t
 asked_did v seat c a t None is fits none did = did
 asked_did v seat c a t (Some r) is fits none did =
-    let kind : refusal_in a ≡ Some a = subst (λ (x : Answer). refusal_in x ≡ Some x) (sym fits) (phase_refuses (phase_asked c) (phase_at v seat) r is) in
+    let kind : refusal_in a ≡ Some a = subst (λ (x : Answer). refusal_in x ≡ Some x) (sym fits) (phase_refuses (need_of c) (phase_at v seat) r is) in
     let both : None ≡ Some a = sym none ∙ kind in
     absurd (cc)
+
+-- a snapshot's commit doesn't wait
+never_waits : (v : View) (seat : ℕ) (a : Answer) (t : View) → IsWait a → DidOfSnapshot v seat command.Commit a t → ⊥
+never_waits v seat (answer.WaitSeat other seen) t waits did = did
+never_waits v seat (answer.WaitRing flushed) t waits did = did
+never_waits v seat a t waits did = waits
 
 commit_by : (v : View) (l : ScriptLine) (a : Answer) (t : View) → l.command ≡ command.Commit → IsWait a → DidMove v (move_of l a) t → IsSession v l.session × DidCommit v l.session a t
 commit_by v l a t asks waits did =
     ⊎_elim
     (λ (of_session : DidLine v l a t).
-    let by = asked_did v l.session l.command a t (refusal_of (phase_at v l.session) l.command) refl of_session.fits (no_refusal a waits) of_session.did in
-    (of_session.session, subst (λ (c : Command). DidCommand v l.session c a t) asks by))
+    let by = asked_did v l.session l.command a t (refusal_of (phase_at v l.session) l.command) refl of_session.fits (no_refusal a waits) of_session.did in (
+      of_session.session,
+      in_phase (DidCommit v l.session a t) v t l.session command.Commit a (λ plain did. did) (λ rests did. absurd (never_waits v l.session a t waits did))
+          (subst (λ (c : Command). DidIn (phase_at v l.session) v l.session c a t) asks by),
+    ))
     (λ (of_log : DidLogLine v l a t). absurd (subst (λ (c : Command). DidLog v c a t) asks of_log.did))
     (moved v l a t did)
 

@@ -3,6 +3,7 @@
 #![tactic(auto)]
 
 ghost use Rattle.erm_lines.specs.Laws.{ExecutionsGoOn, ExecutionsTell, PartsCutFew, PartsHavePhases, PartsHaveStamps, RunsCloseSessions, RunsCutFew, RunsHavePhases, RunsHaveStamps, RunsTell};
+ghost use Rattle.erm_told.specs.Snapshots.{ExecutionsKeepBegins, ExecutionsKeepSafe};
 
 /// After any moves each session's transactions are those that the moves tell, and its phase is the one that the answers leave.
 pub fn executions_tell_sessions()
@@ -79,4 +80,24 @@ pub fn parts_cut_few()
     ensures { PartsCutFew }
 {
     executions_go_on();
+}
+
+/// A snapshot keeps its number and its begin stamp, until it is over and then.
+pub fn executions_keep_begins()
+    ensures { ExecutionsKeepBegins }
+{
+    erm_maps::begun_transactions_are_runs();
+    erm_maps::answers_stay();
+    executions_go_on();
+}
+
+/// A snapshot that was told safe stays so: its begin stamp is safe in each later world, and its replies are those on the rows below it.
+pub fn executions_keep_safe()
+    ensures { ExecutionsKeepSafe }
+{
+    erm_maps::begun_transactions_are_runs();
+    erm_maps::answers_stay();
+    erm_safe_world::calls_move_on();
+    erm_safe_world::refusals_move_on();
+    erm_safe_world::safe_stamps_stay_safe();
 }

@@ -1,5 +1,5 @@
 -- Ranges of the log stand apart: a transaction draws its commit stamp at the log's end, which its range moves on.
-use Rattle.std.proofs.Common.{◌≡◌, ◌≢◌, ℕ, ◌+◌, ◌<◌, ◌≤◌, ◌⊎◌, List, [], ◌∷◌, ◌++◌, length, Option, Some, None, refl, sym, ap, ◌∙◌, subst, inl, inr, ⊎_elim, arith}
+use Rattle.std.proofs.Common.{◌≡◌, ◌≢◌, ℕ, ◌+◌, ◌<◌, ◌≤◌, ◌⊎◌, true, List, [], ◌∷◌, ◌++◌, length, Option, Some, None, refl, sym, ap, ◌∙◌, subst, inl, inr, ⊎_elim, arith}
 use Rattle.std.proofs.lemmas.Bool.{cases_eq}
 use Rattle.erm_model.specs.declared.outcome.Phase.{Phase}
 use Rattle.erm_model.specs.declared.outcome.Phase.TheVariants.{Idle, Active, Sealed, Pending, Safe}
@@ -13,13 +13,16 @@ use Rattle.erm_script.specs.declared.script.ScriptLine.{ScriptLine}
 use Rattle.erm_world.specs.Calls.{Becomes, DidSeal, IsDone, Works}
 use Rattle.erm_world.specs.Face.{Goes, Grows, ends, same, works}
 use Rattle.erm_world.specs.Onward.{goes_then}
-use Rattle.erm_world.specs.World.{Fate, Finished, HasStamp, IsSession, Session, Stand, View, Work, phase_at, phase_of, size_of, stamp_of, work_at}
+use Rattle.erm_world.specs.Safe.{with_snapshot}
+use Rattle.erm_world.specs.Snapshots.{snapshot_not_sealed}
+use Rattle.erm_world.specs.World.{Fate, Finished, HasStamp, IsSession, Session, Snapshot, Stand, View, Work, phase_at, phase_of, size_of, stamp_of, work_at}
 use Rattle.erm_world.specs.World as world
 use Rattle.erm_world.proofs.Txns.{stopped}
-use Rattle.erm_good_report.specs.Phases.{refusal_of}
-use Rattle.erm_lines.specs.Answers.{DidAsked, DidClose, DidCommand, DidDecide, DidLine, DidOperation, WasRefusedAs}
+use Rattle.erm_good_report.specs.Phases.{HasNoSnapshot, NeedsReader, NeedsWriter, refusal_of}
+use Rattle.erm_lines.specs.Answers.{DidAskSafe, DidAskSnapshot, DidAsked, DidClose, DidCommand, DidDecide, DidLine, DidOfSnapshot, DidOperation, WasRefusedAs}
 use Rattle.erm_lines.specs.Executions.{DidFlush, IsExecution, IsOpened, Move, close, flush, line, log}
 use Rattle.erm_lines.proofs.Moved.{active_where, asked_still, log_flushes}
+use Rattle.erm_lines.proofs.Watched.{in_phase}
 use Rattle.erm_told.proofs.Executed.{still_session}
 use Rattle.erm_told.proofs.Running.{ran_on}
 use Rattle.erm_told_crash.specs.Laws.{RangesStandApart, StandApart}
@@ -107,6 +110,12 @@ works_keeps s t w over stand u stamp (inl (f, m, work, stamped)) = inl (f, subst
 works_keeps s t w over stand u stamp (inr sealed) =
     not_sealed (world.active w) u stamp (HasIn s u stamp) not_active (sym stand ∙ sealed)
 
+-- a snapshot is, and what is over stays
+snapshot_keeps : (s t : Session) (x : Snapshot) → t.over ≡ s.over → t.stand ≡ world.snapshot x → Keeps s t
+snapshot_keeps s t x over stand u stamp (inl (f, m, work, stamped)) = inl (f, subst (λ (fs : List Finished). f ∈ fs) over m, work, stamped)
+snapshot_keeps s t x over stand u stamp (inr sealed) =
+    not_sealed (world.snapshot x) u stamp (HasIn s u stamp) (snapshot_not_sealed x) (sym stand ∙ sealed)
+
 -- one more is over, which had its stamp before if it has one
 ended_keeps : (s t : Session) (g : Finished) → t.over ≡ s.over ++ g ∷ [] → t.stand ≡ world.idle
     → ((stamp : ℕ) → stamp_of g.fate ≡ Some stamp → s.stand ≡ world.sealed g.work stamp) → Keeps s t
@@ -183,27 +192,55 @@ decides v seat (answer.WaitSeat other seen) t did = still v t did.0
 decides v seat (answer.WaitRing place) t did = still v t did.0
 decides v seat a t did = absurd did
 
+-- a snapshot has no stamp, and draws none
+watches : (v : View) (seat : ℕ) (x : Snapshot) (t : View) → Becomes v seat (with_snapshot v seat x) t → Draws v t
+watches v seat x t now = keeps_one v seat (with_snapshot v seat x) t now (snapshot_keeps (v.session seat) (with_snapshot v seat x) x refl refl)
+
+asked_safe : (v : View) (seat : ℕ) (a : Answer) (t : View) → DidAskSafe v seat a t → Draws v t
+asked_safe v seat (answer.Safe stamp) t did = watches v seat (record did.0.0 { is_safe = true }) t did.0.2
+asked_safe v seat (answer.WaitSeat other seen) t did = still v t did.0
+asked_safe v seat (answer.Unsafe other stamp) t did = aborted v seat (work_at v seat) t did.0
+asked_safe v seat a t did = absurd did
+
+snapshot_apart : (v : View) (seat : ℕ) (a : Answer) (t : View) → DidAskSnapshot v seat a t → StandApart v → StandApart t
+snapshot_apart v seat (answer.LogEnd tail) t did are = apart_then v t (still v t did.0) are
+snapshot_apart v seat answer.NumbersEnd t did are = apart_then v t (still v t did.0) are
+snapshot_apart v seat a t did are =
+    apart_then did.between t (asked_safe did.between seat a t did.asked) (apart_then v did.between (watches v seat _ did.between did.began.3) are)
+
+watched : (v : View) (seat : ℕ) (c : Command) (a : Answer) (t : View) → DidOfSnapshot v seat c a t → Draws v t
+watched v seat command.Safe a t did = asked_safe v seat a t did
+watched v seat (command.Get table key) (answer.Replied r) t did = still v t did.same
+watched v seat (command.Next table from) (answer.Replied r) t did = still v t did.same
+watched v seat (command.Scan table low high) (answer.Replied r) t did = still v t did.same
+watched v seat command.Commit answer.Ended t did = aborted v seat (work_at v seat) t did
+watched v seat command.Abort answer.Aborted t did = aborted v seat (work_at v seat) t did
+watched v seat command.Durable a t did = still v t (asked_still v t seat a did)
+watched v seat c a t did = absurd did
+
 -- a line of a session keeps the ranges apart
-command_apart : (v : View) (seat : ℕ) (c : Command) (a : Answer) (t : View) → refusal_of (phase_at v seat) c ≡ None → DidCommand v seat c a t → StandApart v → StandApart t
-command_apart v seat command.Begin (answer.Began stamp) t none did = apart_then v t (began v seat (world.begun (length (v.session seat).over + 1) stamp) t did.3)
-command_apart v seat command.Begin (answer.LogEnd tail) t none did = apart_then v t (still v t did.0)
-command_apart v seat command.Begin answer.NumbersEnd t none did = apart_then v t (still v t did.0)
-command_apart v seat command.Seal (answer.Sealed stamp) t none did = apart_then v t (sealed_one v seat stamp t did)
-command_apart v seat command.Settle a t none did = apart_then v t (decides v seat a t did)
-command_apart v seat command.Commit a t none did = λ are.
+command_apart : (v : View) (seat : ℕ) (c : Command) (a : Answer) (t : View) → refusal_of (phase_at v seat) c ≡ None → HasNoSnapshot (phase_at v seat) → DidCommand v seat c a t → StandApart v → StandApart t
+command_apart v seat command.Begin (answer.Began stamp) t none plain did = apart_then v t (began v seat (world.begun (length (v.session seat).over + 1) stamp) t did.3)
+command_apart v seat command.Begin (answer.LogEnd tail) t none plain did = apart_then v t (still v t did.0)
+command_apart v seat command.Begin answer.NumbersEnd t none plain did = apart_then v t (still v t did.0)
+command_apart v seat command.Safe a t none plain did = snapshot_apart v seat a t did
+command_apart v seat command.Seal (answer.Sealed stamp) t none plain did = apart_then v t (sealed_one v seat stamp t did)
+command_apart v seat command.Settle a t none plain did = apart_then v t (decides v seat a t did)
+command_apart v seat command.Commit a t none plain did = λ are.
     apart_then did.between t (decides did.between seat a t did.decided) (apart_then v did.between (sealed_one v seat did.stamp did.between did.sealed) are)
-command_apart v seat command.Abort answer.Aborted t none did = apart_then v t (aborted v seat (work_at v seat) t did)
-command_apart v seat (command.Get table key) a t none did = apart_then v t (operated v seat (command.Get table key) a t (active_where (phase_at v seat) none) did)
-command_apart v seat (command.Put table key value) a t none did = apart_then v t (operated v seat (command.Put table key value) a t (active_where (phase_at v seat) none) did)
-command_apart v seat (command.Del table key) a t none did = apart_then v t (operated v seat (command.Del table key) a t (active_where (phase_at v seat) none) did)
-command_apart v seat (command.Next table from) a t none did = apart_then v t (operated v seat (command.Next table from) a t (active_where (phase_at v seat) none) did)
-command_apart v seat (command.Scan table low high) a t none did = apart_then v t (operated v seat (command.Scan table low high) a t (active_where (phase_at v seat) none) did)
-command_apart v seat (command.Tidy table key) a t none did = apart_then v t (operated v seat (command.Tidy table key) a t (active_where (phase_at v seat) none) did)
-command_apart v seat command.Durable a t none did = apart_then v t (still v t (asked_still v t seat a did))
-command_apart v seat c a t none did = absurd did
+command_apart v seat command.Abort answer.Aborted t none plain did = apart_then v t (aborted v seat (work_at v seat) t did)
+command_apart v seat (command.Get table key) a t none plain did = apart_then v t (operated v seat (command.Get table key) a t (active_where NeedsReader (phase_at v seat) tt plain none) did)
+command_apart v seat (command.Put table key value) a t none plain did = apart_then v t (operated v seat (command.Put table key value) a t (active_where NeedsWriter (phase_at v seat) tt plain none) did)
+command_apart v seat (command.Del table key) a t none plain did = apart_then v t (operated v seat (command.Del table key) a t (active_where NeedsWriter (phase_at v seat) tt plain none) did)
+command_apart v seat (command.Next table from) a t none plain did = apart_then v t (operated v seat (command.Next table from) a t (active_where NeedsReader (phase_at v seat) tt plain none) did)
+command_apart v seat (command.Scan table low high) a t none plain did = apart_then v t (operated v seat (command.Scan table low high) a t (active_where NeedsReader (phase_at v seat) tt plain none) did)
+command_apart v seat (command.Tidy table key) a t none plain did = apart_then v t (operated v seat (command.Tidy table key) a t (active_where NeedsWriter (phase_at v seat) tt plain none) did)
+command_apart v seat command.Durable a t none plain did = apart_then v t (still v t (asked_still v t seat a did))
+command_apart v seat c a t none plain did = absurd did
 
 asked_apart : (v : View) (seat : ℕ) (c : Command) (a : Answer) (t : View) (refusal : Option Answer) → refusal_of (phase_at v seat) c ≡ refusal → DidAsked refusal v seat c a t → StandApart v → StandApart t
-asked_apart v seat c a t None is did are = command_apart v seat c a t is did are
+asked_apart v seat c a t None is did are =
+    in_phase (StandApart t) v t seat c a (λ plain done. command_apart v seat c a t is plain done are) (λ rests done. apart_then v t (watched v seat c a t done) are) did
 asked_apart v seat c a t (Some r) is did are = apart_then v t (still v t did) are
 
 line_apart : (v : View) (l : ScriptLine) (a : Answer) (t : View) → DidLine v l a t → StandApart v → StandApart t
@@ -213,8 +250,8 @@ closes_apart : (v : View) (seat : ℕ) (a : Answer) (t : View) (phase : Phase) �
 closes_apart v seat a t Idle did are = absurd did
 closes_apart v seat a t Active did are = apart_then v t (aborted v seat (work_at v seat) t did) are
 closes_apart v seat a t Sealed did are = apart_then v t (decides v seat a t did) are
-closes_apart v seat a t Pending did are = absurd did
-closes_apart v seat a t Safe did are = absurd did
+closes_apart v seat a t Pending did are = apart_then v t (aborted v seat (work_at v seat) t did) are
+closes_apart v seat a t Safe did are = apart_then v t (aborted v seat (work_at v seat) t did) are
 
 -- moves in turn
 moves_apart : (moves : List Move) (v t : View) → IsExecution v moves t → StandApart v → StandApart t

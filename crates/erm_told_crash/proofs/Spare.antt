@@ -1,5 +1,6 @@
 -- A script whose lines name no session tells of none.
 use Rattle.std.proofs.Common.{◌≡◌, ◌≢◌, ℕ, Bool, cond, not, List, [], ◌∷◌, ◌++◌, length, map, fold, refl, sym, ap, ◌∙◌, subst, ⊎_elim, ne_eqb, arith, Some}
+use Rattle.std.specs.List.{filter_map}
 use Rattle.std.specs.Option.{option_to_list}
 use Rattle.std.proofs.lemmas.List.{nil_from_length}
 use Rattle.std.proofs.lemmas.List.Sorted.{length_permutation}
@@ -14,10 +15,10 @@ use Rattle.erm_report.specs.declared.answer.Answer.{Answer}
 use Rattle.erm_report.specs.declared.line.Line.{Line}
 use Rattle.erm_script.specs.declared.script.TheConstants.{NO_SESSION}
 use Rattle.erm_script.specs.declared.script.ScriptLine.{ScriptLine}
-use Rattle.erm_good_report.specs.GoodReport.{HaveTightWindows, IsGoodReport, OrderAgrees, OwesToAnswers, Report, places_of, report_lines}
+use Rattle.erm_good_report.specs.GoodReport.{HaveTightWindows, IsGoodReport, OrderAgrees, OwesToAnswers, Report, places_of, report_lines, serial_of}
 use Rattle.erm_good_report.specs.Opening.{Mode, Opening}
 use Rattle.erm_good_report.specs.Phases.{Closed, ClosesAgree, is_idle, phase_after, phase_of}
-use Rattle.erm_good_report.specs.Transactions.{Progress, Said, Transaction, heard, history_of, nothing, said_of, transactions_of}
+use Rattle.erm_good_report.specs.Transactions.{Progress, Said, Transaction, ended_as, ended_of, heard, history_of, nothing, progress_of, said_of, transactions_of}
 use Rattle.erm_told.proofs.Closing.{close_said}
 use Rattle.erm_told.proofs.Executed.{hears, turns}
 use Rattle.erm_told_crash.specs.Spare.{CutWithoutSpare, NamesNoSession, SpareNamesTellNothing, TightWithoutSpare}
@@ -45,7 +46,7 @@ said_none (l ∷ script) (a ∷ answers) none s m =
     (λ (later : s ∈ said_of script answers). said_none script answers (λ k n. none k (∈-behind l script k n)) s later)
     (∈-cons s first (said_of script answers) m)
 
--- an order of no commits
+-- an order of nothing
 order_none : (commits order : List Committed) → commits ≡ [] → IsSerialOrder rank_of commits order → order ≡ []
 order_none commits order none serial =
     nil_from_length order (length_permutation commits order serial.same ∙ ap (λ (cs : List Committed). length cs) none)
@@ -54,7 +55,7 @@ closed_from : (closed : List Closed) → map (λ (c : Closed). c.session) closed
 closed_from [] is = refl
 closed_from (c ∷ closed) is = absurd (cc)
 
--- with no session closed and no commit, the lines don't depend on the names
+-- with no session closed and nothing in the order, the lines don't depend on the names
 lines_without : (opening : Opening) (name : List ℕ) (script : List ScriptLine) (r : Report) → r.closed ≡ [] → r.order ≡ []
     → report_lines opening (name ∷ []) script r ≡ report_lines opening [] script r
 lines_without opening name script r closed order =
@@ -73,9 +74,8 @@ module _ (script : List ScriptLine) (answers : List Answer) (none : NamesNoSessi
   pub idle : phase_of 1 (said_of script answers) ≡ Idle
   idle = untold (turns 1) 1 (turns_none 1) (said_of script answers) no_place Idle
 
-  pub no_transactions : (closed : List Closed) → ((c : Closed) → c ∈ closed → c.session ≢ 1) → transactions_of 1 (places_of script answers closed) ≡ []
-  no_transactions closed apart =
-      ap (λ (p : Progress). (p.over ++ option_to_list p.current) ++ []) (untold (hears 1) 1 (hears_none 1) (places_of script answers closed) places nothing)
+  no_progress : (closed : List Closed) → ((c : Closed) → c ∈ closed → c.session ≢ 1) → progress_of 1 (places_of script answers closed) ≡ nothing
+  no_progress closed apart = untold (hears 1) 1 (hears_none 1) (places_of script answers closed) places nothing
     where
       places : (s : Said) → s ∈ places_of script answers closed → s.session ≢ 1
       places s m =
@@ -84,6 +84,17 @@ module _ (script : List ScriptLine) (answers : List Answer) (none : NamesNoSessi
           let c = ∈-map close_said closed s ends in
           λ same. apart c.0 c.1 (ap (λ (r : Said). r.session) c.2 ∙ same))
           (∈-either (said_of script answers) (map close_said closed) s m)
+
+  pub no_transactions : (closed : List Closed) → ((c : Closed) → c ∈ closed → c.session ≢ 1) → transactions_of 1 (places_of script answers closed) ≡ []
+  no_transactions closed apart = ap (λ (p : Progress). (p.over ++ option_to_list p.current) ++ []) (no_progress closed apart)
+
+  no_ended : (closed : List Closed) → ((c : Closed) → c ∈ closed → c.session ≢ 1) → ended_of 1 (places_of script answers closed) ≡ []
+  no_ended closed apart = ap (λ (p : Progress). filter_map (ended_as 1) p.snapshots ++ []) (no_progress closed apart)
+
+  -- nothing has a place in the order
+  none_placed : (closed : List Closed) → ((c : Closed) → c ∈ closed → c.session ≢ 1) → serial_of 1 (places_of script answers closed) ≡ []
+  none_placed closed apart =
+      ap (λ (ts : List Transaction). history_of ts ++ ended_of 1 (places_of script answers closed)) (no_transactions closed apart) ∙ no_ended closed apart
 
   none_closed : (closed : List Closed) → ClosesAgree 1 (said_of script answers) closed → closed ≡ []
   none_closed closed agree =
@@ -94,12 +105,12 @@ tight mode opening name script lines none told = (
   record {
     good = record {
       report = r;
-      lines_ok = g.lines_ok ∙ lines_without opening name script r closed (order_none (history_of (transactions_of 1 places)) r.order (ap history_of empty) g.order.serial);
+      lines_ok = g.lines_ok ∙ lines_without opening name script r closed (order_none (serial_of 1 places) r.order placed g.order.serial);
       fits = g.fits;
       each = g.each;
       closes = record { each = ap (map (λ (c : Closed). c.session)) closed; fits = g.closes.fits };
       owes = subst (λ (ts : List Transaction). OwesToAnswers mode opening script r.answers ts) empty g.owes;
-      order = subst (λ (ts : List Transaction). OrderAgrees (history_of ts) opening.map r) empty g.order;
+      order = subst (λ (cs : List Committed). OrderAgrees cs opening.map r) placed g.order;
     };
     tight = subst HaveTightWindows empty told.tight;
   },
@@ -120,8 +131,14 @@ tight mode opening name script lines none told = (
     closed : r.closed ≡ []
     closed = none_closed script r.answers none r.closed g.closes
 
+    apart : (c : Closed) → c ∈ r.closed → c.session ≢ 1
+    apart c m same = none_in_nil c (subst (λ (cs : List Closed). c ∈ cs) closed m)
+
     empty : transactions_of 1 places ≡ []
-    empty = no_transactions script r.answers none r.closed (λ c m same. none_in_nil c (subst (λ (cs : List Closed). c ∈ cs) closed m))
+    empty = no_transactions script r.answers none r.closed apart
+
+    placed : serial_of 1 places ≡ []
+    placed = none_placed script r.answers none r.closed apart
 
 cut : (mode : Mode) (opening : Opening) (name : List ℕ) (script : List ScriptLine) (lines : List Line) → NamesNoSession script → CutWithoutSpare mode opening name script lines
 cut mode opening name script lines none told = (

@@ -3,7 +3,6 @@ use Rattle.std.proofs.Common.{◌≡◌, ℕ, ◌+◌, ◌≤◌, ◌⊎◌, Lis
 use Rattle.std.proofs.lemmas.List.Sums.{sum_by-append}
 use Rattle.std.specs.Option.{option_to_list}
 use Rattle.erm_model.specs.declared.outcome.Phase.{Phase}
-use Rattle.erm_model.specs.declared.outcome.Phase.TheVariants.{Active, Idle, Sealed, Pending, Safe}
 use Rattle.erm_model.specs.declared.row_stop.RowStop.{RowStop}
 use Rattle.erm_model.specs.declared.row_stop.RowStop.TheVariants as stop
 use Rattle.erm_world.specs.World.{Session, View, begun, work_at, work_of}
@@ -11,7 +10,8 @@ use Rattle.erm_report.specs.declared.answer.Answer.{Answer}
 use Rattle.erm_report.specs.declared.answer.Answer.TheVariants as answer
 use Rattle.erm_script.specs.declared.script.Command.{Command}
 use Rattle.erm_script.specs.declared.script.Command.TheVariants as command
-use Rattle.erm_good_report.specs.Phases.{refusal_for}
+use Rattle.erm_good_report.specs.Phases.{Need, refusal_for, refusal_in}
+use Rattle.erm_good_report.proofs.Phases.{phase_refuses}
 use Rattle.erm_good_report.specs.Refusals.{claims_of, reads_of}
 use Rattle.erm_good_report.specs.Transactions.{Exchange, Progress, Transaction, heard, table_of, with_line}
 use Rattle.erm_lines.specs.Answers.{DidCommand, DidOperation, stop_told}
@@ -93,6 +93,11 @@ module _ (count : Command → ℕ) (seat : ℕ) (c : Command) (p : Progress) (t 
   heard_was answer.NoTransaction e = inr (was_same count p.current t e)
   heard_was answer.IsSealed e = inr (was_same count p.current t e)
   heard_was answer.NotSealed e = inr (was_same count p.current t e)
+  heard_was answer.ReadOnly e = inr (was_same count p.current t e)
+  heard_was answer.NotSafe e = inr (was_same count p.current t e)
+  heard_was (answer.Safe begin) e = inr (was_same count p.current t e)
+  heard_was (answer.Unsafe other stamp) e = absurd (cc)
+  heard_was answer.Ended e = absurd (cc)
   heard_was a e = inr (was_mapped count p.current (with_line (Some c) a) 0 (was_line count c a) t e)
 
   -- an operation's line counts
@@ -110,25 +115,17 @@ module _ (count : Command → ℕ) (seat : ℕ) (c : Command) (p : Progress) (t 
   heard_line a is grows e = absurd is
 
 -- a refusal by a phase is heard as nothing
-pub heard_refusal : (seat : ℕ) (asked : Option Command) (p : Progress) (want : Option Phase) (phase : Phase) (r : Answer) → refusal_for want phase ≡ Some r → heard seat asked r p ≡ p
-heard_refusal seat asked p (Some Idle) Active r e = let is : answer.NotIdle ≡ r = cc in subst (λ (a : Answer). heard seat asked a p ≡ p) is refl
-heard_refusal seat asked p (Some Idle) Sealed r e = let is : answer.NotIdle ≡ r = cc in subst (λ (a : Answer). heard seat asked a p ≡ p) is refl
-heard_refusal seat asked p (Some Active) Idle r e = let is : answer.NoTransaction ≡ r = cc in subst (λ (a : Answer). heard seat asked a p ≡ p) is refl
-heard_refusal seat asked p (Some Active) Sealed r e = let is : answer.IsSealed ≡ r = cc in subst (λ (a : Answer). heard seat asked a p ≡ p) is refl
-heard_refusal seat asked p (Some Sealed) Idle r e = let is : answer.NotSealed ≡ r = cc in subst (λ (a : Answer). heard seat asked a p ≡ p) is refl
-heard_refusal seat asked p (Some Sealed) Active r e = let is : answer.NotSealed ≡ r = cc in subst (λ (a : Answer). heard seat asked a p ≡ p) is refl
-heard_refusal seat asked p None phase r e = absurd (cc)
-heard_refusal seat asked p (Some Idle) Idle r e = absurd (cc)
-heard_refusal seat asked p (Some Active) Active r e = absurd (cc)
-heard_refusal seat asked p (Some Sealed) Sealed r e = absurd (cc)
-heard_refusal seat asked p (Some Idle) Pending r e = let is : answer.NotIdle ≡ r = cc in subst (λ (a : Answer). heard seat asked a p ≡ p) is refl
-heard_refusal seat asked p (Some Idle) Safe r e = let is : answer.NotIdle ≡ r = cc in subst (λ (a : Answer). heard seat asked a p ≡ p) is refl
-heard_refusal seat asked p (Some Active) Pending r e = let is : answer.NoTransaction ≡ r = cc in subst (λ (a : Answer). heard seat asked a p ≡ p) is refl
-heard_refusal seat asked p (Some Active) Safe r e = let is : answer.NoTransaction ≡ r = cc in subst (λ (a : Answer). heard seat asked a p ≡ p) is refl
-heard_refusal seat asked p (Some Sealed) Pending r e = let is : answer.NotSealed ≡ r = cc in subst (λ (a : Answer). heard seat asked a p ≡ p) is refl
-heard_refusal seat asked p (Some Sealed) Safe r e = let is : answer.NotSealed ≡ r = cc in subst (λ (a : Answer). heard seat asked a p ≡ p) is refl
-heard_refusal seat asked p (Some Pending) phase r e = absurd (cc)
-heard_refusal seat asked p (Some Safe) phase r e = absurd (cc)
+quiet_refusal : (seat : ℕ) (asked : Option Command) (p : Progress) (r : Answer) → refusal_in r ≡ Some r → heard seat asked r p ≡ p
+quiet_refusal seat asked p answer.NotIdle is = refl
+quiet_refusal seat asked p answer.NoTransaction is = refl
+quiet_refusal seat asked p answer.IsSealed is = refl
+quiet_refusal seat asked p answer.NotSealed is = refl
+quiet_refusal seat asked p answer.ReadOnly is = refl
+quiet_refusal seat asked p answer.NotSafe is = refl
+quiet_refusal seat asked p r is = absurd (cc)
+
+pub heard_refusal : (seat : ℕ) (asked : Option Command) (p : Progress) (need : Option Need) (phase : Phase) (r : Answer) → refusal_for need phase ≡ Some r → heard seat asked r p ≡ p
+heard_refusal seat asked p need phase r e = quiet_refusal seat asked p r (phase_refuses need phase r e)
 
 -- a transaction that begins has done nothing
 module _ (v : View) (seat : ℕ) (t : View) (stamp : ℕ) where
@@ -143,5 +140,6 @@ module _ (v : View) (seat : ℕ) (t : View) (stamp : ℕ) where
   began_none (command.Next table from) did = absurd (no_operation (command.Next table from) did)
   began_none (command.Scan table low high) did = absurd (no_operation (command.Scan table low high) did)
   began_none (command.Tidy table key) did = absurd (no_operation (command.Tidy table key) did)
+  began_none command.Safe did = absurd did.asked
   began_none command.Commit did = absurd did.decided
   began_none c did = absurd did

@@ -5,6 +5,8 @@ use Rattle.std.proofs.lemmas.Bool.Decides.{eqb_tells}
 use Rattle.std.proofs.lemmas.List.{length-append}
 use Rattle.std.proofs.lemmas.List.Sums.{fold-append, sum_by_push}
 use Rattle.erm_model.specs.declared.limits.TheConstants.{GREATEST_BLOCK, WRITE_LIMIT}
+use Rattle.erm_model.specs.declared.history.VersionRead.{VersionRead}
+use Rattle.erm_model.specs.declared.history.VersionWritten.{VersionWritten}
 use Rattle.erm_model.specs.declared.outcome.Phase.TheVariants.{Active}
 use Rattle.erm_model.specs.Run.{Step}
 use Rattle.erm_machine.proofs.Listed.{∈-first}
@@ -19,7 +21,7 @@ use Rattle.erm_report.specs.declared.answer.Answer.{Answer}
 use Rattle.erm_script.specs.declared.script.Command.{Command}
 use Rattle.erm_script.specs.declared.script.Command.TheVariants as command
 use Rattle.erm_script.specs.declared.script.ScriptLine.{ScriptLine}
-use Rattle.erm_good_report.specs.Phases.{FitsRefusal, phase_asked, refusal_of}
+use Rattle.erm_good_report.specs.Phases.{FitsRefusal, need_of, refusal_of}
 use Rattle.erm_good_report.specs.Refusals.{claims_of, draws_of, makes_of, total_of}
 use Rattle.erm_good_report.specs.Transactions.{Exchange, Progress, Said, Transaction, heard, nothing, progress_of, with_line}
 use Rattle.erm_lines.specs.Answers.{DidAsked, DidCommand, DidLine, DidOperation}
@@ -35,7 +37,7 @@ use Rattle.erm_told_limits.proofs.Moved.{Turned}
 use Rattle.erm_told_limits.proofs.Reached.{Ways}
 use Rattle.erm_told_limits.proofs.Tails.{line_tail}
 use Rattle.erm_told_limits.proofs.Totals.{claims_kept, claims_turned, made_kept, made_turned, mades_by_all, mades_kept, mades_turned}
-use Rattle.erm_told_limits.proofs.Turns.{BegunAreRuns, line_runs, line_turned}
+use Rattle.erm_told_limits.proofs.Turns.{BegunAreRuns, bare_after, in_either, line_runs, line_turned}
 
 pub record Holds (ls : List ScriptLine) (said : List Said) (v : View) : Type 0 where
   pub serializable : IsSerializable sound_law v
@@ -156,11 +158,13 @@ module _ (laws : Laws) (ls : List ScriptLine) (said : List Said) (v : View) (bef
   by_refusal u (Some r) is fits same e =
       let p = progress_of l.session said in
       let nothing_heard : heard l.session (Some l.command) a p ≡ p =
-      subst (λ (x : Answer). heard l.session (Some l.command) x p ≡ p) (sym fits) (heard_refusal l.session (Some l.command) p (phase_asked l.command) (phase_at v l.session) r is) in
+      subst (λ (x : Answer). heard l.session (Some l.command) x p ≡ p) (sym fits) (heard_refusal l.session (Some l.command) p (need_of l.command) (phase_at v l.session) r is) in
       let old = before.own l.session u did.session (sym (ap (λ (q : Progress). q.current) nothing_heard) ∙ e) in
       omega (arith, old, ap (λ (x : View). length (work_at x l.session).claims) same)
   by_refusal u None is fits by e =
-      own_command l.command a (progress_of l.session said) v l.session t u turned.own.now.claimed (λ w there. before.own l.session w did.session there) by e
+      in_either (length (work_at t l.session).claims ≤ may_claim u) v t l.session l.command a
+      (λ plain done. own_command l.command a (progress_of l.session said) v l.session t u turned.own.now.claimed (λ w there. before.own l.session w did.session there) done e)
+      (λ has done. omega (arith, ap (λ (claims : List VersionWritten). length claims) (bare_after v t l.session l.command a has done).claims)) by
 
   own_then : (seat : ℕ) (u : Transaction) → IsSession t seat → (progress_of seat (said ++ said_by l a ∷ [])).current ≡ Some u → length (work_at t seat).claims ≤ may_claim u
   own_then seat u session e =
@@ -190,12 +194,15 @@ module _ (laws : Laws) (ls : List ScriptLine) (said : List Said) (v : View) (bef
     refusal_reads u (Some r) is fits same e =
         let p = progress_of l.session said in
         let nothing_heard : heard l.session (Some l.command) a p ≡ p =
-        subst (λ (x : Answer). heard l.session (Some l.command) x p ≡ p) (sym fits) (heard_refusal l.session (Some l.command) p (phase_asked l.command) (phase_at v l.session) r is) in
+        subst (λ (x : Answer). heard l.session (Some l.command) x p ≡ p) (sym fits) (heard_refusal l.session (Some l.command) p (need_of l.command) (phase_at v l.session) r is) in
         subst (λ (x : View). MayHaveRead (work_at x l.session) u) (sym same) (before.seeks ranged l.session u did.session (sym (ap (λ (q : Progress). q.current) nothing_heard) ∙ e))
     refusal_reads u None is fits by e =
+        in_either (MayHaveRead (work_at t l.session) u) v t l.session l.command a
+        (λ plain done.
         own_reads l.command a (progress_of l.session said) v l.session t u (turned.own.now.apart (before.apart l.session did.session))
-        (command_looks laws.rows_below laws.ways v l.session t did.session holds (before.runs l.session did.session) l.command a is (range l (∈-last ls l)) by)
-        (λ w there. before.seeks ranged l.session w did.session there) by e
+        (command_looks laws.rows_below laws.ways v l.session t did.session holds (before.runs l.session did.session) l.command a is plain (range l (∈-last ls l)) done)
+        (λ w there. before.seeks ranged l.session w did.session there) done e)
+        (λ has done. inl (omega (arith, ap (λ (reads : List VersionRead). length reads) (bare_after v t l.session l.command a has done).reads))) by
 
     seeks_then : (seat : ℕ) (u : Transaction) → IsSession t seat → (progress_of seat (said ++ said_by l a ∷ [])).current ≡ Some u → MayHaveRead (work_at t seat) u
     seeks_then seat u session e =

@@ -10,7 +10,7 @@ use Rattle.erm_model.specs.RowTransaction.{Asked, Event, asked_claim, asked_make
 use Rattle.erm_model.specs.Run.{Step}
 use Rattle.erm_node.specs.Sound.{reached, sound_law}
 use Rattle.erm_tree.specs.Change.{count_claims, count_makes}
-use Rattle.erm_world.specs.Calls.{DidNotClaim, DidNotMake, DidNotRead, IsDone, Works}
+use Rattle.erm_world.specs.Calls.{Becomes, DidNotClaim, DidNotMake, DidNotRead, IsDone, Works}
 use Rattle.erm_world.specs.Face.{Grows, WasRefused}
 use Rattle.erm_world.specs.Face as face
 use Rattle.erm_world.specs.Going.{Extends}
@@ -91,7 +91,14 @@ module _ (P : ℕ → Type 0) (v : View) (seat : ℕ) (t : View) where
   pub same_turned : (t.session seat).over ≡ (v.session seat).over → work_at t seat ≡ work_at v seat → ((q : ℕ) → q ≢ seat → t.session q ≡ v.session q) → t.opening ≡ v.opening → Turned P 0 0 0 v seat t
   same_turned over work others opening = record { own = same_moved P (v.session seat) (t.session seat) over work; others = others; opening = opening }
 
-  -- a transaction begins where there was none
+  -- a transaction, or a snapshot, begins where there was none
+  pub begun_session : (s : Session) (n b : ℕ) → (v.session seat).stand ≡ world.idle → Becomes v seat s t → s.over ≡ (v.session seat).over → work_of s.stand ≡ begun n b → Turned P 0 0 0 v seat t
+  begun_session s n b idle now over work = record {
+    own = begun_moved P (v.session seat) (t.session seat) n b idle (ap (λ (r : Session). r.over) now.own ∙ over) (ap (λ (r : Session). work_of r.stand) now.own ∙ work);
+    others = now.others;
+    opening = now.opening;
+  }
+
   pub begun_turned : (n b : ℕ) → (v.session seat).stand ≡ world.idle → Works v seat (begun n b) t → Turned P 0 0 0 v seat t
   begun_turned n b idle works = record {
     own = begun_moved P (v.session seat) (t.session seat) n b idle (ap (λ (s : Session). s.over) works.own) (ap (λ (s : Session). work_of s.stand) works.own);

@@ -13,12 +13,13 @@ use Rattle.erm_report.specs.declared.answer.Answer.TheVariants as answer
 use Rattle.erm_script.specs.declared.script.Command.{Command}
 use Rattle.erm_script.specs.declared.script.Command.TheVariants as command
 use Rattle.erm_script.specs.Script.{IsInRange}
-use Rattle.erm_good_report.specs.Phases.{refusal_of}
+use Rattle.erm_good_report.specs.Phases.{HasNoSnapshot, NeedsReader, NeedsWriter, refusal_of}
 use Rattle.erm_good_report.specs.Refusals.{reads_of}
 use Rattle.erm_good_report.specs.Transactions.{Exchange, Progress, Transaction, heard, with_line}
 use Rattle.erm_lines.specs.Answers.{DidCommand, DidOperation}
 use Rattle.erm_lines.specs.Operations.{DidCalls, WholeOf}
-use Rattle.erm_lines.proofs.Moved.{asked_still}
+use Rattle.erm_lines.proofs.Moved.{active_where, asked_still}
+use Rattle.erm_lines.proofs.Watched.{idle_where, start_where}
 use Rattle.erm_told_limits.proofs.Arrays.{HaveRowsBelow}
 use Rattle.erm_told_limits.proofs.Grown.{Apart}
 use Rattle.erm_told_limits.proofs.Heard.{Was, began_none, heard_line, heard_was, is_operated, may_read, was_line}
@@ -26,7 +27,7 @@ use Rattle.erm_told_limits.proofs.Lines.{HasRun, Known, Looked, begun_turned, cu
 use Rattle.erm_told_limits.proofs.Moved.{Turned, turned_nothing, turned_then}
 use Rattle.erm_told_limits.proofs.Pigeons.{reads_grow}
 use Rattle.erm_told_limits.proofs.Reached.{Ways}
-use Rattle.erm_told_limits.proofs.Turns.{decided, idle_stand, sealed, wanted}
+use Rattle.erm_told_limits.proofs.Turns.{decided, idle_stand, sealed, snapshot_turned}
 
 -- a line of this command may read all that there are, or its transaction has read no more than the command may
 abbrev pub Looks : Command → View → ℕ → View → Type 0
@@ -64,22 +65,23 @@ module _ (rows_below : HaveRowsBelow) (ways : Ways) (v : View) (seat : ℕ) (t :
   began a idle did = absurd did
 
   module _ (has_run : phase_at v seat ≡ Active → HasRun v seat) where
-    pub command_looks : (c : Command) (a : Answer) → refusal_of (phase_at v seat) c ≡ None → IsInRange c → DidCommand v seat c a t → Looks c v seat t
-    command_looks command.Begin a allowed range did = inr (began a (wanted Idle (phase_at v seat) tt allowed) did)
-    command_looks (command.Get table key) a allowed range did = let active = wanted Active (phase_at v seat) tt allowed in operated (command.Get table key) range active (has_run active) a did
-    command_looks (command.Put table key value) a allowed range did = let active = wanted Active (phase_at v seat) tt allowed in operated (command.Put table key value) range active (has_run active) a did
-    command_looks (command.Del table key) a allowed range did = let active = wanted Active (phase_at v seat) tt allowed in operated (command.Del table key) range active (has_run active) a did
-    command_looks (command.Next table from) a allowed range did = inl (omega arith)
-    command_looks (command.Scan table low high) a allowed range did = inl (omega arith)
-    command_looks (command.Tidy table key) a allowed range did = let active = wanted Active (phase_at v seat) tt allowed in operated (command.Tidy table key) range active (has_run active) a did
-    command_looks command.Seal (answer.Sealed stamp) allowed range did = inr (looked_nothing v seat t 0 0 0 0 (sealed Never v seat t stamp did))
-    command_looks command.Settle a allowed range did = inr (looked_nothing v seat t 0 0 0 1 (decided Never v seat t a did))
-    command_looks command.Commit a allowed range did =
+    pub command_looks : (c : Command) (a : Answer) → refusal_of (phase_at v seat) c ≡ None → HasNoSnapshot (phase_at v seat) → IsInRange c → DidCommand v seat c a t → Looks c v seat t
+    command_looks command.Begin a allowed plain range did = inr (began a (idle_where (phase_at v seat) command.Begin allowed refl) did)
+    command_looks (command.Get table key) a allowed plain range did = let active = active_where NeedsReader (phase_at v seat) tt plain allowed in operated (command.Get table key) range active (has_run active) a did
+    command_looks (command.Put table key value) a allowed plain range did = let active = active_where NeedsWriter (phase_at v seat) tt plain allowed in operated (command.Put table key value) range active (has_run active) a did
+    command_looks (command.Del table key) a allowed plain range did = let active = active_where NeedsWriter (phase_at v seat) tt plain allowed in operated (command.Del table key) range active (has_run active) a did
+    command_looks (command.Next table from) a allowed plain range did = inl (omega arith)
+    command_looks (command.Scan table low high) a allowed plain range did = inl (omega arith)
+    command_looks (command.Tidy table key) a allowed plain range did = let active = active_where NeedsWriter (phase_at v seat) tt plain allowed in operated (command.Tidy table key) range active (has_run active) a did
+    command_looks command.Safe a allowed plain range did = inr (looked_nothing v seat t 0 0 0 1 (snapshot_turned Never v seat t a (start_where (phase_at v seat) command.Safe allowed refl plain) did))
+    command_looks command.Seal (answer.Sealed stamp) allowed plain range did = inr (looked_nothing v seat t 0 0 0 0 (sealed Never v seat t stamp did))
+    command_looks command.Settle a allowed plain range did = inr (looked_nothing v seat t 0 0 0 1 (decided Never v seat t a did))
+    command_looks command.Commit a allowed plain range did =
         inr (looked_nothing v seat t 0 0 0 1
         (turned_then Never 0 0 0 0 0 1 v seat did.between t (sealed Never v seat did.between did.stamp did.sealed) (decided Never did.between seat t a did.decided)))
-    command_looks command.Abort answer.Aborted allowed range did = inr (looked_nothing v seat t 0 0 0 1 (done_as_was Never v seat t (work_at v seat) world.aborts refl did))
-    command_looks command.Durable a allowed range did = inr (looked_nothing v seat t 0 0 0 0 (turned_nothing Never v seat t (asked_still v t seat a did)))
-    command_looks c a allowed range did = absurd did
+    command_looks command.Abort answer.Aborted allowed plain range did = inr (looked_nothing v seat t 0 0 0 1 (done_as_was Never v seat t (work_at v seat) world.aborts refl did))
+    command_looks command.Durable a allowed plain range did = inr (looked_nothing v seat t 0 0 0 0 (turned_nothing Never v seat t (asked_still v t seat a did)))
+    command_looks c a allowed plain range did = absurd did
 
 -- A TRANSACTION has read no more than its lines may, or they may read more than one transaction does.
 abbrev pub MayHaveRead : Work → Transaction → Type 0

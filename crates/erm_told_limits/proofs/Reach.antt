@@ -10,17 +10,18 @@ use Rattle.erm_script.specs.declared.script.ScriptLine.{ScriptLine}
 use Rattle.erm_world.specs.World.{Session, Stand, View, phase_at}
 use Rattle.erm_world.specs.World as world
 use Rattle.erm_good_report.specs.Opening.{Opening, InTurn}
-use Rattle.erm_good_report.specs.Phases.{FitsRefusal, IsAnswerTo, IsClaimStop, IsReadStop, asks_commit, phase_asked, refusal_in, refusal_of}
+use Rattle.erm_good_report.specs.Phases.{FitsRefusal, IsAnswerTo, IsClaimStop, IsReadStop, asks_commit, need_of, refusal_in, refusal_of}
 use Rattle.erm_good_report.specs.Refusals.{IsInReach, draws_of, moment_at, most_end, total_of}
 use Rattle.erm_good_report.specs.Stamps.{begin_told, stamp_drawn}
 use Rattle.erm_good_report.specs.Transactions.{Transaction, said_of}
-use Rattle.erm_lines.specs.Answers.{DidAsked, DidCommand, DidCommit, DidDecide, DidLine}
+use Rattle.erm_good_report.proofs.Phases.{phase_refuses}
+use Rattle.erm_lines.specs.Answers.{DidAsked, DidCommand, DidCommit, DidDecide, DidLine, DidOfSnapshot}
 use Rattle.erm_lines.specs.Executions.{DidLog, DidLogLine, IsCourse, IsOpeningOf}
 use Rattle.erm_lines.proofs.Moved.{moved}
 use Rattle.erm_told_limits.proofs.At.{AtMove, take_next}
 use Rattle.erm_told_limits.proofs.Causes.{there}
 use Rattle.erm_told_limits.proofs.Holds.{Laws}
-use Rattle.erm_told_limits.proofs.Refused.{kind_of}
+use Rattle.erm_told_limits.proofs.Turns.{in_either}
 
 -- the begin that a line tells, and the stamp that it draws, is this end of the log
 record Starts (n : ℕ) (c : Command) (a : Answer) : Type 0 where
@@ -66,6 +67,8 @@ phase_stop n c answer.NotIdle is = quiet n c answer.NotIdle refl (either (asks_c
 phase_stop n c answer.NoTransaction is = quiet n c answer.NoTransaction refl (either (asks_commit (Some c)))
 phase_stop n c answer.IsSealed is = quiet n c answer.IsSealed refl (either (asks_commit (Some c)))
 phase_stop n c answer.NotSealed is = quiet n c answer.NotSealed refl (either (asks_commit (Some c)))
+phase_stop n c answer.ReadOnly is = quiet n c answer.ReadOnly refl (either (asks_commit (Some c)))
+phase_stop n c answer.NotSafe is = quiet n c answer.NotSafe refl (either (asks_commit (Some c)))
 phase_stop n c a is = absurd (cc)
 
 -- A COMMIT that is decided at once tells the stamp that it drew.
@@ -140,10 +143,29 @@ module _ (n : ℕ) where
   durable_starts answer.NoReceipt fits = quiet n command.Durable answer.NoReceipt refl refl
   durable_starts a fits = absurd fits
 
+  safe_starts : (a : Answer) → IsAnswerTo command.Safe a → Starts n command.Safe a
+  safe_starts (answer.Safe stamp) fits = quiet n command.Safe (answer.Safe stamp) refl refl
+  safe_starts (answer.WaitSeat other seen) fits = quiet n command.Safe (answer.WaitSeat other seen) refl refl
+  safe_starts (answer.Unsafe other stamp) fits = quiet n command.Safe (answer.Unsafe other stamp) refl refl
+  safe_starts (answer.LogEnd tail) fits = quiet n command.Safe (answer.LogEnd tail) refl refl
+  safe_starts answer.NumbersEnd fits = quiet n command.Safe answer.NumbersEnd refl refl
+  safe_starts a fits = absurd fits
+
+  watched_starts : (v : View) (seat : ℕ) (c : Command) (a : Answer) (t : View) → IsAnswerTo c a → DidOfSnapshot v seat c a t → Starts n c a
+  watched_starts v seat command.Safe a t fits did = safe_starts a fits
+  watched_starts v seat (command.Get table key) a t fits did = get_starts table key a fits
+  watched_starts v seat (command.Next table from) a t fits did = next_starts table from a fits
+  watched_starts v seat (command.Scan table low high) a t fits did = scan_starts table low high a fits
+  watched_starts v seat command.Commit answer.Ended t fits did = quiet n command.Commit answer.Ended refl refl
+  watched_starts v seat command.Abort answer.Aborted t fits did = quiet n command.Abort answer.Aborted refl refl
+  watched_starts v seat command.Durable a t fits did = durable_starts a fits
+  watched_starts v seat c a t fits did = absurd did
+
 command_starts : (v : View) (seat : ℕ) (c : Command) (a : Answer) (t : View) → IsAnswerTo c a → DidCommand v seat c a t → Starts v.tail c a
 command_starts v seat command.Begin (answer.Began begin) t fits did = record { begin = λ stamp told. sym (some_is begin stamp told) ∙ did.2; drawn = λ stamp told. absurd (cc) }
 command_starts v seat command.Begin (answer.LogEnd tail) t fits did = quiet v.tail command.Begin (answer.LogEnd tail) refl refl
 command_starts v seat command.Begin answer.NumbersEnd t fits did = quiet v.tail command.Begin answer.NumbersEnd refl refl
+command_starts v seat command.Safe a t fits did = safe_starts v.tail a fits
 command_starts v seat (command.Get table key) a t fits did = get_starts v.tail table key a fits
 command_starts v seat (command.Put table key value) a t fits did = put_starts v.tail table key value a fits
 command_starts v seat (command.Del table key) a t fits did = del_starts v.tail table key a fits
@@ -161,9 +183,10 @@ command_starts v seat command.Durable a t fits did = durable_starts v.tail a fit
 command_starts v seat c a t fits did = absurd did
 
 asked_starts : (v : View) (seat : ℕ) (c : Command) (a : Answer) (t : View) (refusal : Option Answer) → refusal_of (phase_at v seat) c ≡ refusal → FitsRefusal refusal c a → DidAsked refusal v seat c a t → Starts v.tail c a
-asked_starts v seat c a t None is fits did = command_starts v seat c a t fits did
+asked_starts v seat c a t None is fits did =
+    in_either (Starts v.tail c a) v t seat c a (λ plain done. command_starts v seat c a t fits done) (λ has done. watched_starts v.tail v seat c a t fits done) did
 asked_starts v seat c a t (Some r) is fits did =
-    phase_stop v.tail c a (subst (λ (x : Answer). refusal_in x ≡ Some x) (sym fits) (kind_of (phase_asked c) (phase_at v seat) r is))
+    phase_stop v.tail c a (subst (λ (x : Answer). refusal_in x ≡ Some x) (sym fits) (phase_refuses (need_of c) (phase_at v seat) r is))
 
 log_starts : (v t : View) (c : Command) (a : Answer) → DidLog v c a t → Starts v.tail c a
 log_starts v t command.Flush (answer.Flushed place) did = quiet v.tail command.Flush (answer.Flushed place) refl refl

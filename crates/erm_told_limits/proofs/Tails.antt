@@ -12,13 +12,13 @@ use Rattle.erm_report.specs.declared.answer.Answer.TheVariants as answer
 use Rattle.erm_script.specs.declared.script.Command.{Command}
 use Rattle.erm_script.specs.declared.script.Command.TheVariants as command
 use Rattle.erm_script.specs.declared.script.ScriptLine.{ScriptLine}
-use Rattle.erm_good_report.specs.Phases.{refusal_of}
+use Rattle.erm_good_report.specs.Phases.{HasNoSnapshot, NeedsReader, NeedsWriter, refusal_of}
 use Rattle.erm_good_report.specs.Refusals.{draws_of}
-use Rattle.erm_lines.specs.Answers.{DidAsked, DidCommand, DidDecide, DidLine, DidOperation, WasRefusedAs}
+use Rattle.erm_lines.specs.Answers.{DidAskSafe, DidAskSnapshot, DidAsked, DidCommand, DidDecide, DidOfSnapshot, DidLine, DidOperation, WasRefusedAs}
 use Rattle.erm_lines.specs.Operations.{Ran}
-use Rattle.erm_lines.proofs.Moved.{asked_still}
+use Rattle.erm_lines.proofs.Moved.{active_where, asked_still}
 use Rattle.erm_told_limits.proofs.Grown.{all_active, still_active}
-use Rattle.erm_told_limits.proofs.Turns.{wanted}
+use Rattle.erm_told_limits.proofs.Turns.{in_either}
 
 ran_tail : (events : List Event) (v : View) (seat : ℕ) (t : View) → phase_at v seat ≡ Active → Ran v seat events t → t.tail ≡ v.tail
 ran_tail [] v seat t active is = ap (λ (x : View). x.tail) is
@@ -34,6 +34,28 @@ decided_tail v seat t a did = absurd did
 
 sealed_tail : (v u : View) (seat stamp : ℕ) (t : View) (a : Answer) → DidSeal v seat stamp u → DidDecide u seat a t → t.tail ≤ v.tail + GREATEST_BLOCK * 1
 sealed_tail v u seat stamp t a sealed decided = omega (arith, sealed.tail, sealed.fits, decided_tail u seat t a decided)
+
+-- a snapshot draws nothing
+asked_tail : (v t : View) (seat : ℕ) (a : Answer) → DidAskSafe v seat a t → t.tail ≡ v.tail
+asked_tail v t seat (answer.Safe stamp) did = did.0.2.tail
+asked_tail v t seat (answer.WaitSeat other seen) did = ap (λ (x : View). x.tail) did.0
+asked_tail v t seat (answer.Unsafe other stamp) did = did.0.tail
+asked_tail v t seat a did = absurd did
+
+snapshot_tail : (v t : View) (seat : ℕ) (a : Answer) → DidAskSnapshot v seat a t → t.tail ≡ v.tail
+snapshot_tail v t seat (answer.LogEnd tail) did = ap (λ (x : View). x.tail) did.0
+snapshot_tail v t seat answer.NumbersEnd did = ap (λ (x : View). x.tail) did.0
+snapshot_tail v t seat a did = asked_tail did.between t seat a did.asked ∙ did.began.3.tail
+
+watched_tail : (v t : View) (seat : ℕ) (c : Command) (a : Answer) → DidOfSnapshot v seat c a t → t.tail ≡ v.tail
+watched_tail v t seat command.Safe a did = asked_tail v t seat a did
+watched_tail v t seat (command.Get table key) (answer.Replied r) did = ap (λ (x : View). x.tail) did.same
+watched_tail v t seat (command.Next table from) (answer.Replied r) did = ap (λ (x : View). x.tail) did.same
+watched_tail v t seat (command.Scan table low high) (answer.Replied r) did = ap (λ (x : View). x.tail) did.same
+watched_tail v t seat command.Commit answer.Ended did = did.tail
+watched_tail v t seat command.Abort answer.Aborted did = did.tail
+watched_tail v t seat command.Durable a did = ap (λ (x : View). x.tail) (asked_still v t seat a did)
+watched_tail v t seat c a did = absurd did
 
 module _ (v : View) (seat : ℕ) (t : View) where
   module _ (active : phase_at v seat ≡ Active) where
@@ -56,24 +78,26 @@ module _ (v : View) (seat : ℕ) (t : View) where
   operation : (c : Command) (a : Answer) → t.tail ≡ v.tail → t.tail ≤ v.tail + GREATEST_BLOCK * 0
   operation c a same = omega (arith, same)
 
-  commanded : (c : Command) (a : Answer) → refusal_of (phase_at v seat) c ≡ None → DidCommand v seat c a t → t.tail ≤ v.tail + GREATEST_BLOCK * draws_of c
-  commanded command.Begin a allowed did = operation command.Begin a (began_tail a did)
-  commanded (command.Get table key) a allowed did = operation (command.Get table key) a (operated_tail (wanted Active (phase_at v seat) tt allowed) (command.Get table key) a did)
-  commanded (command.Put table key value) a allowed did = operation (command.Put table key value) a (operated_tail (wanted Active (phase_at v seat) tt allowed) (command.Put table key value) a did)
-  commanded (command.Del table key) a allowed did = operation (command.Del table key) a (operated_tail (wanted Active (phase_at v seat) tt allowed) (command.Del table key) a did)
-  commanded (command.Next table from) a allowed did = operation (command.Next table from) a (operated_tail (wanted Active (phase_at v seat) tt allowed) (command.Next table from) a did)
-  commanded (command.Scan table low high) a allowed did = operation (command.Scan table low high) a (operated_tail (wanted Active (phase_at v seat) tt allowed) (command.Scan table low high) a did)
-  commanded (command.Tidy table key) a allowed did = operation (command.Tidy table key) a (operated_tail (wanted Active (phase_at v seat) tt allowed) (command.Tidy table key) a did)
-  commanded command.Seal (answer.Sealed stamp) allowed did = omega (arith, did.tail, did.fits)
-  commanded command.Settle a allowed did = operation command.Settle a (decided_tail v seat t a did)
-  commanded command.Commit a allowed did = sealed_tail v did.between seat did.stamp t a did.sealed did.decided
-  commanded command.Abort answer.Aborted allowed did = operation command.Abort answer.Aborted did.tail
-  commanded command.Durable a allowed did = operation command.Durable a (ap (λ (x : View). x.tail) (asked_still v t seat a did))
-  commanded c a allowed did = absurd did
+  commanded : (c : Command) (a : Answer) → refusal_of (phase_at v seat) c ≡ None → HasNoSnapshot (phase_at v seat) → DidCommand v seat c a t → t.tail ≤ v.tail + GREATEST_BLOCK * draws_of c
+  commanded command.Begin a allowed plain did = operation command.Begin a (began_tail a did)
+  commanded (command.Get table key) a allowed plain did = operation (command.Get table key) a (operated_tail (active_where NeedsReader (phase_at v seat) tt plain allowed) (command.Get table key) a did)
+  commanded (command.Put table key value) a allowed plain did = operation (command.Put table key value) a (operated_tail (active_where NeedsWriter (phase_at v seat) tt plain allowed) (command.Put table key value) a did)
+  commanded (command.Del table key) a allowed plain did = operation (command.Del table key) a (operated_tail (active_where NeedsWriter (phase_at v seat) tt plain allowed) (command.Del table key) a did)
+  commanded (command.Next table from) a allowed plain did = operation (command.Next table from) a (operated_tail (active_where NeedsReader (phase_at v seat) tt plain allowed) (command.Next table from) a did)
+  commanded (command.Scan table low high) a allowed plain did = operation (command.Scan table low high) a (operated_tail (active_where NeedsReader (phase_at v seat) tt plain allowed) (command.Scan table low high) a did)
+  commanded (command.Tidy table key) a allowed plain did = operation (command.Tidy table key) a (operated_tail (active_where NeedsWriter (phase_at v seat) tt plain allowed) (command.Tidy table key) a did)
+  commanded command.Safe a allowed plain did = operation command.Safe a (snapshot_tail v t seat a did)
+  commanded command.Seal (answer.Sealed stamp) allowed plain did = omega (arith, did.tail, did.fits)
+  commanded command.Settle a allowed plain did = operation command.Settle a (decided_tail v seat t a did)
+  commanded command.Commit a allowed plain did = sealed_tail v did.between seat did.stamp t a did.sealed did.decided
+  commanded command.Abort answer.Aborted allowed plain did = operation command.Abort answer.Aborted did.tail
+  commanded command.Durable a allowed plain did = operation command.Durable a (ap (λ (x : View). x.tail) (asked_still v t seat a did))
+  commanded c a allowed plain did = absurd did
 
   asked : (c : Command) (a : Answer) (refusal : Option Answer) → refusal_of (phase_at v seat) c ≡ refusal → DidAsked refusal v seat c a t → t.tail ≤ v.tail + GREATEST_BLOCK * draws_of c
   asked c a (Some r) is same = omega (arith, ap (λ (x : View). x.tail) same)
-  asked c a None is did = commanded c a is did
+  asked c a None is did =
+      in_either (t.tail ≤ v.tail + GREATEST_BLOCK * draws_of c) v t seat c a (λ plain done. commanded c a is plain done) (λ has done. omega (arith, watched_tail v t seat c a done)) did
 
 pub line_tail : (v : View) (l : ScriptLine) (a : Answer) (t : View) → DidLine v l a t → t.tail ≤ v.tail + GREATEST_BLOCK * draws_of l.command
 line_tail v l a t did = asked v l.session t l.command a (refusal_of (phase_at v l.session) l.command) refl did.did

@@ -1,5 +1,5 @@
 -- Each line, whatever its answer: how its session has gone on, that its transaction is a run still, and how far the log went on.
-use Rattle.std.proofs.Common.{◌≡◌, ℕ, ◌≤◌, ◌⊎◌, Bool, true, false, List, [], ◌++◌, Option, Some, None, refl, sym, ap, subst, inl, inr, arith}
+use Rattle.std.proofs.Common.{length, ◌≡◌, ℕ, ◌+◌, ◌≤◌, ◌⊎◌, Bool, true, false, List, [], ◌++◌, Option, Some, None, refl, sym, ap, subst, inl, inr, arith, ◌∙◌}
 use Rattle.erm_model.specs.declared.outcome.Phase.{Phase}
 use Rattle.erm_model.specs.declared.outcome.Phase.TheVariants.{Active, Idle, Sealed, Pending, Safe}
 use Rattle.erm_model.specs.declared.row_stop.RowStop.{RowStop}
@@ -20,36 +20,19 @@ use Rattle.erm_report.specs.declared.answer.Answer.TheVariants as answer
 use Rattle.erm_script.specs.declared.script.Command.{Command}
 use Rattle.erm_script.specs.declared.script.Command.TheVariants as command
 use Rattle.erm_script.specs.declared.script.ScriptLine.{ScriptLine}
-use Rattle.erm_good_report.specs.Phases.{HasNoSnapshot, refusal_for, refusal_of}
+use Rattle.erm_good_report.specs.Phases.{HasNoSnapshot, NeedsReader, NeedsWriter, refusal_of}
 use Rattle.erm_good_report.specs.Refusals.{claims_of, makes_of}
-use Rattle.erm_lines.specs.Answers.{DidAsked, DidCommand, DidDecide, DidLine, DidOperation, WasRefusedAs}
+use Rattle.erm_lines.specs.Answers.{DidAskSafe, DidAskSnapshot, DidAsked, DidCommand, DidDecide, DidIn, DidOfSnapshot, DidLine, DidOperation, WasRefusedAs}
 use Rattle.erm_lines.specs.Operations.{AsksOf, DidCalls, FrontOf, WereCutOff, WholeOf}
-use Rattle.erm_lines.proofs.Moved.{asked_still}
+use Rattle.erm_lines.specs.Whole.{is_snapshot}
+use Rattle.erm_lines.proofs.Moved.{active_where, asked_still}
+use Rattle.erm_lines.proofs.Watched.{asked_snapshot, has_phase, idle_where, safe_rests, snapshot_rests, snapshot_there, start_where, watched}
+use Rattle.erm_world.specs.Safe.{HasSnapshot, with_snapshot}
 use Rattle.erm_told_limits.proofs.Arrays.{HaveRowsBelow}
 use Rattle.erm_told_limits.proofs.Grown.{all_active}
-use Rattle.erm_told_limits.proofs.Lines.{HasRun, Known, begun_turned, cut_of, cut_turned, done_as_was, same_turned, whole_turned}
+use Rattle.erm_told_limits.proofs.Lines.{HasRun, Known, begun_session, begun_turned, cut_of, cut_turned, done_as_was, same_turned, whole_turned}
 use Rattle.erm_told_limits.proofs.Moved.{Turned, turned_nothing, turned_then, turned_within}
 use Rattle.erm_told_limits.proofs.Reached.{Ways}
-
--- a phase that doesn't refuse a command that asks for one is that
-pub wanted : (p q : Phase) → HasNoSnapshot p → refusal_for (Some p) q ≡ None → q ≡ p
-wanted Idle Idle plain e = refl
-wanted Idle Active plain e = absurd (cc)
-wanted Idle Sealed plain e = absurd (cc)
-wanted Idle Pending plain e = absurd (cc)
-wanted Idle Safe plain e = absurd (cc)
-wanted Active Idle plain e = absurd (cc)
-wanted Active Active plain e = refl
-wanted Active Sealed plain e = absurd (cc)
-wanted Active Pending plain e = absurd (cc)
-wanted Active Safe plain e = absurd (cc)
-wanted Sealed Idle plain e = absurd (cc)
-wanted Sealed Active plain e = absurd (cc)
-wanted Sealed Sealed plain e = refl
-wanted Sealed Pending plain e = absurd (cc)
-wanted Sealed Safe plain e = absurd (cc)
-wanted Pending q plain e = absurd plain
-wanted Safe q plain e = absurd plain
 
 pub idle_stand : (stand : Stand) → phase_of stand ≡ Idle → stand ≡ world.idle
 idle_stand world.idle e = refl
@@ -76,6 +59,79 @@ module _ (P : ℕ → Type 0) (v : View) (seat : ℕ) (t : View) where
   pub sealed : (stamp : ℕ) → DidSeal v seat stamp t → Turned P 0 0 0 v seat t
   sealed stamp did = same_turned P v seat t (ap (λ (s : Session). s.over) did.own) (ap (λ (s : Session). work_of s.stand) did.own) did.others did.opening
 
+  -- a snapshot was asked whether it is safe, looked, or ended
+  still_so : t ≡ v → Turned P 0 0 1 v seat t
+  still_so is = within_one 0 0 0 (omega arith) (turned_nothing P v seat t is)
+
+  pub asked_safe : (a : Answer) → DidAskSafe v seat a t → Turned P 0 0 1 v seat t
+  asked_safe (answer.Safe stamp) ((y, at, now, safe), same) =
+      within_one 0 0 0 (omega arith)
+      (same_turned P v seat t (ap (λ (s : Session). s.over) now.own) (ap (λ (s : Session). work_of s.stand) now.own ∙ sym (ap work_of at)) now.others now.opening)
+  asked_safe (answer.WaitSeat other seen) did = still_so did.0
+  asked_safe (answer.Unsafe other stamp) did = done_as_was P v seat t (work_at v seat) world.aborts refl did.0
+  asked_safe a did = absurd did
+
+  pub watched_turned : (c : Command) (a : Answer) → DidOfSnapshot v seat c a t → Turned P 0 0 1 v seat t
+  watched_turned command.Safe a did = asked_safe a did
+  watched_turned (command.Get table key) (answer.Replied r) did = still_so did.same
+  watched_turned (command.Next table from) (answer.Replied r) did = still_so did.same
+  watched_turned (command.Scan table low high) (answer.Replied r) did = still_so did.same
+  watched_turned command.Commit answer.Ended did = done_as_was P v seat t (work_at v seat) world.aborts refl did
+  watched_turned command.Abort answer.Aborted did = done_as_was P v seat t (work_at v seat) world.aborts refl did
+  watched_turned command.Durable a did = still_so (asked_still v t seat a did)
+  watched_turned c a did = absurd did
+
+-- one was begun, and asked
+pub snapshot_turned : (P : ℕ → Type 0) (v : View) (seat : ℕ) (t : View) (a : Answer) → phase_at v seat ≡ Idle → DidAskSnapshot v seat a t → Turned P 0 0 1 v seat t
+snapshot_turned P v seat t (answer.LogEnd tail) idle did = within_one P v seat t 0 0 0 (omega arith) (turned_nothing P v seat t did.0)
+snapshot_turned P v seat t answer.NumbersEnd idle did = within_one P v seat t 0 0 0 (omega arith) (turned_nothing P v seat t did.0)
+snapshot_turned P v seat t a idle did =
+    turned_then P 0 0 0 0 0 1 v seat did.between t
+    (begun_session P v seat did.between (with_snapshot v seat (record { number = length (v.session seat).over + 1; begin = did.begin; is_safe = false })) (length (v.session seat).over + 1) did.begin
+    (idle_stand (v.session seat).stand idle) did.began.3 refl refl)
+    (asked_safe P did.between seat t a did.asked)
+
+-- a line that isn't refused is one of a session without a snapshot, or with one
+pub in_either : (Q : Type 0) (v t : View) (seat : ℕ) (c : Command) (a : Answer) → (HasNoSnapshot (phase_at v seat) → DidCommand v seat c a t → Q)
+    → (HasSnapshot v seat → DidOfSnapshot v seat c a t → Q) → DidIn (phase_at v seat) v seat c a t → Q
+in_either Q v t seat c a plain watched did = by (phase_at v seat) refl did
+  where
+    by : (p : Phase) → phase_at v seat ≡ p → DidIn p v seat c a t → Q
+    by Idle is did = plain (subst HasNoSnapshot (sym is) tt) did
+    by Active is did = plain (subst HasNoSnapshot (sym is) tt) did
+    by Sealed is did = plain (subst HasNoSnapshot (sym is) tt) did
+    by Pending is did = watched (snapshot_there v seat (ap is_snapshot is)) did
+    by Safe is did = watched (snapshot_there v seat (ap is_snapshot is)) did
+
+-- a line of a snapshot leaves the session without reads and claims, as it was
+pub record IsBare (w : Work) : Type 0 where
+  pub reads : w.reads ≡ []
+  pub claims : w.claims ≡ []
+
+bare_still : (v t : View) (seat : ℕ) → HasSnapshot v seat → t ≡ v → IsBare (work_at t seat)
+bare_still v t seat has is =
+    let work : work_at t seat ≡ begun has.0.number has.0.begin = ap (λ (u : View). work_at u seat) is ∙ ap work_of has.1 in
+    subst IsBare (sym work) (record { reads = refl; claims = refl })
+
+bare_done : (v t : View) (seat : ℕ) (w : Work) (fate : Fate) → IsDone v seat w fate t → IsBare (work_at t seat)
+bare_done v t seat w fate did = subst IsBare (sym (ap (λ (s : Session). work_of s.stand) did.own)) (record { reads = refl; claims = refl })
+
+bare_asked : (v t : View) (seat : ℕ) (a : Answer) → HasSnapshot v seat → DidAskSafe v seat a t → IsBare (work_at t seat)
+bare_asked v t seat (answer.Safe stamp) has ((y, at, now, safe), same) = subst IsBare (sym (ap (λ (s : Session). work_of s.stand) now.own)) (record { reads = refl; claims = refl })
+bare_asked v t seat (answer.WaitSeat other seen) has did = bare_still v t seat has did.0
+bare_asked v t seat (answer.Unsafe other stamp) has did = bare_done v t seat (work_at v seat) world.aborts did.0
+bare_asked v t seat a has did = absurd did
+
+pub bare_after : (v t : View) (seat : ℕ) (c : Command) (a : Answer) → HasSnapshot v seat → DidOfSnapshot v seat c a t → IsBare (work_at t seat)
+bare_after v t seat command.Safe a has did = bare_asked v t seat a has did
+bare_after v t seat (command.Get table key) (answer.Replied r) has did = bare_still v t seat has did.same
+bare_after v t seat (command.Next table from) (answer.Replied r) has did = bare_still v t seat has did.same
+bare_after v t seat (command.Scan table low high) (answer.Replied r) has did = bare_still v t seat has did.same
+bare_after v t seat command.Commit answer.Ended has did = bare_done v t seat (work_at v seat) world.aborts did
+bare_after v t seat command.Abort answer.Aborted has did = bare_done v t seat (work_at v seat) world.aborts did
+bare_after v t seat command.Durable a has did = bare_still v t seat has (asked_still v t seat a did)
+bare_after v t seat c a has did = absurd did
+
 module _ (rows_below : HaveRowsBelow) (ways : Ways) (v : View) (seat : ℕ) (t : View) (session : IsSession v seat) (holds : IsSerializable sound_law t) where
   module _ (c : Command) (active : phase_at v seat ≡ Active) (has_run : HasRun v seat) where
     cut_off : (a : Answer) → WasRefusedAs v seat c a t → Turned (Known c t) (makes_of c) (claims_of c) 1 v seat t
@@ -99,25 +155,28 @@ module _ (rows_below : HaveRowsBelow) (ways : Ways) (v : View) (seat : ℕ) (t :
   began a idle did = absurd did
 
   module _ (has_run : phase_at v seat ≡ Active → HasRun v seat) where
-    commanded : (c : Command) (a : Answer) → refusal_of (phase_at v seat) c ≡ None → DidCommand v seat c a t → Turned (Known c t) (makes_of c) (claims_of c) 1 v seat t
-    commanded command.Begin a allowed did = began a (wanted Idle (phase_at v seat) tt allowed) did
-    commanded (command.Get table key) a allowed did = let active = wanted Active (phase_at v seat) tt allowed in operated (command.Get table key) active (has_run active) a did
-    commanded (command.Put table key value) a allowed did = let active = wanted Active (phase_at v seat) tt allowed in operated (command.Put table key value) active (has_run active) a did
-    commanded (command.Del table key) a allowed did = let active = wanted Active (phase_at v seat) tt allowed in operated (command.Del table key) active (has_run active) a did
-    commanded (command.Next table from) a allowed did = let active = wanted Active (phase_at v seat) tt allowed in operated (command.Next table from) active (has_run active) a did
-    commanded (command.Scan table low high) a allowed did = let active = wanted Active (phase_at v seat) tt allowed in operated (command.Scan table low high) active (has_run active) a did
-    commanded (command.Tidy table key) a allowed did = let active = wanted Active (phase_at v seat) tt allowed in operated (command.Tidy table key) active (has_run active) a did
-    commanded command.Seal (answer.Sealed stamp) allowed did = within_one (Known command.Seal t) v seat t 0 0 0 (omega arith) (sealed (Known command.Seal t) v seat t stamp did)
-    commanded command.Settle a allowed did = decided (Known command.Settle t) v seat t a did
-    commanded command.Commit a allowed did =
+    commanded : (c : Command) (a : Answer) → refusal_of (phase_at v seat) c ≡ None → HasNoSnapshot (phase_at v seat) → DidCommand v seat c a t → Turned (Known c t) (makes_of c) (claims_of c) 1 v seat t
+    commanded command.Begin a allowed plain did = began a (idle_where (phase_at v seat) command.Begin allowed refl) did
+    commanded (command.Get table key) a allowed plain did = let active = active_where NeedsReader (phase_at v seat) tt plain allowed in operated (command.Get table key) active (has_run active) a did
+    commanded (command.Put table key value) a allowed plain did = let active = active_where NeedsWriter (phase_at v seat) tt plain allowed in operated (command.Put table key value) active (has_run active) a did
+    commanded (command.Del table key) a allowed plain did = let active = active_where NeedsWriter (phase_at v seat) tt plain allowed in operated (command.Del table key) active (has_run active) a did
+    commanded (command.Next table from) a allowed plain did = let active = active_where NeedsReader (phase_at v seat) tt plain allowed in operated (command.Next table from) active (has_run active) a did
+    commanded (command.Scan table low high) a allowed plain did = let active = active_where NeedsReader (phase_at v seat) tt plain allowed in operated (command.Scan table low high) active (has_run active) a did
+    commanded (command.Tidy table key) a allowed plain did = let active = active_where NeedsWriter (phase_at v seat) tt plain allowed in operated (command.Tidy table key) active (has_run active) a did
+    commanded command.Safe a allowed plain did = snapshot_turned (Known command.Safe t) v seat t a (start_where (phase_at v seat) command.Safe allowed refl plain) did
+    commanded command.Seal (answer.Sealed stamp) allowed plain did = within_one (Known command.Seal t) v seat t 0 0 0 (omega arith) (sealed (Known command.Seal t) v seat t stamp did)
+    commanded command.Settle a allowed plain did = decided (Known command.Settle t) v seat t a did
+    commanded command.Commit a allowed plain did =
         turned_then (Known command.Commit t) 0 0 0 0 0 1 v seat did.between t (sealed (Known command.Commit t) v seat did.between did.stamp did.sealed) (decided (Known command.Commit t) did.between seat t a did.decided)
-    commanded command.Abort answer.Aborted allowed did = done_as_was (Known command.Abort t) v seat t (work_at v seat) world.aborts refl did
-    commanded command.Durable a allowed did = within_one (Known command.Durable t) v seat t 0 0 0 (omega arith) (turned_nothing (Known command.Durable t) v seat t (asked_still v t seat a did))
-    commanded c a allowed did = absurd did
+    commanded command.Abort answer.Aborted allowed plain did = done_as_was (Known command.Abort t) v seat t (work_at v seat) world.aborts refl did
+    commanded command.Durable a allowed plain did = within_one (Known command.Durable t) v seat t 0 0 0 (omega arith) (turned_nothing (Known command.Durable t) v seat t (asked_still v t seat a did))
+    commanded c a allowed plain did = absurd did
 
     asked : (c : Command) (a : Answer) (refusal : Option Answer) → refusal_of (phase_at v seat) c ≡ refusal → DidAsked refusal v seat c a t → Turned (Known c t) (makes_of c) (claims_of c) 1 v seat t
     asked c a (Some r) is did = within_one (Known c t) v seat t (makes_of c) (claims_of c) 0 (omega arith) (turned_nothing (Known c t) v seat t did)
-    asked c a None is did = commanded c a is did
+    asked c a None is did =
+        in_either (Turned (Known c t) (makes_of c) (claims_of c) 1 v seat t) v t seat c a (λ plain done. commanded c a is plain done)
+        (λ has done. within_one (Known c t) v seat t (makes_of c) (claims_of c) 1 (omega arith) (watched_turned (Known c t) v seat t c a done)) did
 
 -- a line's session has gone on
 pub line_turned : HaveRowsBelow → Ways → (v : View) (l : ScriptLine) (a : Answer) (t : View) → DidLine v l a t → IsSerializable sound_law t → (phase_at v l.session ≡ Active → HasRun v l.session)
@@ -182,24 +241,27 @@ module _ (v : View) (seat : ℕ) (t : View) where
   begin_runs start a did has_run active = absurd did
 
   module _ (start : BegunAreRuns) (has_run : phase_at v seat ≡ Active → HasRun v seat) (then : phase_at t seat ≡ Active) where
-    command_runs : (c : Command) (a : Answer) → refusal_of (phase_at v seat) c ≡ None → DidCommand v seat c a t → HasRun t seat
-    command_runs command.Begin a allowed did = begin_runs start a did has_run then
-    command_runs (command.Get table key) a allowed did = let active = wanted Active (phase_at v seat) tt allowed in operation_runs (command.Get table key) a did active (has_run active) then
-    command_runs (command.Put table key value) a allowed did = let active = wanted Active (phase_at v seat) tt allowed in operation_runs (command.Put table key value) a did active (has_run active) then
-    command_runs (command.Del table key) a allowed did = let active = wanted Active (phase_at v seat) tt allowed in operation_runs (command.Del table key) a did active (has_run active) then
-    command_runs (command.Next table from) a allowed did = let active = wanted Active (phase_at v seat) tt allowed in operation_runs (command.Next table from) a did active (has_run active) then
-    command_runs (command.Scan table low high) a allowed did = let active = wanted Active (phase_at v seat) tt allowed in operation_runs (command.Scan table low high) a did active (has_run active) then
-    command_runs (command.Tidy table key) a allowed did = let active = wanted Active (phase_at v seat) tt allowed in operation_runs (command.Tidy table key) a did active (has_run active) then
-    command_runs command.Seal (answer.Sealed stamp) allowed did = seal_after v seat t stamp did then
-    command_runs command.Settle a allowed did = decide_after v seat t a did has_run then
-    command_runs command.Commit a allowed did = commit_runs did.between did.stamp a did.sealed did.decided then
-    command_runs command.Abort answer.Aborted allowed did = done_after v seat t (work_at v seat) world.aborts did then
-    command_runs command.Durable a allowed did = same_after v seat t (asked_still v t seat a did) has_run then
-    command_runs c a allowed did = absurd did
+    command_runs : (c : Command) (a : Answer) → refusal_of (phase_at v seat) c ≡ None → HasNoSnapshot (phase_at v seat) → DidCommand v seat c a t → HasRun t seat
+    command_runs command.Begin a allowed plain did = begin_runs start a did has_run then
+    command_runs (command.Get table key) a allowed plain did = let active = active_where NeedsReader (phase_at v seat) tt plain allowed in operation_runs (command.Get table key) a did active (has_run active) then
+    command_runs (command.Put table key value) a allowed plain did = let active = active_where NeedsWriter (phase_at v seat) tt plain allowed in operation_runs (command.Put table key value) a did active (has_run active) then
+    command_runs (command.Del table key) a allowed plain did = let active = active_where NeedsWriter (phase_at v seat) tt plain allowed in operation_runs (command.Del table key) a did active (has_run active) then
+    command_runs (command.Next table from) a allowed plain did = let active = active_where NeedsReader (phase_at v seat) tt plain allowed in operation_runs (command.Next table from) a did active (has_run active) then
+    command_runs (command.Scan table low high) a allowed plain did = let active = active_where NeedsReader (phase_at v seat) tt plain allowed in operation_runs (command.Scan table low high) a did active (has_run active) then
+    command_runs (command.Tidy table key) a allowed plain did = let active = active_where NeedsWriter (phase_at v seat) tt plain allowed in operation_runs (command.Tidy table key) a did active (has_run active) then
+    command_runs command.Safe a allowed plain did = absurd ((asked_snapshot v t seat a (safe_rests (phase_at v seat) allowed) did).inactive then)
+    command_runs command.Seal (answer.Sealed stamp) allowed plain did = seal_after v seat t stamp did then
+    command_runs command.Settle a allowed plain did = decide_after v seat t a did has_run then
+    command_runs command.Commit a allowed plain did = commit_runs did.between did.stamp a did.sealed did.decided then
+    command_runs command.Abort answer.Aborted allowed plain did = done_after v seat t (work_at v seat) world.aborts did then
+    command_runs command.Durable a allowed plain did = same_after v seat t (asked_still v t seat a did) has_run then
+    command_runs c a allowed plain did = absurd did
 
     asked_runs : (c : Command) (a : Answer) (refusal : Option Answer) → refusal_of (phase_at v seat) c ≡ refusal → DidAsked refusal v seat c a t → HasRun t seat
     asked_runs c a (Some r) is did = same_after v seat t did has_run then
-    asked_runs c a None is did = command_runs c a is did
+    asked_runs c a None is did =
+        in_either (HasRun t seat) v t seat c a (λ plain done. command_runs c a is plain done)
+        (λ has done. absurd ((watched v t seat c a (snapshot_rests v seat (has_phase v seat has)) done).inactive then)) did
 
 pub line_runs : BegunAreRuns → (v : View) (l : ScriptLine) (a : Answer) (t : View) → DidLine v l a t → (phase_at v l.session ≡ Active → HasRun v l.session) → phase_at t l.session ≡ Active → HasRun t l.session
 line_runs start v l a t did has_run then = asked_runs v l.session t start has_run then l.command a (refusal_of (phase_at v l.session) l.command) refl did.did

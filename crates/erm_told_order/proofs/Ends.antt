@@ -23,7 +23,7 @@ module _ (tell : ExecutionsTell) (go : ExecutionsGoOn) where
   end_map v t script answers run closed closes opening of =
       of.map ∙ ap (λ (o : world.Opening). map_of_rows o.rows) (sym (opening_is tell go v t script answers run closed closes))
 
-  is_told : (v t : View) (script : List ScriptLine) (answers : List Answer) (run : IsCourse v script answers t) (closed : List Closed) → AreClosed run.closing closed
+  pub is_told : (v t : View) (script : List ScriptLine) (answers : List Answer) (run : IsCourse v script answers t) (closed : List Closed) → AreClosed run.closing closed
       → IsTold t (places_of script answers closed)
   is_told v t script answers run closed closes = record {
     serializable = at_end tell go v t script answers run closed closes;

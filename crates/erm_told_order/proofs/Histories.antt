@@ -1,5 +1,5 @@
 -- The commits that are told are those of the world.
-use Rattle.std.proofs.Common.{◌≡◌, ℕ, zero, suc, ◌+◌, ◌<◌, ◌≤◌, List, [], ◌∷◌, ◌++◌, Option, Some, None, refl, sym, ap, ◌∙◌, subst, arith}
+use Rattle.std.proofs.Common.{◌≡◌, ℕ, zero, suc, ◌+◌, ◌<◌, ◌≤◌, List, [], ◌∷◌, ◌++◌, Option, Some, None, refl, sym, ap, ◌∙◌, subst, inl, inr, arith}
 use Rattle.std.proofs.lemmas.Grind.{flat_map-append}
 use Rattle.std.proofs.lemmas.List.{append-nil, map-append}
 use Rattle.std.proofs.lemmas.List.Elements.{filter_map-append}
@@ -42,13 +42,14 @@ module _ (told : Told) (seat : ℕ) where
 
   -- those that are over
   over_commits : (ts : List Transaction) (fs : List Finished) → AreToldOver seat (told seat) ts fs → history_of ts ≡ told_commits told (committed_in seat fs)
-  over_commits [] [] are = refl
-  over_commits [] (f ∷ fs) are = absurd are
-  over_commits (t ∷ ts) [] are = absurd are
-  over_commits (t ∷ ts) (f ∷ fs) are =
-      commit_told t.ending f.fate t f.work (history_of ts) are.0.tells.ends are.0.tells.work are.0.steps
-      ∙ ap (λ rest. told_commits told (commit_of seat f.work f.fate) ++ rest) (over_commits ts fs are.1)
+  over_commits ts [] are = ap history_of are
+  over_commits ts (f ∷ fs) (inl (t, us, is, one, steps, rest)) =
+      ap history_of is
+      ∙ commit_told t.ending f.fate t f.work (history_of us) one.ends one.work steps
+      ∙ ap (λ rest. told_commits told (commit_of seat f.work f.fate) ++ rest) (over_commits us fs rest)
       ∙ sym (map-append (told_commit told) (commit_of seat f.work f.fate) (committed_in seat fs))
+  over_commits ts (f ∷ fs) (inr (aborts, none, rest)) =
+      over_commits ts fs rest ∙ sym (ap (λ (fate : Fate). told_commits told (commit_of seat f.work fate ++ committed_in seat fs)) aborts)
 
   -- what isn't over hasn't committed
   none_unfinished : (ending : Ending) (t : Transaction) → ending ≡ Unfinished → cons_option (committed_as ending t) [] ≡ []

@@ -1,42 +1,46 @@
 -- Where a transaction that is told stands among those of its session, by its number.
-use Rattle.std.proofs.Common.{◌≡◌, ℕ, zero, suc, ◌+◌, ◌-◌, ◌<◌, ◌≤◌, List, [], ◌∷◌, ◌++◌, Some, length, slice_get, refl, sym, ap, ◌∙◌, subst, inl, inr, arith}
+use Rattle.std.proofs.Common.{◌≡◌, ◌≢◌, ℕ, zero, suc, ◌+◌, ◌==◌, ◌<◌, ◌≤◌, Bool, cond, List, [], ◌∷◌, ◌++◌, refl, ap, ◌∙◌, inl, inr, ⊎_elim, arith, eq-eqb, ne_eqb}
 use Rattle.std.specs.List.{flat_map, range_with_len}
-use Rattle.std.specs.Option.{option_map_or, option_to_list}
+use Rattle.std.specs.Option.{option_to_list}
 use Rattle.erm_model.specs.Member.{◌∈◌}
 use Rattle.erm_model.specs.Run.{Step}
-use Rattle.erm_model.proofs.Members.{none_in_nil}
-use Rattle.erm_machine.proofs.Listed.{∈-either}
+use Rattle.erm_model.proofs.Members.{none_in_nil, ∈-behind}
+use Rattle.erm_machine.proofs.Listed.{∈-cons, ∈-either, ∈-head}
 use Rattle.erm_maps.specs.Runs.{Told}
 use Rattle.erm_good_report.specs.Transactions.{Progress, Transaction, steps_of}
+use Rattle.erm_told.proofs.Pairs.{Pairs}
+use Rattle.erm_told.proofs.Reported.{Ascends}
 
 -- a session's transactions, the one that isn't over last
 abbrev pub all_of : Progress → List Transaction
 all_of p = p.over ++ option_to_list p.current
 
--- the operations of the transaction at a place
-abbrev pub steps_at : List Transaction → ℕ → List Step
-steps_at ts k = option_map_or steps_of (slice_get ts k) []
+-- the operations of the transaction with a number, where there is one
+abbrev pub steps_of_number : List Transaction → ℕ → List Step
+steps_of_number [] number = []
+steps_of_number (t ∷ ts) number = cond (t.number == number) (steps_of t) (steps_of_number ts number)
 
--- the operations told of each session's transactions, which are numbered from 1 on
+-- the operations told of each session's transactions, by their numbers
 abbrev pub told_by : (ℕ → Progress) → Told
-told_by progress seat number = steps_at (all_of (progress seat)) (number - 1)
+told_by progress seat number = steps_of_number (all_of (progress seat)) number
 
--- what stands in the first of two lists stands there in both
-pub first_at : {X : Type 0} (xs ys : List X) (k : ℕ) (x : X) → slice_get xs k ≡ Some x → slice_get (xs ++ ys) k ≡ Some x
-first_at [] ys k x e = absurd (cc)
-first_at (y ∷ xs) ys zero x e = e
-first_at (y ∷ xs) ys (suc k) x e = first_at xs ys k x e
+-- those of one whose number no other has
+pub steps_there : (ts : List Transaction) (t : Transaction) → Pairs Ascends ts → t ∈ ts → steps_of_number ts t.number ≡ steps_of t
+steps_there [] t ascend m = absurd (none_in_nil t m)
+steps_there (u ∷ ts) t ascend m =
+    ⊎_elim
+    (λ (here : u ≡ t). ap (λ (b : Bool). cond b (steps_of u) (steps_of_number ts t.number)) (eq-eqb u.number t.number (ap (λ (x : Transaction). x.number) here)) ∙ ap steps_of here)
+    (λ (later : t ∈ ts).
+    let less = ascend.0 t later in
+    ap (λ (b : Bool). cond b (steps_of u) (steps_of_number ts t.number)) (ne_eqb u.number t.number (λ same. omega (arith, less, same))) ∙ steps_there ts t ascend.1 later)
+    (∈-cons t u ts m)
 
--- what stands behind a list
-pub last_at : {X : Type 0} (xs : List X) (x : X) → slice_get (xs ++ x ∷ []) (length xs) ≡ Some x
-last_at [] x = refl
-last_at (y ∷ xs) x = last_at xs x
-
--- the steps of what stands at a place
-pub steps_there : (ts : List Transaction) (k n : ℕ) (t : Transaction) → slice_get ts k ≡ Some t → n ≡ k + 1 → steps_at ts (n - 1) ≡ steps_of t
-steps_there ts k n t e number =
-    let place : n - 1 ≡ k = omega (arith, number) in
-    subst (λ m. steps_at ts m ≡ steps_of t) (sym place) (ap (λ found. option_map_or steps_of found []) e)
+-- and none where no transaction has the number
+pub steps_none : (ts : List Transaction) (number : ℕ) → ((t : Transaction) → t ∈ ts → t.number ≢ number) → steps_of_number ts number ≡ []
+steps_none [] number none = refl
+steps_none (u ∷ ts) number none =
+    ap (λ (b : Bool). cond b (steps_of u) (steps_of_number ts number)) (ne_eqb u.number number (none u (∈-head u ts)))
+    ∙ steps_none ts number (λ t m. none t (∈-behind u ts t m))
 
 -- what stands in the lists of some numbers stands in that of one of them
 pub record StandsAt {X : Type 0} (lists : ℕ → List X) (least bound : ℕ) (x : X) : Type 0 where

@@ -1,94 +1,96 @@
 -- A session's transactions, beside what is told of them.
-use Rattle.std.proofs.Common.{◌≡◌, ℕ, zero, suc, ◌+◌, ◌-◌, ◌⊎◌, List, [], ◌∷◌, ◌++◌, Option, Some, None, length, slice_get, refl, sym, ap, ◌∙◌, subst, inl, inr, arith}
-use Rattle.std.proofs.lemmas.List.{append-nil}
+use Rattle.std.proofs.Common.{◌≡◌, ◌≢◌, ℕ, zero, suc, ◌+◌, ◌<◌, ◌≤◌, ◌⊎◌, List, [], ◌∷◌, ◌++◌, Option, Some, None, length, slice_get, refl, sym, ap, ◌∙◌, subst, inl, inr, ⊎_elim, arith}
+use Rattle.std.proofs.lemmas.Option.{slice_get_within}
 use Rattle.std.specs.Option.{option_to_list}
 use Rattle.erm_model.specs.Member.{◌∈◌}
 use Rattle.erm_model.specs.Run.{Step}
-use Rattle.erm_model.proofs.Members.{∈-push}
+use Rattle.erm_model.proofs.Members.{none_in_nil, ∈-behind}
+use Rattle.erm_machine.proofs.Listed.{∈-cons, ∈-either, ∈-first, ∈-head, ∈-second}
 use Rattle.erm_world.specs.Laws.{IsNumbered}
 use Rattle.erm_world.specs.World.{Fate, Finished, IsCurrent, IsOver, Session, Stand, Work, stamp_of}
 use Rattle.erm_world.specs.World as world
 use Rattle.erm_maps.specs.Runs.{IsAnswered, IsRunOf}
-use Rattle.erm_good_report.specs.Transactions.{Progress, Transaction, steps_of}
+use Rattle.erm_good_report.specs.Transactions.{Progress, Snapshot, Transaction, steps_of}
 use Rattle.erm_lines.specs.Told.{RanAs, Tells, TellsCurrent, TellsNow, TellsOne, TellsOver}
-use Rattle.erm_told.proofs.Reported.{same_length}
-use Rattle.erm_told_order.proofs.Places.{all_of, first_at, last_at, steps_at, steps_there}
+use Rattle.erm_told.proofs.Reported.{in_option, number_last, Numbered, numbered_behind, over_between, told_ascend, told_at}
+use Rattle.erm_told.proofs.Sessions.{now_watching}
+use Rattle.erm_told_order.proofs.Places.{all_of, steps_none, steps_of_number, steps_there}
 
--- a transaction of the world that is told, with its operations
-pub record IsToldOver (seat : ℕ) (told : ℕ → List Step) (t : Transaction) (f : Finished) : Type 0 where
-  pub tells : TellsOne seat t f
-  pub steps : told f.work.number ≡ steps_of t
-
--- they are told in turn
+-- What is over is told, in turn: a transaction with its operations, or one that was aborted, of which none is told, as each snapshot is.
 abbrev pub AreToldOver : ℕ → (ℕ → List Step) → List Transaction → List Finished → Type 0
-AreToldOver seat told [] [] = Unit {0}
-AreToldOver seat told [] (f ∷ fs) = ⊥
-AreToldOver seat told (t ∷ ts) [] = ⊥
-AreToldOver seat told (t ∷ ts) (f ∷ fs) = IsToldOver seat told t f × AreToldOver seat told ts fs
+AreToldOver seat told ts [] = ts ≡ []
+AreToldOver seat told ts (f ∷ fs) =
+    ((t : Transaction) × (us : List Transaction) × (ts ≡ t ∷ us) × TellsOne seat t f × (told f.work.number ≡ steps_of t) × AreToldOver seat told us fs)
+    ⊎ ((f.fate ≡ world.aborts) × (told f.work.number ≡ []) × AreToldOver seat told ts fs)
 
--- each transaction that is over is told at its place
-told_over : (seat : ℕ) (all ts : List Transaction) (fs : List Finished) (n : ℕ) → TellsOver seat ts fs
-    → ((k : ℕ) (t : Transaction) → slice_get ts k ≡ Some t → slice_get all (n + k) ≡ Some t)
-    → ((k : ℕ) (f : Finished) → slice_get fs k ≡ Some f → f.work.number ≡ n + k + 1)
-    → AreToldOver seat (λ number. steps_at all (number - 1)) ts fs
-told_over seat all [] [] n tells at numbers = tt
-told_over seat all [] (f ∷ fs) n tells at numbers = tells
-told_over seat all (t ∷ ts) [] n tells at numbers = tells
-told_over seat all (t ∷ ts) (f ∷ fs) n tells at numbers = (
-  record { tells = tells.0; steps = steps_there all (n + 0) f.work.number t (at 0 t refl) (numbers 0 f refl) },
-  told_over seat all ts fs (n + 1) tells.1
-      (λ k u e. let place : n + suc k ≡ (n + 1) + k = omega arith in subst (λ m. slice_get all m ≡ Some u) place (at (suc k) u e))
-      (λ k g e. let number = numbers (suc k) g e in omega (arith, number)),
-)
+-- so it is where each transaction's operations are told by its number, and none by the other numbers
+told_over : (seat : ℕ) (told : ℕ → List Step) (ts : List Transaction) (ss : List Snapshot) (fs : List Finished) (c : ℕ) → TellsOver seat ts ss fs → Numbered c fs
+    → ((t : Transaction) → t ∈ ts → told t.number ≡ steps_of t)
+    → ((n : ℕ) → c ≤ n → n < c + length fs → ((t : Transaction) → t ∈ ts → t.number ≢ n) → told n ≡ []) → AreToldOver seat told ts fs
+told_over seat told ts ss [] c tells numbered each blank = tells.0
+told_over seat told ts ss (f ∷ fs) c (inl (t, us, is, one, rest)) numbered each blank =
+    let later = numbered_behind c f fs numbered in
+    let first = numbered zero f refl in
+    let own = each t (subst (λ (list : List Transaction). t ∈ list) (sym is) (∈-head t us)) in
+    inl (
+      t,
+      us,
+      is,
+      one,
+      ap told (sym one.work.number) ∙ own,
+      told_over seat told us ss fs (c + 1) rest later (λ u m. each u (subst (λ (list : List Transaction). u ∈ list) (sym is) (∈-behind t us u m)))
+          (λ n above below none. blank n (omega (arith, above)) (omega (arith, below)) (λ u m.
+          ⊎_elim (λ (here : t ≡ u). λ same. omega (arith, ap (λ (x : Transaction). x.number) here, same, one.work.number, first, above))
+          (λ (there : u ∈ us). none u there)
+          (∈-cons u t us (subst (λ (list : List Transaction). u ∈ list) is m)))),
+    )
+told_over seat told ts ss (f ∷ fs) c (inr (s, more, is, one, rest)) numbered each blank =
+    let later = numbered_behind c f fs numbered in
+    let first = numbered zero f refl in
+    inr (
+      one.aborted,
+      blank f.work.number (omega (arith, first)) (omega (arith, first)) (λ t m same. let between = over_between seat ts more fs (c + 1) rest later t m in omega (arith, between.0, same, first)),
+      told_over seat told ts more fs (c + 1) rest later each (λ n above below none. blank n (omega (arith, above)) (omega (arith, below)) none),
+    )
 
--- one that is over is told
+-- one that is over is told, or of no operation
 pub record HasTold (seat : ℕ) (told : ℕ → List Step) (ts : List Transaction) (f : Finished) : Type 0 where
   pub t : Transaction
   pub stands : t ∈ ts
-  pub is : IsToldOver seat told t f
+  pub tells : TellsOne seat t f
+  pub steps : told f.work.number ≡ steps_of t
 
 has_told : (seat : ℕ) (told : ℕ → List Step) (ts : List Transaction) (fs : List Finished) → AreToldOver seat told ts fs
-    → (k : ℕ) (f : Finished) → slice_get fs k ≡ Some f → HasTold seat told ts f
-has_told seat told ts [] are k f e = absurd (cc)
-has_told seat told [] (g ∷ fs) are k f e = absurd are
-has_told seat told (t ∷ ts) (g ∷ fs) are zero f e =
-    let same : g ≡ f = cc in
-    record { t = t; stands = (0, refl); is = subst (λ h. IsToldOver seat told t h) same are.0 }
-has_told seat told (t ∷ ts) (g ∷ fs) are (suc k) f e =
-    let r = has_told seat told ts fs are.1 k f e in
-    record { t = r.t; stands = (suc r.stands.0, r.stands.1); is = r.is }
+    → (f : Finished) → f ∈ fs → HasTold seat told ts f ⊎ ((f.fate ≡ world.aborts) × (told f.work.number ≡ []))
+has_told seat told ts [] are f m = absurd (none_in_nil f m)
+has_told seat told ts (g ∷ fs) (inl (t, us, is, one, steps, rest)) f m =
+    let at_head : t ∈ ts = subst (λ (list : List Transaction). t ∈ list) (sym is) (∈-head t us) in
+    ⊎_elim (λ (here : g ≡ f). subst (λ (h : Finished). HasTold seat told ts h ⊎ ((h.fate ≡ world.aborts) × (told h.work.number ≡ []))) here
+    (inl (record { t = t; stands = at_head; tells = one; steps = steps })))
+    (λ (later : f ∈ fs).
+    ⊎_elim (λ (found : HasTold seat told us f).
+    inl (record { t = found.t; stands = subst (λ (list : List Transaction). found.t ∈ list) (sym is) (∈-behind t us found.t found.stands); tells = found.tells; steps = found.steps }))
+    (λ (bare : (f.fate ≡ world.aborts) × (told f.work.number ≡ [])). inr bare)
+    (has_told seat told us fs rest f later))
+    (∈-cons f g fs m)
+has_told seat told ts (g ∷ fs) (inr (aborts, none, rest)) f m =
+    ⊎_elim (λ (here : g ≡ f). subst (λ (h : Finished). HasTold seat told ts h ⊎ ((h.fate ≡ world.aborts) × (told h.work.number ≡ []))) here (inr (aborts, none)))
+    (λ (later : f ∈ fs). has_told seat told ts fs rest f later)
+    (∈-cons f g fs m)
 
--- one that is told to be over is
-pub record HasOver (seat : ℕ) (told : ℕ → List Step) (fs : List Finished) (t : Transaction) : Type 0 where
-  pub f : Finished
-  pub stands : f ∈ fs
-  pub is : IsToldOver seat told t f
-
-has_over : (seat : ℕ) (told : ℕ → List Step) (ts : List Transaction) (fs : List Finished) → AreToldOver seat told ts fs
-    → (k : ℕ) (t : Transaction) → slice_get ts k ≡ Some t → HasOver seat told fs t
-has_over seat told [] fs are k t e = absurd (cc)
-has_over seat told (u ∷ ts) [] are k t e = absurd are
-has_over seat told (u ∷ ts) (g ∷ fs) are zero t e =
-    let same : u ≡ t = cc in
-    record { f = g; stands = (0, refl); is = subst (λ h. IsToldOver seat told h g) same are.0 }
-has_over seat told (u ∷ ts) (g ∷ fs) are (suc k) t e =
-    let r = has_over seat told ts fs are.1 k t e in
-    record { f = r.f; stands = (suc r.stands.0, r.stands.1); is = r.is }
-
--- the transaction in progress is told
+-- the transaction in progress is told, or it is a snapshot
 pub record IsToldNow (seat : ℕ) (current : Option Transaction) (w : Work) : Type 0 where
   pub t : Transaction
   pub is : current ≡ Some t
   pub tells : TellsCurrent seat t w
 
-told_now : (seat : ℕ) (current : Option Transaction) (stand : Stand) (w : Work) → TellsNow seat current stand → IsCurrent stand w → IsToldNow seat current w
+told_now : (seat : ℕ) (current : Option Transaction) (stand : Stand) (w : Work) → TellsNow seat current stand → IsCurrent stand w → IsToldNow seat current w ⊎ (current ≡ None)
 told_now seat current world.idle w tells now = absurd now
 told_now seat None (world.active u) w tells now = absurd tells
 told_now seat None (world.sealed u stamp) w tells now = absurd tells
-told_now seat (Some t) (world.active u) w tells now = record { t = t; is = refl; tells = subst (λ x. TellsCurrent seat t x) now tells.0 }
-told_now seat (Some t) (world.sealed u stamp) w tells now = record { t = t; is = refl; tells = subst (λ x. TellsCurrent seat t x) now tells.0 }
-told_now seat None (world.snapshot s) w tells now = absurd tells
-told_now seat (Some t) (world.snapshot s) w tells now = absurd tells
+told_now seat (Some t) (world.active u) w tells now = inl (record { t = t; is = refl; tells = subst (λ x. TellsCurrent seat t x) now tells.0 })
+told_now seat (Some t) (world.sealed u stamp) w tells now = inl (record { t = t; is = refl; tells = subst (λ x. TellsCurrent seat t x) now tells.0 })
+told_now seat current (world.snapshot x) w tells now = inr (now_watching seat current x tells)
 
 -- one that is told to be in progress is
 pub record IsNow (seat : ℕ) (stand : Stand) (t : Transaction) : Type 0 where
@@ -124,61 +126,98 @@ pub record Stands (s : Session) (told : ℕ → List Step) (t : Transaction) : T
   pub begin : t.begin ≡ work.begin
   pub steps : told work.number ≡ steps_of t
 
+-- nothing answered is right on any rows
+bare_answered : (w : Work) (steps : List Step) → steps ≡ [] → IsAnswered w steps
+bare_answered w steps none = subst (λ (list : List Step). IsAnswered w list) (sym none) (λ rows sound fits. tt)
+
 module _ (seat : ℕ) (p : Progress) (s : Session) (tells : Tells seat p s) (numbered : IsNumbered s) where
   abbrev told : ℕ → List Step
-  told number = steps_at (all_of p) (number - 1)
+  told number = steps_of_number (all_of p) number
 
-  pub over_told : AreToldOver seat (λ number. steps_at (all_of p) (number - 1)) p.over s.over
+  each_there : (t : Transaction) → t ∈ all_of p → steps_of_number (all_of p) t.number ≡ steps_of t
+  each_there t m = steps_there (all_of p) t (told_ascend seat p s tells numbered) m
+
+  none_there : (n : ℕ) → n < 1 + length s.over → ((t : Transaction) → t ∈ p.over → t.number ≢ n) → steps_of_number (all_of p) n ≡ []
+  none_there n below none = steps_none (all_of p) n (λ t m same.
+      ⊎_elim (λ (over : t ∈ p.over). none t over same)
+      (λ (last : t ∈ option_to_list p.current). let number = number_last seat p s tells numbered t (in_option p.current t last) in omega (arith, number, same, below))
+      (∈-either p.over (option_to_list p.current) t m))
+
+  pub over_told : AreToldOver seat (λ number. steps_of_number (all_of p) number) p.over s.over
   over_told =
-      told_over seat (all_of p) p.over s.over 0 tells.over
-      (λ k t e. let place : k ≡ 0 + k = omega arith in subst (λ m. slice_get (all_of p) m ≡ Some t) place (first_at p.over (option_to_list p.current) k t e))
-      (λ k f e. let number = numbered.over k f e in omega (arith, number))
+      told_over seat (λ number. steps_of_number (all_of p) number) p.over p.snapshots s.over 1 tells.over numbered.over
+      (λ t m. each_there t (∈-first p.over (option_to_list p.current) t m)) (λ n above below none. none_there n below none)
 
-  steps_now : (t : Transaction) (w : Work) → p.current ≡ Some t → IsCurrent s.stand w → told w.number ≡ steps_of t
-  steps_now t w e now =
+  steps_now : (t : Transaction) (w : Work) → p.current ≡ Some t → TellsCurrent seat t w → steps_of_number (all_of p) w.number ≡ steps_of t
+  steps_now t w is now =
+      let there : t ∈ all_of p = ∈-second p.over (option_to_list p.current) t (subst (λ (o : Option Transaction). t ∈ option_to_list o) (sym is) (∈-head t [])) in
+      ap (λ (n : ℕ). steps_of_number (all_of p) n) (sym now.work.number) ∙ each_there t there
+
+  steps_bare : (w : Work) → IsCurrent s.stand w → p.current ≡ None → steps_of_number (all_of p) w.number ≡ []
+  steps_bare w now none = steps_none (all_of p) w.number (λ t m same.
       let number = numbered.now w now in
-      let same = same_length seat p.over s.over tells.over in
-      steps_there (all_of p) (length p.over) w.number t
-      (subst (λ current. slice_get (p.over ++ option_to_list current) (length p.over) ≡ Some t) (sym e) (last_at p.over t))
-      (omega (arith, number, same))
+      ⊎_elim (λ (over : t ∈ p.over). let between = over_between seat p.over p.snapshots s.over 1 tells.over numbered.over t over in omega (arith, between.1, same, number))
+      (λ (last : t ∈ option_to_list p.current). let no : None ≡ Some t = sym none ∙ in_option p.current t last in absurd (cc))
+      (∈-either p.over (option_to_list p.current) t m))
 
-  pub answered : (w : Work) → IsOf s w → IsAnswered w (told w.number)
+  pub answered : (w : Work) → IsOf s w → IsAnswered w (steps_of_number (all_of p) w.number)
   answered w (inl over) =
-      let r = has_told seat told p.over s.over over_told over.1.0 over.0 over.1.1 in
       let f = over.0 in
-      subst (λ u. IsAnswered u (told u.number)) over.2 (subst (λ steps. IsAnswered f.work steps) (sym r.is.steps) (answered_as f.fate f.work (steps_of r.t) r.is.tells.ran))
+      subst (λ u. IsAnswered u (steps_of_number (all_of p) u.number)) over.2
+      (⊎_elim
+      (λ (r : HasTold seat (λ number. steps_of_number (all_of p) number) p.over f).
+      subst (λ steps. IsAnswered f.work steps) (sym r.steps) (answered_as f.fate f.work (steps_of r.t) r.tells.ran))
+      (λ (bare : (f.fate ≡ world.aborts) × (steps_of_number (all_of p) f.work.number ≡ [])). bare_answered f.work (steps_of_number (all_of p) f.work.number) bare.1)
+      (has_told seat (λ number. steps_of_number (all_of p) number) p.over s.over over_told f over.1))
   answered w (inr now) =
-      let r = told_now seat p.current s.stand w tells.now now in
-      subst (λ steps. IsAnswered w steps) (sym (steps_now r.t w r.is now)) r.tells.ran.run
+      ⊎_elim
+      (λ (r : IsToldNow seat p.current w). subst (λ steps. IsAnswered w steps) (sym (steps_now r.t w r.is r.tells)) r.tells.ran.run)
+      (λ (none : p.current ≡ None). bare_answered w (steps_of_number (all_of p) w.number) (steps_bare w now none))
+      (told_now seat p.current s.stand w tells.now now)
 
-  run_over : (f : Finished) (stamp : ℕ) → f ∈ s.over → stamp_of f.fate ≡ Some stamp → IsRunOf f.work (told f.work.number)
+  aborts_none : (fate : Fate) (stamp : ℕ) (P : Type 0) → fate ≡ world.aborts → stamp_of fate ≡ Some stamp → P
+  aborts_none fate stamp P aborts is = let no : None ≡ Some stamp = sym (ap stamp_of aborts) ∙ is in absurd (cc)
+
+  run_over : (f : Finished) (stamp : ℕ) → f ∈ s.over → stamp_of f.fate ≡ Some stamp → IsRunOf f.work (steps_of_number (all_of p) f.work.number)
   run_over f stamp m e =
-      let r = has_told seat told p.over s.over over_told m.0 f m.1 in
-      subst (λ steps. IsRunOf f.work steps) (sym r.is.steps) (run_as f.fate f.work (steps_of r.t) stamp r.is.tells.ran e)
+      ⊎_elim
+      (λ (r : HasTold seat (λ number. steps_of_number (all_of p) number) p.over f).
+      subst (λ steps. IsRunOf f.work steps) (sym r.steps) (run_as f.fate f.work (steps_of r.t) stamp r.tells.ran e))
+      (λ (bare : (f.fate ≡ world.aborts) × (steps_of_number (all_of p) f.work.number ≡ [])).
+      aborts_none f.fate stamp (IsRunOf f.work (steps_of_number (all_of p) f.work.number)) bare.0 e)
+      (has_told seat (λ number. steps_of_number (all_of p) number) p.over s.over over_told f m)
 
-  run_now : (w : Work) → IsCurrent s.stand w → IsRunOf w (told w.number)
-  run_now w now =
-      let r = told_now seat p.current s.stand w tells.now now in
-      subst (λ steps. IsRunOf w steps) (sym (steps_now r.t w r.is now)) r.tells.ran
+  run_now : (w : Work) (stamp : ℕ) → s.stand ≡ world.sealed w stamp → IsRunOf w (steps_of_number (all_of p) w.number)
+  run_now w stamp stand =
+      let now = sealed_now p.current (subst (λ st. TellsNow seat p.current st) stand tells.now) in
+      subst (λ steps. IsRunOf w steps) (sym (steps_now now.0 w now.1 now.2)) now.2.ran
+    where
+      sealed_now : (current : Option Transaction) → TellsNow seat current (world.sealed w stamp) → (t : Transaction) × (current ≡ Some t) × TellsCurrent seat t w
+      sealed_now None told = absurd told
+      sealed_now (Some t) told = (t, refl, told.0)
 
-  pub run : (w : Work) (stamp : ℕ) → ((f : Finished) × (f ∈ s.over) × (f.work ≡ w) × (stamp_of f.fate ≡ Some stamp)) ⊎ (s.stand ≡ world.sealed w stamp) → IsRunOf w (told w.number)
-  run w stamp (inl over) = subst (λ u. IsRunOf u (told u.number)) over.2 (run_over over.0 stamp over.1 over.3)
-  run w stamp (inr stand) = run_now w (subst (λ st. IsCurrent st w) (sym stand) refl)
+  pub run : (w : Work) (stamp : ℕ) → ((f : Finished) × (f ∈ s.over) × (f.work ≡ w) × (stamp_of f.fate ≡ Some stamp)) ⊎ (s.stand ≡ world.sealed w stamp)
+      → IsRunOf w (steps_of_number (all_of p) w.number)
+  run w stamp (inl over) = subst (λ u. IsRunOf u (steps_of_number (all_of p) u.number)) over.2 (run_over over.0 stamp over.1 over.3)
+  run w stamp (inr stand) = run_now w stamp stand
 
-  stands_now : (t : Transaction) → p.current ≡ Some t → Stands s told t
+  stands_now : (t : Transaction) → p.current ≡ Some t → Stands s (λ number. steps_of_number (all_of p) number) t
   stands_now t e =
       let r = is_now seat t s.stand (subst (λ current. TellsNow seat current s.stand) e tells.now) in
-      record { work = r.work; is = inr r.is; begin = r.tells.work.begin; steps = steps_now t r.work e r.is }
+      record { work = r.work; is = inr r.is; begin = r.tells.work.begin; steps = steps_now t r.work e r.tells }
 
-  stands_over : (t : Transaction) → t ∈ p.over → Stands s told t
+  stands_over : (t : Transaction) → t ∈ p.over → Stands s (λ number. steps_of_number (all_of p) number) t
   stands_over t m =
-      let r = has_over seat told p.over s.over over_told m.0 t m.1 in
-      record { work = r.f.work; is = inl (r.f, r.stands, refl); begin = r.is.tells.work.begin; steps = r.is.steps }
+      let found = told_at seat p.over p.snapshots s.over t tells.over m in
+      record {
+        work = found.0.work;
+        is = inl (found.0, found.1, refl);
+        begin = found.2.work.begin;
+        steps = ap (λ (n : ℕ). steps_of_number (all_of p) n) (sym found.2.work.number) ∙ each_there t (∈-first p.over (option_to_list p.current) t m);
+      }
 
   -- each transaction that is told is one of the session
-  pub stands : (t : Transaction) → t ∈ all_of p → Stands s told t
-  stands t m = in_current p.current refl m
-    where
-      in_current : (current : Option Transaction) → p.current ≡ current → t ∈ (p.over ++ option_to_list current) → Stands s told t
-      in_current None e there = stands_over t (subst (λ ts. t ∈ ts) (append-nil p.over) there)
-      in_current (Some u) e there = elim (∈-push p.over u t there) [ inl over ↦ stands_over t over | inr same ↦ stands_now t (e ∙ ap Some (sym same)) ]
+  pub stands : (t : Transaction) → t ∈ all_of p → Stands s (λ number. steps_of_number (all_of p) number) t
+  stands t m =
+      ⊎_elim (λ (over : t ∈ p.over). stands_over t over) (λ (last : t ∈ option_to_list p.current). stands_now t (in_option p.current t last))
+      (∈-either p.over (option_to_list p.current) t m)

@@ -3,7 +3,7 @@
 #![tactic(auto)]
 
 ghost use Rattle.erm_lines.specs.Laws.{PartsHaveSnapshots, RunsAreSerial, RunsHaveSnapshots};
-ghost use Rattle.erm_told_order.specs.Told.{ToldAreSerial, ToldHaveSnapshots};
+ghost use Rattle.erm_told_order.specs.Told.{CoursesKeepSnapshots, ToldAreSerial, ToldAreSerialWithSnapshots, ToldHaveSafeSnapshots, ToldHaveSnapshots};
 
 /// Where what was said tells a world, each transaction of it was answered as its operations are on the state below its begin stamp.
 pub fn told_worlds_have_snapshots()
@@ -45,4 +45,36 @@ pub fn runs_are_serial()
     erm_told::executions_tell_sessions();
     erm_told::executions_go_on();
     told_worlds_are_serial();
+}
+
+/// Where what was said tells a world, each snapshot that is kept safe is safe among the commits told, and was answered as its looks are on the
+/// state below its begin stamp.
+pub fn told_worlds_have_safe_snapshots()
+    ensures { ToldHaveSafeSnapshots }
+{
+    erm_safe_laws::safe_stamps_divide();
+    erm_maps::safe_replies_are_snapshots();
+}
+
+/// And its commits and the snapshots that ended, run in the serial order of all, give their replies.
+pub fn told_worlds_are_serial_with_snapshots()
+    ensures { ToldAreSerialWithSnapshots }
+{
+    told_worlds_are_serial();
+    told_worlds_have_safe_snapshots();
+    erm_safe_laws::safe_snapshots_run_among_commits();
+}
+
+/// Each snapshot that the lines of a run so far tell to be safe is so among the commits told, and was answered as its looks are on the state
+/// below its begin stamp.
+pub fn courses_keep_snapshots()
+    ensures { CoursesKeepSnapshots }
+{
+    erm_told::executions_tell_sessions();
+    erm_told::executions_go_on();
+    erm_told::executions_keep_safe();
+    erm_safe_world::calls_move_on();
+    erm_safe_world::refusals_move_on();
+    erm_safe_world::safe_stamps_stay_safe();
+    told_worlds_have_safe_snapshots();
 }

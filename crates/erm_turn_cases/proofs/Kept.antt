@@ -1,8 +1,7 @@
 -- The transaction in progress of a session beside others stays the run of some operations, whatever its line does.
-use Rattle.std.proofs.Common.{◌≡◌, ◌≢◌, ◌≤◌, inl, inr, ℕ, Bool, true, false, List, [], ◌∷◌, ◌++◌, Option, Some, None, Result, Ok, Err, IfOk, OnOk, refl, sym, ap, ◌∙◌, subst, arith}
+use Rattle.std.proofs.Common.{◌≡◌, ◌≢◌, ◌≤◌, inl, inr, ℕ, Bool, true, false, IsSome, List, [], ◌∷◌, ◌++◌, Option, Some, None, Result, Ok, Err, IfOk, OnOk, refl, sym, ap, ◌∙◌, subst, arith}
 use Rattle.std.proofs.lemmas.Bool.{cases_eq}
-use Rattle.erm_model.specs.declared.outcome.Phase.{Phase}
-use Rattle.erm_model.specs.declared.outcome.Phase.TheVariants.{Active, Sealed}
+use Rattle.erm_model.specs.declared.outcome.Phase.TheVariants.{Active, Sealed, Safe}
 use Rattle.erm_model.specs.declared.row_stop.RowStop.{RowStop}
 use Rattle.erm_model.specs.RowTransaction.{Event, Law, ends}
 use Rattle.erm_model.specs.Run.{Step}
@@ -14,19 +13,22 @@ use Rattle.erm_script.specs.declared.script.Command.TheVariants as command
 use Rattle.erm_script.specs.declared.script.ScriptLine.{ScriptLine}
 use Rattle.erm_world.specs.declared.stops.Wait.{Wait}
 use Rattle.erm_world.specs.Calls.{DidSeal, IsDone}
+use Rattle.erm_world.specs.Safe.{IsSafeIn}
 use Rattle.erm_world.specs.World.{Fate, IsSession, Opening, Session, View, Work, begun, phase_at, phase_of, work_at, work_of}
 use Rattle.erm_world.specs.World as world
 use Rattle.erm_world.proofs.Txns.{went}
+use Rattle.erm_safe_world.specs.Moves.{MovesOn}
+use Rattle.erm_safe_world.proofs.Stays.{stays_safe}
 use Rattle.erm_maps.specs.Runs.{IsRunOf}
-use Rattle.erm_good_report.specs.Phases.{Closes, IsOutcome, phase_asked}
+use Rattle.erm_good_report.specs.Phases.{Closes, IsOutcome, need_of}
 use Rattle.erm_lines.specs.Operations.{AsksOf, FrontOf, Ran}
-use Rattle.erm_lone.specs.Later.{EndsIn, IsLaterWorld}
+use Rattle.erm_lone.specs.Later.{EndsIn, IsLaterWorld, IsSafeNow}
 use Rattle.erm_lines.specs.Whole.{AreRunsNow}
 use Rattle.erm_beside.specs.Calls.{After, NotSettledBeside}
 use Rattle.erm_beside.proofs.Txns.{stopped_after}
 use Rattle.erm_lines_at_once.specs.Answers.{DidCommandBeside, DidDecideBeside}
 use Rattle.erm_lines_at_once.specs.Operations.{DidOnce, DidOperationBeside, TriedOnce, WereCutBeside}
-use Rattle.erm_turn_cases.specs.Turns.{HadTurn, IsRunNow, WasRun, WasTried}
+use Rattle.erm_turn_cases.specs.Turns.{AreSafeNow, HadTurn, IsRunNow, WasRun, WasTried}
 
 -- an answer that closes a sealed session is an outcome
 pub closes_outcome : (a : Answer) → Closes Sealed a → IsOutcome a
@@ -47,7 +49,7 @@ begun_runs none s number begin is active = ([], subst (λ (w : Work). IsRunOf w 
 pub waits_runs : (seat : ℕ) (wait : Wait) (v t : View) → After seat (NotSettledBeside seat wait) v t → IsRunNow (t.session seat)
 waits_runs seat wait v t (u, passes, (is, (w, stamp, stand, waits))) = sealed_runs (t.session seat) w stamp (ap (λ (x : View). (x.session seat).stand) is ∙ stand)
 
-done_runs : (v t : View) (seat : ℕ) (w : Work) (fate : Fate) → IsDone v seat w fate t → IsRunNow (t.session seat)
+pub done_runs : (v t : View) (seat : ℕ) (w : Work) (fate : Fate) → IsDone v seat w fate t → IsRunNow (t.session seat)
 done_runs v t seat w fate did = idle_runs (t.session seat) (ap (λ (s : Session). s.stand) did.own)
 
 decided_runs : (seat : ℕ) (a : Answer) (v t : View) → DidDecideBeside seat a v t → IsRunNow (t.session seat)
@@ -134,26 +136,39 @@ commit_tried f seat mid stamp (Some a) v u t is sealed tried = record {
 operation_once : (f : View) (seat : ℕ) (c : Command) (a : Answer) (v t : View) → DidOnce f seat c a v t → DidOperationBeside f seat c a v t
 operation_once f seat c a v t once = record { times = 0; at = v; tried = record { own = refl; opening = refl; tail = omega arith; flushed = omega arith; given_up = refl }; once = once }
 
-pub operation_tried : (f : View) (seat : ℕ) (c : Command) (tried : Option Answer) (v t : View) (phase : Phase) → phase_asked c ≡ Some phase → c ≢ command.Begin → c ≢ command.Seal → c ≢ command.Settle → c ≢ command.Commit → c ≢ command.Abort
-    → TriedOnce f seat c tried v t → WasTried f seat c tried v t
-operation_tried f seat c None v t phase asks begin seal settle commit abort once = tt
-operation_tried f seat (command.Get table key) (Some a) v t phase asks begin seal settle commit abort once = record { fits = once.0; did = operation_once f seat (command.Get table key) a v t once.1 }
-operation_tried f seat (command.Put table key value) (Some a) v t phase asks begin seal settle commit abort once = record { fits = once.0; did = operation_once f seat (command.Put table key value) a v t once.1 }
-operation_tried f seat (command.Del table key) (Some a) v t phase asks begin seal settle commit abort once = record { fits = once.0; did = operation_once f seat (command.Del table key) a v t once.1 }
-operation_tried f seat (command.Next table from) (Some a) v t phase asks begin seal settle commit abort once = record { fits = once.0; did = operation_once f seat (command.Next table from) a v t once.1 }
-operation_tried f seat (command.Scan table low high) (Some a) v t phase asks begin seal settle commit abort once = record { fits = once.0; did = operation_once f seat (command.Scan table low high) a v t once.1 }
-operation_tried f seat (command.Tidy table key) (Some a) v t phase asks begin seal settle commit abort once = record { fits = once.0; did = operation_once f seat (command.Tidy table key) a v t once.1 }
-operation_tried f seat command.Seal (Some a) v t phase asks begin seal settle commit abort once = absurd (seal refl)
-operation_tried f seat command.Commit (Some a) v t phase asks begin seal settle commit abort once = absurd (commit refl)
-operation_tried f seat command.Abort (Some a) v t phase asks begin seal settle commit abort once = absurd (abort refl)
-operation_tried f seat command.Begin (Some a) v t phase asks begin seal settle commit abort once = absurd (begin refl)
-operation_tried f seat command.Settle (Some a) v t phase asks begin seal settle commit abort once = absurd (settle refl)
-operation_tried f seat command.Durable (Some a) v t phase asks begin seal settle commit abort once = cc
-operation_tried f seat command.Flush (Some a) v t phase asks begin seal settle commit abort once = cc
-operation_tried f seat command.Checkpoint (Some a) v t phase asks begin seal settle commit abort once = cc
+pub operation_tried : (f : View) (seat : ℕ) (c : Command) (tried : Option Answer) (v t : View) → IsSome (need_of c) → c ≢ command.Begin → c ≢ command.Safe → c ≢ command.Seal → c ≢ command.Settle
+    → c ≢ command.Commit → c ≢ command.Abort → TriedOnce f seat c tried v t → WasTried f seat c tried v t
+operation_tried f seat c None v t asks begin safe seal settle commit abort once = tt
+operation_tried f seat (command.Get table key) (Some a) v t asks begin safe seal settle commit abort once = record { fits = once.0; did = operation_once f seat (command.Get table key) a v t once.1 }
+operation_tried f seat (command.Put table key value) (Some a) v t asks begin safe seal settle commit abort once = record { fits = once.0; did = operation_once f seat (command.Put table key value) a v t once.1 }
+operation_tried f seat (command.Del table key) (Some a) v t asks begin safe seal settle commit abort once = record { fits = once.0; did = operation_once f seat (command.Del table key) a v t once.1 }
+operation_tried f seat (command.Next table from) (Some a) v t asks begin safe seal settle commit abort once = record { fits = once.0; did = operation_once f seat (command.Next table from) a v t once.1 }
+operation_tried f seat (command.Scan table low high) (Some a) v t asks begin safe seal settle commit abort once = record { fits = once.0; did = operation_once f seat (command.Scan table low high) a v t once.1 }
+operation_tried f seat (command.Tidy table key) (Some a) v t asks begin safe seal settle commit abort once = record { fits = once.0; did = operation_once f seat (command.Tidy table key) a v t once.1 }
+operation_tried f seat command.Seal (Some a) v t asks begin safe seal settle commit abort once = absurd (seal refl)
+operation_tried f seat command.Commit (Some a) v t asks begin safe seal settle commit abort once = absurd (commit refl)
+operation_tried f seat command.Abort (Some a) v t asks begin safe seal settle commit abort once = absurd (abort refl)
+operation_tried f seat command.Begin (Some a) v t asks begin safe seal settle commit abort once = absurd (begin refl)
+operation_tried f seat command.Safe (Some a) v t asks begin safe seal settle commit abort once = absurd (safe refl)
+operation_tried f seat command.Settle (Some a) v t asks begin safe seal settle commit abort once = absurd (settle refl)
+operation_tried f seat command.Durable (Some a) v t asks begin safe seal settle commit abort once = absurd (cc)
+operation_tried f seat command.Flush (Some a) v t asks begin safe seal settle commit abort once = absurd (cc)
+operation_tried f seat command.Checkpoint (Some a) v t asks begin safe seal settle commit abort once = absurd (cc)
 
 -- a turn, of what was run
 pub had_turn : (law : Law) (l : ScriptLine) (tried : Option Answer) (v t : View) → IsSession v l.session → ((q : ℕ) → q ≢ l.session → (t.session q ≡ v.session q) × (t.given_up q ≡ v.given_up q)) → IsLaterWorld v t
-    → WasRun (λ f. EndsIn law t l.session f) l tried v t → HadTurn law v l tried t
-had_turn law l None v t session others later run = tt
-had_turn law l (Some a) v t session others later run = record { session = session; did = run; others = others; later = later }
+    → MovesOn v t → WasRun (λ f. EndsIn law t l.session f) l tried v t → HadTurn law v l tried t
+had_turn law l None v t session others later moves run = tt
+had_turn law l (Some a) v t session others later moves run = record { session = session; did = run; others = others; later = later; moves = moves }
+
+-- a safe snapshot stands on a safe stamp still, where its session wasn't called
+still_safe : (v t : View) (q : ℕ) → t.session q ≡ v.session q → MovesOn v t → IsSafeNow v q → IsSafeNow t q
+still_safe v t q stands moves safe now =
+    let was : phase_at v q ≡ Safe = sym (ap (λ (s : Session). phase_of s.stand) stands) ∙ now in
+    subst (λ (s : Session). IsSafeIn t (work_of s.stand).begin) (sym stands) (stays_safe v t (work_at v q).begin moves (safe was))
+
+pub all_safe : (v t : View) (seat : ℕ) → t.opening ≡ v.opening → ((q : ℕ) → q ≢ seat → t.session q ≡ v.session q) → MovesOn v t → AreSafeNow v → IsSafeNow t seat → AreSafeNow t
+all_safe v t seat opening others moves safe own q session = elim (cases_eq q seat) as (λ _. IsSafeNow t q) [
+  | inl is ↦ subst (λ (n : ℕ). IsSafeNow t n) (sym is) own
+  | inr another ↦ still_safe v t q (others q another) moves (safe q (session.0, subst (λ (o : Opening). q ≤ o.sessions) opening session.1))
+]

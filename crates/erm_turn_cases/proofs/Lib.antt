@@ -1,2 +1,3 @@
 pub mod Kept
 pub mod Turned
+pub mod Watching

@@ -9,20 +9,31 @@ use Rattle.erm_script.specs.declared.script.Command.{Command}
 use Rattle.erm_script.specs.declared.script.ScriptLine.{ScriptLine}
 use Rattle.erm_world.specs.Laws.{IsSerializable}
 use Rattle.erm_world.specs.World.{IsSession, Session, View, phase_of, work_of}
+use Rattle.erm_safe_world.specs.Moves.{MovesOn}
 use Rattle.erm_maps.specs.Runs.{IsRunOf}
 use Rattle.erm_lines.specs.Executions.{Move, close, flush, line, log}
-use Rattle.erm_lone.specs.Later.{EndsIn, IsLaterWorld}
-use Rattle.erm_lines_at_once.specs.Answers.{DidLineBeside, WasAnsweredBeside}
+use Rattle.erm_lone.specs.Later.{EndsIn, IsLaterWorld, IsSafeNow}
+use Rattle.erm_beside.specs.Calls.{Passes}
+use Rattle.erm_lines_at_once.specs.Answers.{DidLineBeside, WasAnsweredBeside, WasWatchedBeside}
 use Rattle.erm_lines_at_once.specs.Executions.{IsOwnRun}
 
 -- a session's transaction in progress is the run of some operations
 abbrev pub IsRunNow : Session → Type 0
 IsRunNow s = phase_of s.stand ≡ Active → (steps : List Step) × IsRunOf (work_of s.stand) steps
 
--- the command was answered, or it waits
+-- each safe snapshot stands on a safe stamp
+abbrev pub AreSafeNow : View → Type 0
+AreSafeNow v = (seat : ℕ) → IsSession v seat → IsSafeNow v seat
+
+-- the command was answered, or it waits, in a session without a snapshot
 abbrev pub WasTried : View → ℕ → Command → Option Answer → View → View → Type 0
 WasTried f seat c (Some a) v t = WasAnsweredBeside f seat c a v t
 WasTried f seat c None v t = Unit {0}
+
+-- and in one with a snapshot, of which no wait leaves anything
+abbrev pub WasWatched : View → ℕ → Command → Option Answer → View → View → Type 0
+WasWatched f seat c (Some a) v t = WasWatchedBeside f seat c a v t
+WasWatched f seat c None v t = Passes seat v t
 
 -- the line was run so, whichever of these worlds all end in; or it waits
 abbrev pub WasRun : (View → Type 0) → ScriptLine → Option Answer → View → View → Type 0
@@ -30,12 +41,13 @@ WasRun ends l (Some a) v t = (f : View) → ends f → DidLineBeside f l a v t
 WasRun ends l None v t = Unit {0}
 
 -- A turn of a session: its line was run so, whichever later world all end in; the other sessions stand, with the claims that they gave up, and the world
--- is a later one.
+-- is a later one, to which it moved on.
 pub record IsTurn (law : Law) (v : View) (l : ScriptLine) (a : Answer) (t : View) : Type 0 where
   pub session : IsSession v l.session
   pub did : (f : View) → EndsIn law t l.session f → DidLineBeside f l a v t
   pub others : (q : ℕ) → q ≢ l.session → (t.session q ≡ v.session q) × (t.given_up q ≡ v.given_up q)
   pub later : IsLaterWorld v t
+  pub moves : MovesOn v t
 
 -- the line had its turn, or it waits
 abbrev pub HadTurn : Law → View → ScriptLine → Option Answer → View → Type 0

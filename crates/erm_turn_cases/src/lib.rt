@@ -4,6 +4,7 @@
 ghost use Rattle.erm_turn_cases.specs.Turns.{TurnsAreOwnRuns};
 
 mod lines;
+mod snapshots;
 mod turns;
 
 pub use lines::try_line;

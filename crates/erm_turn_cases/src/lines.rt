@@ -1,21 +1,24 @@
 //! One line of a session that shares its world with others, in one try.
-ghost use Rattle.std.specs.Prelude.{◌≡◌, ◌<◌, ℕ, List, IfOk, IfSome, IsSome, OnOk, Some};
+ghost use Rattle.std.specs.Prelude.{◌≡◌, ◌<◌, ℕ, List, IfOk, IfSome, IsSome, None, OnOk};
 ghost use Rattle.erm_model.specs.declared.limits.TheConstants.{TABLES};
 ghost use Rattle.erm_model.specs.declared.outcome.Phase.TheVariants.{Active, Sealed};
 ghost use Rattle.erm_model.specs.RowTransaction.{SameLaw};
 ghost use Rattle.erm_model.specs.Run.{Step};
 ghost use Rattle.erm_node.specs.Sound.{sound_law};
 ghost use Rattle.erm_maps.specs.Runs.{IsRunOf};
-ghost use Rattle.erm_good_report.specs.Phases.{phase_asked};
+ghost use Rattle.erm_good_report.specs.Phases.{HasNoSnapshot, need_of, refusal_of};
 ghost use Rattle.erm_good_report.specs.Transactions.{table_of};
 ghost use Rattle.erm_world.specs.World.{View, phase_at, work_at};
 ghost use Rattle.erm_beside.specs.Laws.{GoesOnward};
 ghost use Rattle.erm_lines_at_once.specs.Operations.{TriedOnce};
 ghost use Rattle.erm_turn_cases.specs.Turns.{IsRunNow, WasRun, WasTried};
 
-use erm_beside::{SharedSession, SharedTxn};
+use crate::snapshots::try_watch;
+use erm_beside::{SafeSession, SharedSession, SharedTxn};
 use erm_lines::refusal_of;
-use erm_lines_at_once::{abort, begin, decide, del, get, next, put, scan, seal, tidy};
+use erm_lines_at_once::{
+    abort, begin, begin_snapshot, decide, del, get, has_snapshot, next, put, scan, seal, tidy,
+};
 use erm_model::{Receipt, RowRead};
 use erm_report::Answer;
 use erm_script::{Command, ScriptLine};
@@ -124,8 +127,8 @@ fn commit<S: SharedSession>(
     settle(session, shared, receipt)
 }
 
-// Tries a command that asks for the session's phase.
-fn run<S: SharedSession>(
+// Tries a command that the phase of a session without a snapshot allows.
+fn run<S: SafeSession>(
     alloc: Global,
     session: &mut S,
     shared: &S::Shared,
@@ -134,7 +137,9 @@ fn run<S: SharedSession>(
 ) -> Result<Option<Answer>, AllocError>
     requires law { SameLaw S.law sound_law }
     requires stands { S.stands shared.now session.old }
-    requires phase { phase_asked command.now ≡ Some (phase_at (S.own session.old) (S.seat session.old)) }
+    requires plain { HasNoSnapshot (phase_at (S.own session.old) (S.seat session.old)) }
+    requires allowed { refusal_of (phase_at (S.own session.old) (S.seat session.old)) command.now ≡ None }
+    requires asks { IsSome (need_of command.now) }
     requires ran { IsRunNow ((S.own session.old).session (S.seat session.old)) }
     requires table { IfSome (table_of command.now) (λ table. table < TABLES) }
     ensures stands { S.stands shared.now session.new }
@@ -145,6 +150,7 @@ fn run<S: SharedSession>(
     erm_maps::begun_transactions_are_runs();
     match command {
         Command::Begin => Ok(Some(begin(session, shared)?)),
+        Command::Safe => begin_snapshot(session, shared),
         Command::Seal => Ok(Some(seal(session, shared))),
         Command::Settle => Ok(settle(session, shared, receipt)),
         Command::Commit => Ok(commit(session, shared, receipt)),
@@ -154,9 +160,9 @@ fn run<S: SharedSession>(
 }
 
 /// Tries one line of a session: its answer, or `None` where it waits for another session. Where the session has a transaction in progress,
-/// this is the run of some operations, and stays so. The line asks for a phase: it isn't one of `durable`, `flush` and `checkpoint`. A commit
-/// keeps its receipt. `Err` where memory ran out.
-pub fn try_line<S: SharedSession>(
+/// this is the run of some operations, and stays so. The line needs something of its session: it isn't one of `durable`, `flush` and `checkpoint`. A
+/// commit keeps its receipt. `Err` where memory ran out.
+pub fn try_line<S: SafeSession>(
     alloc: Global,
     session: &mut S,
     shared: &S::Shared,
@@ -166,7 +172,7 @@ pub fn try_line<S: SharedSession>(
     requires law { SameLaw S.law sound_law }
     requires stands { S.stands shared.now session.old }
     requires seat { S.seat session.old ≡ line.now.session }
-    requires asks { IsSome (phase_asked line.now.command) }
+    requires asks { IsSome (need_of line.now.command) }
     requires table { IfSome (table_of line.now.command) (λ table. table < TABLES) }
     requires ran { IsRunNow ((S.own session.old).session (S.seat session.old)) }
     ensures stands { S.stands shared.now session.new }
@@ -177,6 +183,9 @@ pub fn try_line<S: SharedSession>(
     let phase = session.phase(shared);
     if let Some(refusal) = refusal_of(phase, &line.command) {
         return Ok(Some(refusal));
+    }
+    if has_snapshot(phase) {
+        return try_watch(alloc, session, shared, &line.command);
     }
     run(alloc, session, shared, &line.command, receipt)
 }

@@ -1,16 +1,17 @@
 -- What a command that the phase allows did, by how it was answered, or waits.
 use Rattle.std.proofs.Common.{◌≡◌, ◌≢◌, ℕ, suc, Option, Some, None, IsSome, refl, subst}
 use Rattle.erm_model.specs.declared.outcome.Phase.{Phase}
-use Rattle.erm_model.specs.declared.outcome.Phase.TheVariants.{Active, Idle, Sealed, Pending, Safe}
+use Rattle.erm_model.specs.declared.outcome.Phase.TheVariants.{Active, Sealed}
 use Rattle.erm_report.specs.declared.answer.Answer.{Answer}
 use Rattle.erm_report.specs.declared.answer.Answer.TheVariants as answer
 use Rattle.erm_script.specs.declared.script.Command.{Command}
 use Rattle.erm_script.specs.declared.script.Command.TheVariants as command
 use Rattle.erm_world.specs.Calls.{DidSeal}
 use Rattle.erm_world.specs.World.{View, phase_at}
-use Rattle.erm_good_report.specs.Phases.{Closes, IsAnswerTo, IsOutcome, refusal_for, refusal_of}
+use Rattle.erm_good_report.specs.Phases.{Closes, HasNoSnapshot, IsAnswerTo, IsOutcome, NeedsReader, NeedsWriter, refusal_of}
 use Rattle.erm_good_report.specs.Transactions.{table_of}
 use Rattle.erm_lines.specs.Answers.{DidAskDurable}
+use Rattle.erm_lines.proofs.Moved.{active_where}
 use Rattle.erm_beside.specs.Calls.{After, Passes}
 use Rattle.erm_lines_at_once.specs.Answers.{DidDecideBeside, TriedDurable, WasAnsweredBeside}
 use Rattle.erm_lines_at_once.specs.Operations.{DidOperationBeside, TriedOnce, WasTried}
@@ -35,6 +36,7 @@ names_table (command.Next table from) named f seat a v t fits did = record { fit
 names_table (command.Scan table low high) named f seat a v t fits did = record { fits = fits; did = did }
 names_table (command.Tidy table key) named f seat a v t fits did = record { fits = fits; did = did }
 names_table command.Begin named f seat a v t fits did = absurd (unnamed None refl named)
+names_table command.Safe named f seat a v t fits did = absurd (unnamed None refl named)
 names_table command.Seal named f seat a v t fits did = absurd (unnamed None refl named)
 names_table command.Settle named f seat a v t fits did = absurd (unnamed None refl named)
 names_table command.Commit named f seat a v t fits did = absurd (unnamed None refl named)
@@ -89,68 +91,25 @@ durable_asked f seat (answer.Durable stamp) v u t passes did = record { fits = d
 durable_asked f seat answer.NoReceipt v u t passes did = record { fits = did.fits; did = after_passes seat (λ x y. DidAskDurable x seat answer.NoReceipt y) v u t passes did.did }
 durable_asked f seat a v u t passes did = absurd did.did
 
--- THE PHASE of a command that isn't refused
-pub begins_idle : (phase : Phase) → refusal_of phase command.Begin ≡ None → phase ≡ Idle
-begins_idle Idle is = refl
-begins_idle Active is = cc
-begins_idle Sealed is = cc
-begins_idle Pending is = cc
-begins_idle Safe is = cc
-
-pub seals_active : (phase : Phase) → refusal_of phase command.Seal ≡ None → phase ≡ Active
-seals_active Active is = refl
-seals_active Idle is = cc
-seals_active Sealed is = cc
-seals_active Pending is = cc
-seals_active Safe is = cc
-
-pub commits_active : (phase : Phase) → refusal_of phase command.Commit ≡ None → phase ≡ Active
-commits_active Active is = refl
-commits_active Idle is = cc
-commits_active Sealed is = cc
-commits_active Pending is = cc
-commits_active Safe is = cc
-
-pub aborts_active : (phase : Phase) → refusal_of phase command.Abort ≡ None → phase ≡ Active
-aborts_active Active is = refl
-aborts_active Idle is = cc
-aborts_active Sealed is = cc
-aborts_active Pending is = cc
-aborts_active Safe is = cc
-
-pub settles_sealed : (phase : Phase) → refusal_of phase command.Settle ≡ None → phase ≡ Sealed
-settles_sealed Sealed is = refl
-settles_sealed Idle is = cc
-settles_sealed Active is = cc
-settles_sealed Pending is = cc
-settles_sealed Safe is = cc
-
--- one that names a table asks for an active transaction
-asks_active : (phase : Phase) → refusal_for (Some Active) phase ≡ None → phase ≡ Active
-asks_active Active is = refl
-asks_active Idle is = cc
-asks_active Sealed is = cc
-asks_active Pending is = cc
-asks_active Safe is = cc
-
--- the others name a table
+-- THE PHASE of a command that isn't refused, and that is none of the others, of a session without a snapshot: it is active, and the command names a table
 pub record Operates (c : Command) (phase : Phase) : Type 0 where
   pub active : phase ≡ Active
   pub named : IsSome (table_of c)
 
-pub operates : (c : Command) (phase : Phase) → IsOfSession c → refusal_of phase c ≡ None → c ≢ command.Begin → c ≢ command.Seal → c ≢ command.Settle → c ≢ command.Commit → c ≢ command.Abort → c ≢ command.Durable
-    → Operates c phase
-operates (command.Get table key) phase of is begin seal settle commit abort durable = record { active = asks_active phase is; named = refl }
-operates (command.Put table key value) phase of is begin seal settle commit abort durable = record { active = asks_active phase is; named = refl }
-operates (command.Del table key) phase of is begin seal settle commit abort durable = record { active = asks_active phase is; named = refl }
-operates (command.Next table from) phase of is begin seal settle commit abort durable = record { active = asks_active phase is; named = refl }
-operates (command.Scan table low high) phase of is begin seal settle commit abort durable = record { active = asks_active phase is; named = refl }
-operates (command.Tidy table key) phase of is begin seal settle commit abort durable = record { active = asks_active phase is; named = refl }
-operates command.Begin phase of is begin seal settle commit abort durable = absurd (begin refl)
-operates command.Seal phase of is begin seal settle commit abort durable = absurd (seal refl)
-operates command.Settle phase of is begin seal settle commit abort durable = absurd (settle refl)
-operates command.Commit phase of is begin seal settle commit abort durable = absurd (commit refl)
-operates command.Abort phase of is begin seal settle commit abort durable = absurd (abort refl)
-operates command.Durable phase of is begin seal settle commit abort durable = absurd (durable refl)
-operates command.Flush phase of is begin seal settle commit abort durable = absurd of
-operates command.Checkpoint phase of is begin seal settle commit abort durable = absurd of
+pub operates : (c : Command) (phase : Phase) → IsOfSession c → HasNoSnapshot phase → refusal_of phase c ≡ None → c ≢ command.Begin → c ≢ command.Safe → c ≢ command.Seal → c ≢ command.Settle → c ≢ command.Commit
+    → c ≢ command.Abort → c ≢ command.Durable → Operates c phase
+operates (command.Get table key) phase of plain is begin safe seal settle commit abort durable = record { active = active_where NeedsReader phase tt plain is; named = refl }
+operates (command.Put table key value) phase of plain is begin safe seal settle commit abort durable = record { active = active_where NeedsWriter phase tt plain is; named = refl }
+operates (command.Del table key) phase of plain is begin safe seal settle commit abort durable = record { active = active_where NeedsWriter phase tt plain is; named = refl }
+operates (command.Next table from) phase of plain is begin safe seal settle commit abort durable = record { active = active_where NeedsReader phase tt plain is; named = refl }
+operates (command.Scan table low high) phase of plain is begin safe seal settle commit abort durable = record { active = active_where NeedsReader phase tt plain is; named = refl }
+operates (command.Tidy table key) phase of plain is begin safe seal settle commit abort durable = record { active = active_where NeedsWriter phase tt plain is; named = refl }
+operates command.Begin phase of plain is begin safe seal settle commit abort durable = absurd (begin refl)
+operates command.Safe phase of plain is begin safe seal settle commit abort durable = absurd (safe refl)
+operates command.Seal phase of plain is begin safe seal settle commit abort durable = absurd (seal refl)
+operates command.Settle phase of plain is begin safe seal settle commit abort durable = absurd (settle refl)
+operates command.Commit phase of plain is begin safe seal settle commit abort durable = absurd (commit refl)
+operates command.Abort phase of plain is begin safe seal settle commit abort durable = absurd (abort refl)
+operates command.Durable phase of plain is begin safe seal settle commit abort durable = absurd (durable refl)
+operates command.Flush phase of plain is begin safe seal settle commit abort durable = absurd of
+operates command.Checkpoint phase of plain is begin safe seal settle commit abort durable = absurd of

@@ -12,14 +12,15 @@ use Rattle.erm_script.specs.declared.script.Command.TheVariants as command
 use Rattle.erm_world.specs.Calls.{IsDone}
 use Rattle.erm_world.specs.Face.{Grows}
 use Rattle.erm_world.specs.Face as face
-use Rattle.erm_world.specs.World.{Fate, Finished, Session, View, Work, begun, phase_at, phase_of, work_at, work_of}
+use Rattle.erm_world.specs.Snapshots.{snapshot_not_active}
+use Rattle.erm_world.specs.World.{Fate, Finished, Session, Snapshot, Stand, View, Work, begun, phase_at, phase_of, work_at, work_of}
 use Rattle.erm_world.specs.World as world
 use Rattle.erm_maps.specs.Runs.{IsRunOf}
 use Rattle.erm_lines.specs.Answers.{IsReceiptOf}
 use Rattle.erm_lines.specs.Operations.{AsksOf, FrontOf}
 use Rattle.erm_lines.proofs.Receipts.{one_more}
 use Rattle.erm_beside.proofs.Txns.{stopped_after}
-use Rattle.erm_lines_at_once.specs.Answers.{DidCommandBeside, DidDecideBeside}
+use Rattle.erm_lines_at_once.specs.Answers.{DidAskSafeBeside, DidAskSnapshotBeside, DidCommandBeside, DidDecideBeside, DidOfSnapshotBeside}
 use Rattle.erm_lines_at_once.specs.Operations.{TriedOnce, WereCutBeside}
 use Rattle.erm_worker.specs.Work.{IsReady, IsRunNow}
 use Rattle.erm_worker.proofs.Waits.{ran_active}
@@ -106,6 +107,44 @@ module _ (none : (number begin : ℕ) → IsRunOf (begun number begin) []) (f : 
         (ap (λ (s : Session). s.over) did.own ∙ ap (λ (s : Session). s.over ++ record { work = work_at u seat; fate = world.aborts } ∷ []) passes.own) ready.receipt;
   }
   aborted_ready a did = absurd did
+
+-- SNAPSHOTS. No transaction is in progress beside one.
+snapshot_runs : (s : Session) (x : Snapshot) → s.stand ≡ world.snapshot x → IsRunNow s
+snapshot_runs s x is active = absurd (snapshot_not_active x (subst (λ (at : Stand). phase_of at ≡ Active) is active))
+
+ended_ready : (seat : ℕ) (v u t : View) (r : Option Receipt) (w : Work) → u.session seat ≡ v.session seat → IsDone u seat w world.aborts t → IsReceiptOf (v.session seat).over r → IsReady (t.session seat) r
+ended_ready seat v u t r w same did receipt = record {
+  run = done_runs u t seat w world.aborts did;
+  receipt = more_receipt (v.session seat) (t.session seat) r w
+      (ap (λ (s : Session). s.over) did.own ∙ ap (λ (s : Session). s.over ++ record { work = w; fate = world.aborts } ∷ []) same) receipt;
+}
+
+asked_ready : (f : View) (seat : ℕ) (a : Answer) (v t : View) (r : Option Receipt) → IsReceiptOf (v.session seat).over r → DidAskSafeBeside f seat a v t → IsReady (t.session seat) r
+asked_ready f seat (answer.Safe stamp) v t r receipt ((u, passes, (x, stand, now)), is, so) = record {
+  run = snapshot_runs (t.session seat) (record x { is_safe = true }) (ap (λ (s : Session). s.stand) now.own);
+  receipt = over_receipt (v.session seat) (t.session seat) r (ap (λ (s : Session). s.over) now.own ∙ ap (λ (s : Session). s.over) passes.own) receipt;
+}
+asked_ready f seat (answer.Unsafe other stamp) v t r receipt ((u, passes, done), met) = ended_ready seat v u t r (work_at u seat) passes.own done receipt
+asked_ready f seat a v t r receipt did = absurd did
+
+pub begun_snapshot_ready : (f : View) (seat : ℕ) (a : Answer) (v t : View) (r : Option Receipt) → IsReady (v.session seat) r → DidAskSnapshotBeside f seat a v t → IsReady (t.session seat) r
+begun_snapshot_ready f seat (answer.LogEnd tail) v t r ready (u, passes, did) = same_ready (v.session seat) (t.session seat) r (ap (λ (x : View). x.session seat) did.0 ∙ passes.own) ready
+begun_snapshot_ready f seat answer.NumbersEnd v t r ready (u, passes, did) = same_ready (v.session seat) (t.session seat) r (ap (λ (x : View). x.session seat) did.0 ∙ passes.own) ready
+begun_snapshot_ready f seat a v t r ready did =
+    let (u, passes, began) = did.began in
+    let over : (did.between.session seat).over ≡ (v.session seat).over = ap (λ (s : Session). s.over) began.2.own ∙ ap (λ (s : Session). s.over) passes.own in
+    asked_ready f seat a did.between t r (over_receipt (v.session seat) (did.between.session seat) r over ready.receipt) did.asked
+
+pub watched_ready : (f : View) (seat : ℕ) (c : Command) (a : Answer) (v t : View) (r : Option Receipt) → IsReady (v.session seat) r → DidOfSnapshotBeside f seat c a v t → IsReady (t.session seat) r
+watched_ready f seat command.Safe a v t r ready did = asked_ready f seat a v t r ready.receipt did
+watched_ready f seat (command.Get table key) (answer.Replied reply) v t r ready did = same_ready (v.session seat) (t.session seat) r did.passes.own ready
+watched_ready f seat (command.Next table from) (answer.Replied reply) v t r ready did = same_ready (v.session seat) (t.session seat) r did.passes.own ready
+watched_ready f seat (command.Scan table low high) (answer.Replied reply) v t r ready did = same_ready (v.session seat) (t.session seat) r did.passes.own ready
+watched_ready f seat command.Commit answer.Ended v t r ready (u, passes, did) = ended_ready seat v u t r (work_at u seat) passes.own did ready.receipt
+watched_ready f seat command.Abort answer.Aborted v t r ready (u, passes, did) = ended_ready seat v u t r (work_at u seat) passes.own did ready.receipt
+watched_ready f seat command.Durable (answer.Durable stamp) v t r ready (u, passes, did) = same_ready (v.session seat) (t.session seat) r (ap (λ (x : View). x.session seat) did.0 ∙ passes.own) ready
+watched_ready f seat command.Durable answer.NoReceipt v t r ready (u, passes, did) = same_ready (v.session seat) (t.session seat) r (ap (λ (x : View). x.session seat) did.0 ∙ passes.own) ready
+watched_ready f seat c a v t r ready did = absurd did
 
 -- of an answer that was given
 pub on_ok_of : {X E : Type 0} (r : Result X E) (P : X → Type 0) (Q : Type 0) → ((x : X) → P x → Q) → IfOk r P → OnOk r Q

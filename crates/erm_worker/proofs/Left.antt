@@ -6,9 +6,10 @@ use Rattle.erm_script.specs.declared.script.ScriptLine.{ScriptLine}
 use Rattle.erm_world.specs.Calls.{DidAbort, DidSeal}
 use Rattle.erm_world.specs.World.{Session, View, phase_at, phase_of}
 use Rattle.erm_beside.specs.Calls.{After, Passes}
-use Rattle.erm_lines_at_once.specs.CutRuns.{IsRest, Waited, aborted, stood}
+use Rattle.erm_beside.specs.Safe.{DidBeginSafeBeside}
+use Rattle.erm_lines_at_once.specs.CutRuns.{Waited, aborted, stood}
 use Rattle.erm_lines_at_once.specs.CutRuns as rest
-use Rattle.erm_worker.specs.Work.{GaveUp, HasWaited, WasLeft, asked, drew, tried}
+use Rattle.erm_worker.specs.Work.{GaveUp, HasWaited, WasLeft, asked, drew, tried, watched}
 use Rattle.erm_worker.proofs.Waits.{passes_itself, passes_phase, passes_then, tried_passes}
 
 idle_after : (v t : View) (seat : ℕ) → DidAbort v seat t → phase_at t seat ≡ Active → ⊥
@@ -17,8 +18,11 @@ idle_after v t seat did active = let at = ap (λ (s : Session). phase_of s.stand
 sealed_after : (v t : View) (seat stamp : ℕ) → DidSeal v seat stamp t → phase_at t seat ≡ Sealed
 sealed_after v t seat stamp did = ap (λ (s : Session). phase_of s.stand) did.own
 
+pending_after : (v t : View) (seat begin : ℕ) → DidBeginSafeBeside seat begin v t → phase_at t seat ≡ Pending
+pending_after v t seat begin did = ap (λ (s : Session). phase_of s.stand) did.2.own
+
 -- it stood there, and isn't active
-stood_left : (f : View) (seat : ℕ) (next : Option ScriptLine) (v u t : View) → Passes seat v u → (phase_at u seat ≡ Active → ⊥) → t ≡ u → WasLeft f seat next v t
+pub stood_left : (f : View) (seat : ℕ) (next : Option ScriptLine) (v u t : View) → Passes seat v u → (phase_at u seat ≡ Active → ⊥) → t ≡ u → WasLeft f seat next v t
 stood_left f seat next v u t passes inactive is = record {
   end = u;
   rest = stood passes;
@@ -65,6 +69,20 @@ left_waiting f seat l v u t Active is (drew stamp w active commits sealed passes
     let at = passes_phase seat w u passes in let so = sealed_after sealed.0 w seat stamp sealed.2 in cc
 left_waiting f seat l v u t Idle is (drew stamp w active commits sealed passes) gave =
     let at = passes_phase seat w u passes in let so = sealed_after sealed.0 w seat stamp sealed.2 in cc
+left_waiting f seat l v u t Pending is (watched begin w idle asks began passes) gave = record {
+  end = w;
+  rest = rest.watched l begin idle refl asks began;
+  since = subst (λ (x : View). Passes seat w x) (sym gave) passes;
+  inactive = λ now. let at = ap (λ (x : View). phase_at x seat) gave in cc;
+}
+left_waiting f seat l v u t Idle is (watched begin w idle asks began passes) gave =
+    let at = passes_phase seat w u passes in let so = pending_after began.0 w seat begin began.2 in cc
+left_waiting f seat l v u t Active is (watched begin w idle asks began passes) gave =
+    let at = passes_phase seat w u passes in let so = pending_after began.0 w seat begin began.2 in cc
+left_waiting f seat l v u t Sealed is (watched begin w idle asks began passes) gave =
+    let at = passes_phase seat w u passes in let so = pending_after began.0 w seat begin began.2 in cc
+left_waiting f seat l v u t Safe is (watched begin w idle asks began passes) gave =
+    let at = passes_phase seat w u passes in let so = pending_after began.0 w seat begin began.2 in cc
 left_waiting f seat l v u t Pending is (asked passes) gave = stood_left f seat (Some l) v u t passes (λ active. cc) gave
 left_waiting f seat l v u t Pending is (tried times active now waits) gave = cc
 left_waiting f seat l v u t Pending is (drew stamp w active commits sealed passes) gave =

@@ -7,3 +7,4 @@ pub mod Runs
 pub mod Short
 pub mod There
 pub mod Waits
+pub mod Watching

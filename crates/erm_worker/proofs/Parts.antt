@@ -1,14 +1,19 @@
 -- What a worker did as its session's part of an execution of all sessions.
-use Rattle.std.proofs.Common.{◌≡◌, ℕ, Bool, true, false, cond, List, [], ◌∷◌, ◌++◌, inl, inr, refl, sym, ◌∙◌, subst, le_trans}
+use Rattle.std.proofs.Common.{◌≡◌, ℕ, Bool, true, false, cond, List, [], ◌∷◌, ◌++◌, None, inl, inr, refl, sym, ap, ◌∙◌, subst, le_trans}
 use Rattle.std.specs.List.{filter}
 use Rattle.std.proofs.lemmas.Bool.Decides.{eqb_tells}
 use Rattle.erm_model.specs.declared.outcome.Phase.{Phase}
+use Rattle.erm_model.specs.declared.outcome.Phase.TheVariants.{Active, Idle, Sealed, Pending, Safe}
 use Rattle.erm_report.specs.declared.answer.Answer.{Answer}
-use Rattle.erm_world.specs.World.{View}
+use Rattle.erm_report.specs.declared.answer.Answer.TheVariants as answer
+use Rattle.erm_world.specs.World.{View, phase_at}
+use Rattle.erm_good_report.specs.Phases.{Closes}
+use Rattle.erm_lines.specs.Whole.{is_snapshot}
+use Rattle.erm_lines.proofs.Watched.{snapshot_there}
 use Rattle.erm_lines.specs.Executions.{Move, close, line_moves}
 use Rattle.erm_beside.specs.Calls.{Passes}
 use Rattle.erm_lines_at_once.specs.Answers.{DidCloseBeside, DidEndBeside}
-use Rattle.erm_lines_at_once.specs.CutRuns.{aborted}
+use Rattle.erm_lines_at_once.specs.CutRuns.{IsRest, aborted, ended}
 use Rattle.erm_lines_at_once.specs.Executions.{DidOwn, IsOwnRun, is_own}
 use Rattle.erm_worker.specs.Laws.{AbortedWorkIsACutPart, ClosedWorkIsAPart, HasOwn, LeftWorkIsACutPart, WholeWorkIsAPart}
 use Rattle.erm_worker.proofs.Waits.{passes_itself, passes_then}
@@ -76,14 +81,21 @@ left f seat lines answers v t moves ran less end own =
       within = (le_trans it.since.tail end.tail, le_trans it.since.flushed end.flushed);
     }
 
+-- a session that an abort closed had a transaction, or a snapshot
+rest_of : (f : View) (seat : ℕ) (u t : View) (p : Phase) → phase_at u seat ≡ p → Closes p answer.Aborted → DidCloseBeside p seat answer.Aborted u t → IsRest f seat None u t
+rest_of f seat u t Idle is fits did = absurd did
+rest_of f seat u t Active is fits (w, passes, did) = aborted w is passes did
+rest_of f seat u t Sealed is fits did = absurd fits
+rest_of f seat u t Pending is fits did = ended (snapshot_there u seat (ap is_snapshot is)) refl did
+rest_of f seat u t Safe is fits did = ended (snapshot_there u seat (ap is_snapshot is)) refl did
+
 pub given_up : AbortedWorkIsACutPart
-given_up f seat lines answers a v u t moves ran all active did end own =
-    let run : IsOwnRun f seat v (line_moves lines answers) u = subst (λ (x : View). IsOwnRun f seat v (line_moves lines answers) x) (ran.whole all) ran.run in
-    let gave = subst (λ (p : Phase). DidCloseBeside p seat a u t) active did.did in record {
+given_up f seat lines answers v u t moves ran all did end own =
+    let run : IsOwnRun f seat v (line_moves lines answers) u = subst (λ (x : View). IsOwnRun f seat v (line_moves lines answers) x) (ran.whole all) ran.run in record {
       last = u;
       end = t;
       run = among f seat moves (line_moves lines answers) v u own run;
-      rest = aborted gave.0 active gave.1 gave.2;
+      rest = rest_of f seat u t (phase_at u seat) refl did.fits did.did;
       ends = end.own;
       given_up = end.given_up;
       within = (end.tail, end.flushed);

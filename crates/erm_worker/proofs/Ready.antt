@@ -1,18 +1,22 @@
 -- What the next line finds, by how the last one was answered; and lines, as their commands were.
-use Rattle.std.proofs.Common.{◌≡◌, ℕ, Option, Some, None, Result, Ok, Err, IfOk, IfSome, OnOk, refl, sym, ap, ◌∙◌, subst}
+use Rattle.std.proofs.Common.{◌≡◌, ℕ, true, Option, Some, None, Result, Ok, Err, IfOk, IfErr, IfSome, OnOk, refl, sym, ap, ◌∙◌, subst}
 use Rattle.erm_model.specs.declared.outcome.Receipt.{Receipt}
 use Rattle.erm_report.specs.declared.answer.Answer.{Answer}
+use Rattle.erm_script.specs.declared.script.Command.{Command}
 use Rattle.erm_script.specs.declared.script.Command.TheVariants as command
 use Rattle.erm_script.specs.declared.script.ScriptLine.{ScriptLine}
-use Rattle.erm_world.specs.Face.{Grows}
+use Rattle.erm_world.specs.Face.{Grows, same}
 use Rattle.erm_world.specs.World.{Session, View, phase_at}
-use Rattle.erm_good_report.specs.Phases.{FitsRefusal, refusal_of}
+use Rattle.erm_good_report.specs.Phases.{HasNoSnapshot, refusal_of}
 use Rattle.erm_lines.specs.Answers.{KeepsReceipt}
-use Rattle.erm_lines_at_once.specs.Answers.{DidAskedBeside, WasAnsweredBeside}
-use Rattle.erm_worker.specs.Work.{GaveUp, IsReady, IsRunNow, RanLine, WasAsked, WasSettled}
-use Rattle.erm_worker.proofs.Kept.{decided_runs, grown_receipt}
-use Rattle.erm_worker.proofs.Left.{left_waiting}
-use Rattle.erm_worker.proofs.Waits.{passes_itself}
+use Rattle.erm_lines.specs.Whole.{is_snapshot}
+use Rattle.erm_lines.proofs.Watched.{snapshot_rests}
+use Rattle.erm_lines_at_once.specs.Answers.{WasAnsweredBeside}
+use Rattle.erm_lines_at_once.proofs.Watched.{plain_line, refused_line as refused_one, snapshot_line}
+use Rattle.erm_worker.specs.Work.{GaveUp, IsReady, IsRunNow, RanLine, WasAsked, WasSettled, WasWatched}
+use Rattle.erm_worker.proofs.Kept.{begun_snapshot_ready, decided_runs, grown_receipt, watched_ready}
+use Rattle.erm_worker.proofs.Left.{left_waiting, stood_left}
+use Rattle.erm_worker.proofs.Waits.{passes_phase}
 
 pub settled_ready : (seat : ℕ) (answered : Option Answer) (v t : View) (r x : Option Receipt) → WasSettled seat answered v t → KeepsReceipt v seat r t x → IsReady (v.session seat) r
     → IfSome answered (λ _. IsReady (t.session seat) x)
@@ -33,23 +37,44 @@ pub operated_ready : {E : Type 0} (result : Result (Option Answer) E) (s t : Ses
 operated_ready (Ok answered) s t r run grows ready = if_some answered (IsReady t r) (record { run = run; receipt = grown_receipt s t r grows ready.receipt })
 operated_ready (Err e) s t r run grows ready = tt
 
+pub snapshot_ready : (f : View) (seat : ℕ) (answered : Option Answer) (v t : View) (r : Option Receipt) → IsReady (v.session seat) r → WasAsked f seat command.Safe answered v t
+    → IfSome answered (λ _. IsReady (t.session seat) r)
+snapshot_ready f seat None v t r ready asked = tt
+snapshot_ready f seat (Some a) v t r ready asked = begun_snapshot_ready f seat a v t r ready asked.did
+
+pub looked_ready : (f : View) (seat : ℕ) (c : Command) (answered : Option Answer) (v t : View) (r : Option Receipt) → IsReady (v.session seat) r → WasWatched f seat c answered v t
+    → IfSome answered (λ _. IsReady (t.session seat) r)
+looked_ready f seat c None v t r ready watched = tt
+looked_ready f seat c (Some a) v t r ready watched = watched_ready f seat c a v t r ready watched.did
+
+-- where memory ran out the session is as it was
+pub same_grown : {T E : Type 0} (r : Result T E) (s t : Session) → IfErr r (λ _. t ≡ s) → IfErr r (λ _. Grows s t)
+same_grown (Ok x) s t is = tt
+same_grown (Err e) s t is = same is
+
 -- LINES. The phase refused it.
 pub refused_line : (f : View) (l : ScriptLine) (a : Answer) (seat : ℕ) (v : View) → l.session ≡ seat → refusal_of (phase_at v seat) l.command ≡ Some a → RanLine f l (Some a) v v
-refused_line f l a seat v is refuses =
-    let so : refusal_of (phase_at v l.session) l.command ≡ Some a = ap (λ (n : ℕ). refusal_of (phase_at v n) l.command) is ∙ refuses in record {
-      fits = subst (λ (o : Option Answer). FitsRefusal o l.command a) (sym so) refl;
-      did = subst (λ (o : Option Answer). DidAskedBeside o f l.session l.command a v v) (sym so) (passes_itself l.session v);
-    }
+refused_line f l a seat v is refuses = refused_one f l a v (ap (λ (n : ℕ). refusal_of (phase_at v n) l.command) is ∙ refuses)
 
--- the phase allowed it, and it was answered
-pub answered_line : (f : View) (l : ScriptLine) (a : Answer) (seat : ℕ) (v t : View) → l.session ≡ seat → refusal_of (phase_at v seat) l.command ≡ None → WasAsked f seat l.command (Some a) v t
-    → RanLine f l (Some a) v t
-answered_line f l a seat v t is allows asked =
-    let so : refusal_of (phase_at v l.session) l.command ≡ None = ap (λ (n : ℕ). refusal_of (phase_at v n) l.command) is ∙ allows in
-    let it : WasAnsweredBeside f l.session l.command a v t = subst (λ (n : ℕ). WasAnsweredBeside f n l.command a v t) (sym is) asked in record {
-      fits = subst (λ (o : Option Answer). FitsRefusal o l.command a) (sym so) it.fits;
-      did = subst (λ (o : Option Answer). DidAskedBeside o f l.session l.command a v t) (sym so) it.did;
-    }
+-- the phase allowed it, and it was answered: in a session without a snapshot, and in one with a snapshot
+pub answered_line : (f : View) (l : ScriptLine) (a : Answer) (seat : ℕ) (v t : View) → l.session ≡ seat → HasNoSnapshot (phase_at v seat) → refusal_of (phase_at v seat) l.command ≡ None
+    → WasAsked f seat l.command (Some a) v t → RanLine f l (Some a) v t
+answered_line f l a seat v t is plain allows asked =
+    plain_line f l a v t (subst (λ (n : ℕ). HasNoSnapshot (phase_at v n)) (sym is) plain) (ap (λ (n : ℕ). refusal_of (phase_at v n) l.command) is ∙ allows)
+    (subst (λ (n : ℕ). WasAnsweredBeside f n l.command a v t) (sym is) asked)
+
+-- so it was, or it waits, and the session was left
+watched_so : (f : View) (l : ScriptLine) (answered : Option Answer) (v t : View) → is_snapshot (phase_at v l.session) ≡ true → refusal_of (phase_at v l.session) l.command ≡ None
+    → WasWatched f l.session l.command answered v t → RanLine f l answered v t
+watched_so f l (Some a) v t has so it = snapshot_line f l a v t has so it
+watched_so f l None v t has so passes =
+    stood_left f l.session (Some l) v t t passes (λ active. snapshot_rests v l.session has (sym (passes_phase l.session v t passes) ∙ active)) refl
+
+pub watched_line : (f : View) (l : ScriptLine) (answered : Option Answer) (seat : ℕ) (v t : View) → l.session ≡ seat → is_snapshot (phase_at v seat) ≡ true → refusal_of (phase_at v seat) l.command ≡ None
+    → WasWatched f seat l.command answered v t → RanLine f l answered v t
+watched_line f l answered seat v t is has allows it =
+    watched_so f l answered v t (ap (λ (n : ℕ). is_snapshot (phase_at v n)) is ∙ has) (ap (λ (n : ℕ). refusal_of (phase_at v n) l.command) is ∙ allows)
+    (subst (λ (n : ℕ). WasWatched f n l.command answered v t) (sym is) it)
 
 -- it waited, and the session was left
 pub left_line : (f : View) (l : ScriptLine) (seat mid : ℕ) (v u t : View) → l.session ≡ seat → mid ≡ seat → WasAsked f seat l.command None v u → GaveUp (phase_at u mid) mid u t

@@ -17,6 +17,7 @@ session_move : (c : Command) (l : ScriptLine) (a : Answer) → IsOfSession c →
 session_move command.Flush l a is = absurd is
 session_move command.Checkpoint l a is = absurd is
 session_move command.Begin l a is = refl
+session_move command.Safe l a is = refl
 session_move (command.Get table key) l a is = refl
 session_move (command.Put table key value) l a is = refl
 session_move (command.Del table key) l a is = refl

@@ -1,5 +1,5 @@
 -- What a session's calls did, as the session itself knows its seat then, from the state in which its line began.
-use Rattle.std.proofs.Common.{◌≡◌, ℕ, List, Option, Some, None, refl, sym, ap, ◌∙◌, subst}
+use Rattle.std.proofs.Common.{◌≡◌, ℕ, true, List, Option, Some, None, refl, sym, ap, ◌∙◌, subst}
 use Rattle.erm_model.specs.declared.outcome.Phase.{Phase}
 use Rattle.erm_model.specs.declared.outcome.Phase.TheVariants.{Active, Idle, Sealed, Pending, Safe}
 use Rattle.erm_model.specs.declared.outcome.Receipt.{Receipt}
@@ -10,9 +10,12 @@ use Rattle.erm_world.specs.declared.stops.Wait.{Wait}
 use Rattle.erm_world.specs.Calls.{DidAbort, DidSeal}
 use Rattle.erm_world.specs.Face.{Grows}
 use Rattle.erm_world.specs.Onward.{grows_then}
+use Rattle.erm_world.specs.Safe.{HasSnapshot}
 use Rattle.erm_world.specs.World.{Finished, Session, View, phase_at, phase_of}
-use Rattle.erm_good_report.specs.Phases.{Closes, HasNoSnapshot}
+use Rattle.erm_good_report.specs.Phases.{Closes}
 use Rattle.erm_lines.specs.Answers.{IsReceiptOf, KeepsReceipt}
+use Rattle.erm_lines.specs.Whole.{is_snapshot}
+use Rattle.erm_lines.proofs.Watched.{has_phase}
 use Rattle.erm_beside.specs.Calls.{After, NotSettledBeside, Passes}
 use Rattle.erm_lines_at_once.specs.Answers.{DidCloseBeside, DidDecideBeside, TriedDurable}
 use Rattle.erm_worker.specs.Work.{IsRunNow, WasAsked, WasClosed, WasSettled}
@@ -87,9 +90,13 @@ aborted_closes seat v t is did = record {
   did = subst (λ (p : Phase). DidCloseBeside p seat answer.Aborted v t) (sym is) did;
 }
 
-pub neither_active : (phase : Phase) → HasNoSnapshot phase → (phase ≡ Idle → ⊥) → (phase ≡ Sealed → ⊥) → phase ≡ Active
-neither_active Active plain idle sealed = refl
-neither_active Idle plain idle sealed = absurd (idle refl)
-neither_active Sealed plain idle sealed = absurd (sealed refl)
-neither_active Pending plain idle sealed = absurd plain
-neither_active Safe plain idle sealed = absurd plain
+-- its snapshot was ended
+pub ended_closes : (seat : ℕ) (v t : View) → HasSnapshot v seat → After seat (λ u w. DidAbort u seat w) v t → WasClosed seat (Some answer.Aborted) v t
+ended_closes seat v t has did = by (phase_at v seat) refl (has_phase v seat has)
+  where
+    by : (p : Phase) → phase_at v seat ≡ p → is_snapshot p ≡ true → WasClosed seat (Some answer.Aborted) v t
+    by Idle is no = absurd (cc)
+    by Active is no = absurd (cc)
+    by Sealed is no = absurd (cc)
+    by Pending is so = record { fits = subst (λ (p : Phase). Closes p answer.Aborted) (sym is) tt; did = subst (λ (p : Phase). DidCloseBeside p seat answer.Aborted v t) (sym is) did }
+    by Safe is so = record { fits = subst (λ (p : Phase). Closes p answer.Aborted) (sym is) tt; did = subst (λ (p : Phase). DidCloseBeside p seat answer.Aborted v t) (sym is) did }

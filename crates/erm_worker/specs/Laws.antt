@@ -1,10 +1,10 @@
 -- What a worker's session is of an execution at once: its part, from which that of all sessions is made.
 use Rattle.std.specs.Prelude.{◌≡◌, ℕ, ◌<◌, ◌≤◌, List, [], ◌∷◌, ◌++◌, filter, length, None}
 use Rattle.std.specs.List.{slice_get}
-use Rattle.erm_model.specs.declared.outcome.Phase.TheVariants.{Active}
 use Rattle.erm_report.specs.declared.answer.Answer.{Answer}
+use Rattle.erm_report.specs.declared.answer.Answer.TheVariants as answer
 use Rattle.erm_script.specs.declared.script.ScriptLine.{ScriptLine}
-use Rattle.erm_world.specs.World.{View, phase_at}
+use Rattle.erm_world.specs.World.{View}
 use Rattle.erm_lines.specs.Executions.{Move, close, line_moves}
 use Rattle.erm_beside.specs.Calls.{Passes}
 use Rattle.erm_lines_at_once.specs.Answers.{DidEndBeside}
@@ -38,8 +38,8 @@ abbrev pub LeftWorkIsACutPart : Type 0
 LeftWorkIsACutPart = (f : View) (seat : ℕ) (lines : List ScriptLine) (answers : List Answer) (v t : View) (moves : List Move) → RanLines f seat lines answers v t
     → length answers < length lines → IsAtEnd f seat t → HasOwn seat moves (line_moves lines answers) → IsCutPart f seat (slice_get lines (length answers)) v moves
 
--- all were answered, and it was aborted, which no line of an execution tells that was cut off
+-- all were answered, and it was aborted, or its snapshot ended, which no line of an execution tells that was cut off
 abbrev pub AbortedWorkIsACutPart : Type 0
-AbortedWorkIsACutPart = (f : View) (seat : ℕ) (lines : List ScriptLine) (answers : List Answer) (a : Answer) (v u t : View) (moves : List Move) → RanLines f seat lines answers v u
-    → length answers ≡ length lines → phase_at u seat ≡ Active → DidEndBeside seat a u t → IsAtEnd f seat t → HasOwn seat moves (line_moves lines answers)
+AbortedWorkIsACutPart = (f : View) (seat : ℕ) (lines : List ScriptLine) (answers : List Answer) (v u t : View) (moves : List Move) → RanLines f seat lines answers v u
+    → length answers ≡ length lines → DidEndBeside seat answer.Aborted u t → IsAtEnd f seat t → HasOwn seat moves (line_moves lines answers)
     → IsCutPart f seat None v moves

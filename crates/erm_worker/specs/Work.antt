@@ -3,7 +3,7 @@ use Rattle.std.specs.Prelude.{◌≡◌, ℕ, ◌<◌, ◌≤◌, List, [], ◌�
 use Rattle.std.specs.List.{slice_get}
 use Rattle.erm_model.specs.declared.limits.TheConstants.{TABLES}
 use Rattle.erm_model.specs.declared.outcome.Phase.{Phase}
-use Rattle.erm_model.specs.declared.outcome.Phase.TheVariants.{Active, Sealed}
+use Rattle.erm_model.specs.declared.outcome.Phase.TheVariants.{Active, Idle, Sealed}
 use Rattle.erm_model.specs.declared.outcome.Receipt.{Receipt}
 use Rattle.erm_model.specs.Run.{Step}
 use Rattle.erm_report.specs.declared.answer.Answer.{Answer}
@@ -20,7 +20,8 @@ use Rattle.erm_good_report.specs.Transactions.{table_of}
 use Rattle.erm_lines.specs.Answers.{IsReceiptOf}
 use Rattle.erm_lines.specs.Executions.{line_moves}
 use Rattle.erm_beside.specs.Calls.{After, Passes}
-use Rattle.erm_lines_at_once.specs.Answers.{DidDecideBeside, DidEndBeside, DidLineBeside, WasAnsweredBeside}
+use Rattle.erm_beside.specs.Safe.{DidBeginSafeBeside}
+use Rattle.erm_lines_at_once.specs.Answers.{DidDecideBeside, DidEndBeside, DidLineBeside, WasAnsweredBeside, WasWatchedBeside}
 use Rattle.erm_lines_at_once.specs.CutRuns.{IsRest}
 use Rattle.erm_lines_at_once.specs.Executions.{IsOwnRun}
 use Rattle.erm_lines_at_once.specs.Operations.{WasTried}
@@ -59,13 +60,21 @@ pub data HasWaited (f : View) (seat : ℕ) (c : Command) (v t : View) : Type 0 w
   -- its commit drew a stamp, and isn't decided
   drew : (stamp : ℕ) (u : View) → phase_at v seat ≡ Active → c ≡ command.Commit → After seat (λ x y. DidSeal x seat stamp y) v u → Passes seat u t
       → HasWaited f seat c v t
+  -- it began a snapshot, which isn't known to be safe
+  watched : (begin : ℕ) (u : View) → phase_at v seat ≡ Idle → c ≡ command.Safe → After seat (DidBeginSafeBeside seat begin) v u → Passes seat u t
+      → HasWaited f seat c v t
 
--- the command was answered, after its waits, or it waits still
+-- the command was answered, after its waits, or it waits still, in a session without a snapshot
 abbrev pub WasAsked : View → ℕ → Command → Option Answer → View → View → Type 0
 WasAsked f seat c (Some a) v t = WasAnsweredBeside f seat c a v t
 WasAsked f seat c None v t = HasWaited f seat c v t
 
--- a session's transaction was given up where it was active
+-- and in one with a snapshot, of which no wait leaves anything
+abbrev pub WasWatched : View → ℕ → Command → Option Answer → View → View → Type 0
+WasWatched f seat c (Some a) v t = WasWatchedBeside f seat c a v t
+WasWatched f seat c None v t = Passes seat v t
+
+-- a session's transaction was given up where it was active; a snapshot stands
 abbrev pub GaveUp : Phase → ℕ → View → View → Type 0
 GaveUp Active seat v t = After seat (λ u w. DidAbort u seat w) v t
 GaveUp phase seat v t = t ≡ v
@@ -90,7 +99,7 @@ pub record RanLines (f : View) (seat : ℕ) (lines : List ScriptLine) (answers :
   pub whole : length answers ≡ length lines → last ≡ t
   pub cut : length answers < length lines → WasLeft f seat (slice_get lines (length answers)) last t
 
--- a session that has a transaction was closed, or it is sealed and waits
+-- a session that isn't idle was closed, or it is sealed and waits
 abbrev pub WasClosed : ℕ → Option Answer → View → View → Type 0
 WasClosed seat (Some a) v t = DidEndBeside seat a v t
 WasClosed seat None v t = (phase_at v seat ≡ Sealed) × Passes seat v t

@@ -4,7 +4,6 @@ ghost use Rattle.erm_model.specs.declared.outcome.Phase.TheVariants.{Active, Idl
 ghost use Rattle.erm_model.specs.RowTransaction.{SameLaw};
 ghost use Rattle.erm_model.specs.Run.{Step};
 ghost use Rattle.erm_node.specs.Sound.{sound_law};
-ghost use Rattle.erm_good_report.specs.Phases.{HasNoSnapshot};
 ghost use Rattle.erm_maps.specs.Runs.{IsRunOf};
 ghost use Rattle.erm_world.specs.World.{View, phase_at, work_at};
 ghost use Rattle.erm_lines.specs.Answers.{IsReceiptOf, KeepsReceipt};
@@ -12,7 +11,7 @@ ghost use Rattle.erm_beside.specs.Laws.{GoesOnward};
 ghost use Rattle.erm_worker.specs.Work.{GaveUp, IsRunNow, WasAsked, WasClosed, WasSettled};
 
 use crate::{Turns, Why};
-use erm_beside::SharedSession;
+use erm_beside::{SafeSession, SharedSession};
 use erm_lines_at_once::{decide, try_durable};
 use erm_model::{Phase, Receipt};
 use erm_outside::Place;
@@ -101,7 +100,7 @@ pub fn durable<S: SharedSession, T: Turns, R: Wait>(
     unreachable!()
 }
 
-/// Gives the transaction of a session up where it is active.
+/// Gives the transaction of a session up where it is active. A snapshot stays.
 pub fn give_up<S: SharedSession>(session: &mut S, shared: &S::Shared)
     requires stands { S.stands shared.now session.old }
     ensures stands { S.stands shared.now session.new }
@@ -113,9 +112,9 @@ pub fn give_up<S: SharedSession>(session: &mut S, shared: &S::Shared)
     }
 }
 
-/// Closes a session behind its last line, which has a transaction: that is aborted where it is active, and decided where it is sealed.
-/// `None` where the worker was told to stop while it waited.
-pub fn close_session<S: SharedSession, T: Turns, R: Wait>(
+/// Closes a session behind its last line, which isn't idle: its transaction is aborted where it is active, and decided where it is sealed, and its
+/// snapshot is ended. `None` where the worker was told to stop while it waited.
+pub fn close_session<S: SafeSession, T: Turns, R: Wait>(
     rt: &R,
     session: &mut S,
     shared: &S::Shared,
@@ -123,7 +122,6 @@ pub fn close_session<S: SharedSession, T: Turns, R: Wait>(
 ) -> Option<Answer>
     requires stands { S.stands shared.now session.old }
     requires open { phase_at (S.own session.old) (S.seat session.old) ≡ Idle → ⊥ }
-    requires plain { HasNoSnapshot (phase_at (S.own session.old) (S.seat session.old)) }
     ensures stands { S.stands shared.now session.new }
     ensures onward { GoesOnward (S.seat session.old) (S.seat session.new) (S.ends session.old) (S.ends session.new) }
     ensures closed { WasClosed (S.seat session.old) result (S.own session.old) (S.own session.new) }
@@ -131,8 +129,12 @@ pub fn close_session<S: SharedSession, T: Turns, R: Wait>(
 {
     match session.phase(shared) {
         Phase::Sealed => settle(rt, session, shared, turns, &mut None),
-        _ => {
+        Phase::Active => {
             session.abort(shared);
+            Some(Answer::Aborted)
+        }
+        _ => {
+            session.end_safe(shared);
             Some(Answer::Aborted)
         }
     }

@@ -7,6 +7,7 @@ mod laws;
 mod line;
 mod lines;
 mod operations;
+mod snapshots;
 mod turns;
 
 pub use ends::close_session;

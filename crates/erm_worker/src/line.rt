@@ -3,7 +3,7 @@ ghost use Rattle.std.specs.Prelude.{◌≡◌, IfErr, IfNone, IfOk, IfSome, None
 ghost use Rattle.erm_model.specs.declared.outcome.Phase.TheVariants.{Idle};
 ghost use Rattle.erm_model.specs.RowTransaction.{SameLaw};
 ghost use Rattle.erm_node.specs.Sound.{sound_law};
-ghost use Rattle.erm_good_report.specs.Phases.{refusal_of};
+ghost use Rattle.erm_good_report.specs.Phases.{HasNoSnapshot, refusal_of};
 ghost use Rattle.erm_world.specs.Face.{Grows};
 ghost use Rattle.erm_world.specs.World.{View, phase_at};
 ghost use Rattle.erm_beside.specs.Laws.{GoesOnward};
@@ -13,9 +13,10 @@ ghost use Rattle.erm_worker.specs.Work.{IsReady, MayBeAsked, RanLine, WasAsked};
 use crate::Turns;
 use crate::ends::{commit, durable, give_up, settle};
 use crate::operations::operate;
-use erm_beside::SharedSession;
+use crate::snapshots::{begin_snapshot, watch};
+use erm_beside::{SafeSession, SharedSession};
 use erm_lines::refusal_of;
-use erm_lines_at_once::{abort, seal};
+use erm_lines_at_once::{abort, has_snapshot, seal};
 use erm_model::Receipt;
 use erm_outside::Place;
 use erm_report::Answer;
@@ -41,8 +42,8 @@ fn begin<S: SharedSession>(session: &mut S, shared: &S::Shared) -> Result<Answer
     }
 }
 
-// Answers a command that the session's phase allows, or `None` where the worker was told to stop while it waited.
-fn run<S: SharedSession, T: Turns, R: Wait>(
+// Answers a command that the phase of a session without a snapshot allows, or `None` where the worker was told to stop while it waited.
+fn run<S: SafeSession, T: Turns, R: Wait>(
     rt: &R,
     alloc: Global,
     session: &mut S,
@@ -53,6 +54,7 @@ fn run<S: SharedSession, T: Turns, R: Wait>(
 ) -> Result<Option<Answer>, AllocError>
     requires law { SameLaw S.law sound_law }
     requires stands { S.stands shared.now session.old }
+    requires plain { HasNoSnapshot (phase_at (S.own session.old) (S.seat session.old)) }
     requires allowed { refusal_of (phase_at (S.own session.old) (S.seat session.old)) command.now ≡ None }
     requires may { MayBeAsked command.now }
     requires ready { IsReady ((S.own session.old).session (S.seat session.old)) receipt.old }
@@ -68,6 +70,10 @@ fn run<S: SharedSession, T: Turns, R: Wait>(
         Command::Begin => {
             turns.pass(Place::Begin);
             Ok(Some(begin(session, shared)?))
+        }
+        Command::Safe => {
+            turns.pass(Place::Begin);
+            begin_snapshot(rt, session, shared, turns)
         }
         Command::Seal => {
             let answer = seal(session, shared);
@@ -85,7 +91,7 @@ fn run<S: SharedSession, T: Turns, R: Wait>(
 /// Runs one line of a session: its answer, or `None` where the worker was told to stop while it waited. It keeps the receipt of the
 /// session's last commit, which is `None` where the session has committed nothing. `Err` where memory ran out: then its transaction in progress
 /// may have gone on.
-pub fn run_line<S: SharedSession, T: Turns, R: Wait>(
+pub fn run_line<S: SafeSession, T: Turns, R: Wait>(
     rt: &R,
     alloc: Global,
     session: &mut S,
@@ -109,6 +115,17 @@ pub fn run_line<S: SharedSession, T: Turns, R: Wait>(
     let phase = session.phase(shared);
     if let Some(refusal) = refusal_of(phase, &line.command) {
         return Ok(Some(refusal));
+    }
+    if has_snapshot(phase) {
+        return watch(
+            rt,
+            alloc,
+            session,
+            shared,
+            turns,
+            &line.command,
+            receipt.as_ref(),
+        );
     }
     let Some(answer) = run(rt, alloc, session, shared, turns, &line.command, receipt)? else {
         give_up(session, shared);

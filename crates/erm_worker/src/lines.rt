@@ -11,7 +11,7 @@ ghost use Rattle.erm_worker.specs.Work.{IsReady, MayBeAsked, RanLines, RanShort}
 
 use crate::ends::give_up;
 use crate::{Turns, run_line};
-use erm_beside::SharedSession;
+use erm_beside::SafeSession;
 use erm_report::Answer;
 use erm_script::ScriptLine;
 use std::alloc::{AllocError, Global};
@@ -20,7 +20,7 @@ use std::sync::Wait;
 /// Runs the lines of a session that has committed nothing, in order, and puts their answers into `answers`, which is empty and has room for
 /// them. Where the worker is told to stop, it answers no more, and leaves the session without an active transaction. `Err` where memory ran
 /// out, in the line behind those answered.
-pub fn run_lines<S: SharedSession, T: Turns, R: Wait>(
+pub fn run_lines<S: SafeSession, T: Turns, R: Wait>(
     rt: &R,
     alloc: Global,
     session: &mut S,

@@ -7,7 +7,7 @@ use erm_world::Wait;
 /// What is in a line's way.
 #[derive(Clone, Copy, Debug, PartialEq, Eq)]
 pub enum Why {
-    /// Another session's transaction, which is sealing or sealed, and isn't decided.
+    /// Another session: its transaction is sealing or sealed, and isn't decided; or what it has in progress had begun before the own snapshot.
     Session,
     /// The ring, which has no room for the transaction's block before a flush.
     Ring,

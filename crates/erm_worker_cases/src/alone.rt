@@ -1,10 +1,9 @@
 //! The worker of a session whose world stands while it works.
 ghost use Rattle.std.specs.Prelude.{◌≡◌, ◌≢◌, ℕ, [], IfOk};
-ghost use Rattle.erm_model.specs.declared.outcome.Phase.TheVariants.{Idle};
+ghost use Rattle.erm_model.specs.declared.outcome.Phase.TheVariants.{Idle, Safe};
 ghost use Rattle.erm_model.specs.RowTransaction.{SameLaw};
 ghost use Rattle.erm_node.specs.Sound.{sound_law};
 ghost use Rattle.erm_world.specs.World.{IsSession, View, idle, phase_at};
-ghost use Rattle.erm_good_report.specs.Phases.{HasNoSnapshot};
 ghost use Rattle.erm_lone.specs.Later.{EndsIn, IsLaterWorld, OthersStand};
 ghost use Rattle.erm_worker.specs.Work.{RanLines};
 ghost use Rattle.erm_worker_cases.specs.Lines.{AreOf};
@@ -14,13 +13,13 @@ use erm_model::{Phase, Seat};
 use erm_report::Answer;
 use erm_script::ScriptLine;
 use erm_worker::{Turns, close_session, run_lines};
-use erm_world::RowWorld;
+use erm_world::SafeWorld;
 use std::alloc::{AllocError, Global};
 use std::marker::{Brand, PhantomData};
 use std::sync::Wait;
 
 // The lines of a new session, beside others that stand so.
-fn work_beside<W: RowWorld + Drop, O: Others, T: Turns, R: Wait>(
+fn work_beside<W: SafeWorld + Drop, O: Others, T: Turns, R: Wait>(
     rt: &R,
     alloc: Global,
     world: W,
@@ -50,7 +49,7 @@ fn work_beside<W: RowWorld + Drop, O: Others, T: Turns, R: Wait>(
 }
 
 /// The worker of a new session runs its lines, up to where it is told to stop, while the other sessions stand.
-pub fn work<W: RowWorld + Drop, T: Turns, R: Wait>(
+pub fn work<W: SafeWorld + Drop, T: Turns, R: Wait>(
     rt: &R,
     alloc: Global,
     world: W,
@@ -71,8 +70,8 @@ pub fn work<W: RowWorld + Drop, T: Turns, R: Wait>(
     work_beside::<W, Brand, T, R>(rt, alloc, world, seat, lines, turns)
 }
 
-// Closes a session with a transaction, beside others that stand so.
-fn close_open<W: RowWorld + Drop, O: Others, T: Turns, R: Wait>(
+// Closes a session with a transaction, or a snapshot that isn't known to be safe, beside others that stand so.
+fn close_open<W: SafeWorld + Drop, O: Others, T: Turns, R: Wait>(
     rt: &R,
     world: W,
     seat: Seat,
@@ -82,7 +81,7 @@ fn close_open<W: RowWorld + Drop, O: Others, T: Turns, R: Wait>(
     requires session { IsSession (W.view world) seat }
     requires others { OthersStand O.standing (W.view world) seat }
     requires open { phase_at (W.view world) seat ≡ Idle → ⊥ }
-    requires plain { HasNoSnapshot (phase_at (W.view world) seat) }
+    requires not_safe { phase_at (W.view world) seat ≡ Safe → ⊥ }
     ensures stands { W.stands result.0 }
 {
     let mut session = LoneSession::<W, O> {
@@ -94,10 +93,10 @@ fn close_open<W: RowWorld + Drop, O: Others, T: Turns, R: Wait>(
     (session.world, closed)
 }
 
-// Closes a session where it has a transaction, beside others that stand so.
-fn close_beside<W: RowWorld + Drop, O: Others, T: Turns, R: Wait>(
+// Closes a session where it has a transaction or a snapshot, beside others that stand so.
+fn close_beside<W: SafeWorld + Drop, O: Others, T: Turns, R: Wait>(
     rt: &R,
-    world: W,
+    mut world: W,
     seat: Seat,
     turns: &mut T,
 ) -> (W, Option<Answer>)
@@ -107,14 +106,17 @@ fn close_beside<W: RowWorld + Drop, O: Others, T: Turns, R: Wait>(
     ensures stands { W.stands result.0 }
 {
     match world.phase(seat) {
-        Phase::Active => close_open::<W, O, T, R>(rt, world, seat, turns),
-        Phase::Sealed => close_open::<W, O, T, R>(rt, world, seat, turns),
-        _ => (world, None),
+        Phase::Idle => (world, None),
+        Phase::Safe => {
+            world.end_safe(seat);
+            (world, Some(Answer::Aborted))
+        }
+        _ => close_open::<W, O, T, R>(rt, world, seat, turns),
     }
 }
 
-/// Closes a session, where it has a transaction, while the other sessions stand.
-pub fn close<W: RowWorld + Drop, T: Turns, R: Wait>(
+/// Closes a session, where it has a transaction or a snapshot, while the other sessions stand.
+pub fn close<W: SafeWorld + Drop, T: Turns, R: Wait>(
     rt: &R,
     world: W,
     seat: Seat,

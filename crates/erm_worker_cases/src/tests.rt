@@ -175,3 +175,83 @@ fn a_worker_waits_for_the_disk(rt: HostRuntime) -> Result<(), Fail> {
     assert!(rt; answers.is_empty(), "it was told to stop before");
     Ok(())
 }
+
+// A snapshot waits for a transaction that had begun before it. Its worker is told to stop, and leaves it as it stands; then it is closed.
+#[test]
+fn a_snapshot_waits_for_what_began_before(rt: HostRuntime) -> Result<(), Fail> {
+    let alloc = rt.alloc();
+    let world = opened(&rt, alloc)?;
+    let first = vec![in alloc; line(1, Command::Begin)]?;
+    assert!(rt; are_of(&first, 1));
+    let mut turns = with_patience(1);
+    let (world, answers) = work(&rt, alloc, world, 1, &first, &mut turns)?;
+    assert!(rt; matches!(answers.as_slice(), [Answer::Began(13)]));
+    let second = vec![in alloc;
+        line(2, Command::Begin),
+        line(2, put()),
+        line(2, Command::Commit),
+        line(2, Command::Safe),
+        line(2, GET),
+    ]?;
+    assert!(rt; are_of(&second, 2));
+    let (world, answers) = work(&rt, alloc, world, 2, &second, &mut turns)?;
+    assert!(rt;
+        matches!(
+            answers.as_slice(),
+            [
+                Answer::Began(13),
+                Answer::Replied(Reply::Done),
+                Answer::Committed { stamp: 13, .. },
+            ]
+        )
+    );
+    assert!(rt; turns.sessions == 2, "it was asked twice");
+    assert!(rt;
+        matches!(world.phase(2), erm_model::Phase::Pending),
+        "it stands as it was"
+    );
+    let (world, closed) = close(&rt, world, 2, &mut turns);
+    assert!(rt; matches!(closed, Some(Answer::Aborted)));
+    assert!(rt; matches!(world.phase(2), erm_model::Phase::Idle));
+    Ok(())
+}
+
+// A safe snapshot reads what was committed, writes nothing, and ends.
+#[test]
+fn a_safe_snapshot_reads_and_ends(rt: HostRuntime) -> Result<(), Fail> {
+    let alloc = rt.alloc();
+    let world = opened(&rt, alloc)?;
+    let first = vec![in alloc;
+        line(1, Command::Begin),
+        line(1, put()),
+        line(1, Command::Commit),
+    ]?;
+    assert!(rt; are_of(&first, 1));
+    let mut turns = with_patience(1);
+    let (world, answers) = work(&rt, alloc, world, 1, &first, &mut turns)?;
+    assert!(rt; answers.len() == 3);
+    let second = vec![in alloc;
+        line(2, Command::Safe),
+        line(2, GET),
+        line(2, put()),
+        line(2, Command::Safe),
+        line(2, Command::Commit),
+        line(2, Command::Abort),
+    ]?;
+    assert!(rt; are_of(&second, 2));
+    let (_world, answers) = work(&rt, alloc, world, 2, &second, &mut turns)?;
+    assert!(rt;
+        matches!(
+            answers.as_slice(),
+            [
+                Answer::Safe(_),
+                Answer::Replied(Reply::Value(Some(_))),
+                Answer::ReadOnly,
+                Answer::NotIdle,
+                Answer::Ended,
+                Answer::NoTransaction,
+            ]
+        )
+    );
+    Ok(())
+}

@@ -15,20 +15,22 @@ use Rattle.erm_joined.specs.Merged.{closes_from, told_when_cut}
 pub the_one : {X : Type 0} (a b : X) → Some a ≡ Some b → a ≡ b
 the_one a b is = cc
 
--- an answer closes an active session by an abort, and else a sealed one, which is told
-pub closing_cases : (p : Phase) (a : Answer) → Closes p a → ((p ≡ Active) × (told_when_cut (Some a) ≡ None)) ⊎ (Closes Sealed a × (told_when_cut (Some a) ≡ Some a))
+-- an answer that closes a session says that it was aborted, or its snapshot ended, or else closes a sealed one, and is told
+pub closing_cases : (p : Phase) (a : Answer) → Closes p a → (a ≡ answer.Aborted) ⊎ (Closes Sealed a × (told_when_cut (Some a) ≡ Some a))
 closing_cases Idle a fits = absurd fits
-closing_cases Active answer.Aborted fits = inl (refl, refl)
+closing_cases Active answer.Aborted fits = inl refl
 closing_cases Active a fits = absurd fits
 closing_cases Sealed (answer.Committed stamp succ pred) fits = inr (tt, refl)
 closing_cases Sealed (answer.Excluded stamp succ pred) fits = inr (tt, refl)
 closing_cases Sealed a fits = absurd fits
+closing_cases Pending answer.Aborted fits = inl refl
 closing_cases Pending a fits = absurd fits
+closing_cases Safe answer.Aborted fits = inl refl
 closing_cases Safe a fits = absurd fits
 
 closes_so : (p : Phase) (b a : Answer) → Closes p b → told_when_cut (Some b) ≡ Some a → Closes Sealed a
 closes_so p b a fits told = elim (closing_cases p b fits) [
-  | inl aborted ↦ absurd (let no : None ≡ Some a = sym aborted.1 ∙ told in cc)
+  | inl aborted ↦ absurd (let no : None ≡ Some a = sym (ap (λ (x : Answer). told_when_cut (Some x)) aborted) ∙ told in cc)
   | inr decided ↦ subst (λ (x : Answer). Closes Sealed x) (the_one b a (sym decided.1 ∙ told)) decided.0
 ]
 
@@ -38,8 +40,8 @@ decided_so p seat None u t a did told = absurd (let no : None ≡ Some a = told 
 decided_so Idle seat (Some b) u t a did told = absurd (let no : Some b ≡ None = did.0 in cc)
 decided_so Active seat (Some b) u t a did told = closes_so (phase_at u seat) b a did.fits told
 decided_so Sealed seat (Some b) u t a did told = closes_so (phase_at u seat) b a did.fits told
-decided_so Pending seat (Some b) u t a did told = absurd (let no : Some b ≡ None = did.0 in cc)
-decided_so Safe seat (Some b) u t a did told = absurd (let no : Some b ≡ None = did.0 in cc)
+decided_so Pending seat (Some b) u t a did told = closes_so (phase_at u seat) b a did.fits told
+decided_so Safe seat (Some b) u t a did told = closes_so (phase_at u seat) b a did.fits told
 
 -- a session that is in the list was closed so
 pub noted_so : (from : ℕ) (closed : List (Option Answer)) (c : Closed) → c ∈ closes_from from closed → (k : ℕ) × (c.session ≡ from + k) × (slice_get closed k ≡ Some (Some c.answer))

@@ -3,6 +3,5 @@ pub mod Cuts
 pub mod Merging
 pub mod Moves
 pub mod Places
-pub mod Plain
 pub mod Runs
 pub mod Sessions

@@ -1,5 +1,5 @@
 -- What all sessions did as an execution of the whole script.
-use Rattle.std.proofs.Common.{◌≡◌, ℕ, ◌+◌, ◌<◌, List, [], ◌++◌, length, Option, Some, sym, ap, ◌∙◌, subst, arith}
+use Rattle.std.proofs.Common.{◌≡◌, ℕ, ◌+◌, ◌<◌, List, [], ◌++◌, length, Option, Some, ap, ◌∙◌, subst, arith}
 use Rattle.std.specs.List.{slice_get}
 use Rattle.erm_model.specs.declared.outcome.Phase.TheVariants.{Idle}
 use Rattle.erm_report.specs.declared.answer.Answer.{Answer}
@@ -16,7 +16,6 @@ use Rattle.erm_works.specs.Runs.{WorksAreARun}
 use Rattle.erm_works.specs.Works.{AreComplete, AreWorks, IsComplete, IsSplit}
 use Rattle.erm_works.proofs.Moves.{no_lines}
 use Rattle.erm_works.proofs.Places.{by_place, is_session, not_its, of_first, own_session, stays}
-use Rattle.erm_works.proofs.Plain.{IsPlain, of_session}
 use Rattle.erm_works.proofs.Sessions.{idle_there, no_session, whole_session}
 
 module _ (v f : View) (script : List ScriptLine) (parts : List (List ScriptLine)) (answers : List (List Answer)) (closed : List (Option Answer)) (merged : List Answer)
@@ -51,8 +50,7 @@ module _ (v f : View) (script : List ScriptLine) (parts : List (List ScriptLine)
   all_idle : (s : ℕ) → IsSession v s → phase_at f s ≡ Idle
   all_idle s session = by_place v f script parts answers closed split works s session.0 (phase_at f s ≡ Idle)
       (λ k lines own end is lines_at own_at end_at. subst (λ (x : ℕ). phase_at f x ≡ Idle) is
-      (idle_there f (k + 1) v lines own end (works.each k lines own end lines_at own_at end_at)
-      (subst (λ (x : ℕ). IsPlain v x) (sym is) (of_session _ v s (split.opened.idle s session) tt)) (complete k lines own lines_at own_at)))
+      (idle_there f (k + 1) v lines own end (works.each k lines own end lines_at own_at end_at) (complete k lines own lines_at own_at)))
       (λ behind. ap (λ (x : Session). phase_of x.stand) ((works.others s session behind).0 ∙ split.opened.idle s session))
 
   runs : IsRunAtOnce v script merged (closes_from 1 closed) f

@@ -5,12 +5,12 @@ use Rattle.std.proofs.lemmas.List.{append-nil}
 use Rattle.std.proofs.lemmas.Option.{slice_get_cases}
 use Rattle.erm_model.specs.declared.outcome.Phase.{Phase}
 use Rattle.erm_model.specs.declared.outcome.Phase.TheVariants.{Active, Idle, Sealed, Pending, Safe}
-use Rattle.erm_good_report.specs.Phases.{HasNoSnapshot}
 use Rattle.erm_report.specs.declared.answer.Answer.{Answer}
 use Rattle.erm_script.specs.declared.script.ScriptLine.{ScriptLine}
 use Rattle.erm_world.specs.World.{Session, View, phase_at, phase_of}
 use Rattle.erm_lines.specs.Executions.{Move, line_moves}
 use Rattle.erm_beside.specs.Calls.{Passes}
+use Rattle.erm_lines_at_once.specs.Answers.{DidEndBeside}
 use Rattle.erm_lines_at_once.specs.CutRuns.{IsCutPart, stood}
 use Rattle.erm_lines_at_once.specs.Executions.{IsOwnPart}
 use Rattle.erm_worker.specs.Laws.{HasOwn, IsAtEnd}
@@ -18,37 +18,32 @@ use Rattle.erm_worker.specs.Work.{RanLines, WasClosed}
 use Rattle.erm_worker.proofs.Parts.{closed as closed_part, given_up as aborted_part, left as left_part, whole as whole_part}
 use Rattle.erm_worker.proofs.Waits.{passes_itself, passes_phase}
 use Rattle.erm_threads.specs.Work.{WasEnded}
+use Rattle.erm_threads.proofs.Closed.{closed_idle}
 use Rattle.erm_joined.specs.Merged.{told_when_cut}
 use Rattle.erm_joined.proofs.Closes.{closing_of}
 use Rattle.erm_works.specs.Works.{DidSession, IsComplete}
 use Rattle.erm_works.proofs.Closings.{closing_cases}
-use Rattle.erm_works.proofs.Plain.{IsPlain, ended_plain, run_plain}
 
 -- it stands in the world in which all ended as it was left
 pub phase_there : (f : View) (seat : ℕ) (t : View) → IsAtEnd f seat t → phase_at t seat ≡ phase_at f seat
 phase_there f seat t at = ap (λ (s : Session). phase_of s.stand) at.own
 
-rests_idle : (p : Phase) → HasNoSnapshot p → (p ≡ Active → ⊥) → (p ≡ Sealed → ⊥) → p ≡ Idle
-rests_idle Idle plain active sealed = refl
-rests_idle Active plain active sealed = absurd (active refl)
-rests_idle Sealed plain active sealed = absurd (sealed refl)
-rests_idle Pending plain active sealed = absurd plain
-rests_idle Safe plain active sealed = absurd plain
-
--- it had no snapshot at first, and so has none there
-plain_there : (f : View) (seat : ℕ) (v : View) (lines : List ScriptLine) (answers : List Answer) (ended : Option Answer) → DidSession f seat v lines answers ended
-    → IsPlain v seat → length answers ≡ length lines → IsPlain f seat
-plain_there f seat v lines answers ended it plain all =
-    let did = it.did in
-    let ran = run_plain f seat (line_moves lines answers) v did.ran.last plain did.ran.run in
-    let before : IsPlain did.last seat = subst (λ (x : View). IsPlain x seat) (did.ran.whole all) ran in
-    let behind : IsPlain it.last seat = ended_plain (phase_at did.last seat) seat ended did.last it.last before (did.whole all) in
-    subst (λ (p : Phase). HasNoSnapshot p) (phase_there f seat it.last it.at_end) behind
+-- one that wasn't closed is idle behind its last line, or is sealed and waits
+unclosed_idle : (p : Phase) (seat : ℕ) (u t : View) → phase_at u seat ≡ p → (phase_at t seat ≡ Sealed → ⊥) → WasEnded p seat None u t → phase_at t seat ≡ Idle
+unclosed_idle Idle seat u t is decided (none, stays) = ap (λ (x : View). phase_at x seat) stays ∙ is
+unclosed_idle Active seat u t is decided (sealed, passes) = absurd (decided (passes_phase seat u t passes ∙ sealed))
+unclosed_idle Sealed seat u t is decided (sealed, passes) = absurd (decided (passes_phase seat u t passes ∙ sealed))
+unclosed_idle Pending seat u t is decided (sealed, passes) = absurd (decided (passes_phase seat u t passes ∙ sealed))
+unclosed_idle Safe seat u t is decided (sealed, passes) = absurd (decided (passes_phase seat u t passes ∙ sealed))
 
 pub idle_there : (f : View) (seat : ℕ) (v : View) (lines : List ScriptLine) (answers : List Answer) (ended : Option Answer) → DidSession f seat v lines answers ended
-    → IsPlain v seat → IsComplete f seat lines answers → phase_at f seat ≡ Idle
-idle_there f seat v lines answers ended did plain (all, decided) =
-    rests_idle (phase_at f seat) (plain_there f seat v lines answers ended did plain all) (λ active. did.rests (phase_there f seat did.last did.at_end ∙ active)) decided
+    → IsComplete f seat lines answers → phase_at f seat ≡ Idle
+idle_there f seat v lines answers (Some a) it (all, decided) =
+    sym (phase_there f seat it.last it.at_end) ∙ closed_idle f seat lines answers a v it.last it.did all
+idle_there f seat v lines answers None it (all, decided) =
+    let there = phase_there f seat it.last it.at_end in
+    let did = it.did in
+    sym there ∙ unclosed_idle (phase_at did.last seat) seat did.last it.last refl (λ sealed. decided (sym there ∙ sealed)) (did.whole all)
 
 -- WHOLE. All its lines were answered, and it doesn't wait.
 module _ (f : View) (seat : ℕ) (lines : List ScriptLine) (answers : List Answer) (v u t : View) (moves : List Move) (ran : RanLines f seat lines answers v u)
@@ -64,12 +59,8 @@ module _ (f : View) (seat : ℕ) (lines : List ScriptLine) (answers : List Answe
         (own ∙ ap (λ (o : Option Answer). line_moves lines answers ++ closing_of seat o) none ∙ append-nil (line_moves lines answers))
     was_ended Active ended own did = was_closed ended own did
     was_ended Sealed ended own did = was_closed ended own did
-    was_ended Pending ended own (none, stays) =
-        whole_part f seat lines answers v u t moves ran all (subst (λ (x : View). Passes seat u x) (sym stays) (passes_itself seat u)) at
-        (own ∙ ap (λ (o : Option Answer). line_moves lines answers ++ closing_of seat o) none ∙ append-nil (line_moves lines answers))
-    was_ended Safe ended own (none, stays) =
-        whole_part f seat lines answers v u t moves ran all (subst (λ (x : View). Passes seat u x) (sym stays) (passes_itself seat u)) at
-        (own ∙ ap (λ (o : Option Answer). line_moves lines answers ++ closing_of seat o) none ∙ append-nil (line_moves lines answers))
+    was_ended Pending ended own did = was_closed ended own did
+    was_ended Safe ended own did = was_closed ended own did
 
 pub whole_session : (f : View) (seat : ℕ) (v : View) (lines : List ScriptLine) (answers : List Answer) (ended : Option Answer) (moves : List Move) → DidSession f seat v lines answers ended
     → IsComplete f seat lines answers → HasOwn seat moves (line_moves lines answers ++ closing_of seat ended) → IsOwnPart f seat v moves
@@ -103,7 +94,9 @@ module _ (f : View) (seat : ℕ) (lines : List ScriptLine) (answers : List Answe
   cut_closed : (ended : Option Answer) → HasOwn seat moves (line_moves lines answers ++ closing_of seat (told_when_cut ended)) → WasClosed seat ended u t → IsCutPart f seat None v moves
   cut_closed None own did = from_part f seat None v moves (whole_part f seat lines answers v u t moves ran all did.1 at (waits None refl own))
   cut_closed (Some a) own did = elim (closing_cases (phase_at u seat) a did.fits) [
-    | inl aborted ↦ aborted_part f seat lines answers a v u t moves ran all aborted.0 did at (waits (Some a) aborted.1 own)
+    | inl aborted ↦
+        aborted_part f seat lines answers v u t moves ran all (subst (λ (x : Answer). DidEndBeside seat x u t) aborted did) at
+        (waits (Some a) (ap (λ (x : Answer). told_when_cut (Some x)) aborted) own)
     | inr decided ↦
         from_part f seat None v moves
         (closed_part f seat lines answers a v u t moves ran all did at (own ∙ ap (λ (o : Option Answer). line_moves lines answers ++ closing_of seat o) decided.1))
@@ -116,12 +109,8 @@ module _ (f : View) (seat : ℕ) (lines : List ScriptLine) (answers : List Answe
       (whole_part f seat lines answers v u t moves ran all (subst (λ (x : View). Passes seat u x) (sym stays) (passes_itself seat u)) at (waits ended (ap told_when_cut none) own))
   cut_ended Active ended own did = cut_closed ended own did
   cut_ended Sealed ended own did = cut_closed ended own did
-  cut_ended Pending ended own (none, stays) =
-      from_part f seat None v moves
-      (whole_part f seat lines answers v u t moves ran all (subst (λ (x : View). Passes seat u x) (sym stays) (passes_itself seat u)) at (waits ended (ap told_when_cut none) own))
-  cut_ended Safe ended own (none, stays) =
-      from_part f seat None v moves
-      (whole_part f seat lines answers v u t moves ran all (subst (λ (x : View). Passes seat u x) (sym stays) (passes_itself seat u)) at (waits ended (ap told_when_cut none) own))
+  cut_ended Pending ended own did = cut_closed ended own did
+  cut_ended Safe ended own did = cut_closed ended own did
 
 -- all were answered, or it was left behind the first ones
 pub cut_session : (f : View) (seat : ℕ) (v : View) (lines : List ScriptLine) (answers : List Answer) (ended : Option Answer) (moves : List Move) → DidSession f seat v lines answers ended

@@ -4,7 +4,7 @@ ghost use Rattle.erm_model.specs.declared.limits.TheConstants.{OID_LIMIT};
 ghost use Rattle.erm_model.specs.declared.outcome.Phase.TheVariants.{Idle, Pending, Safe};
 ghost use Rattle.erm_world.specs.Calls.{DidAbort, MayNotBegin};
 ghost use Rattle.erm_world.specs.Safe.{DidBeginSafe, DidNotSafe, DidSafe, DidSafeRead, HasSnapshot};
-ghost use Rattle.erm_world.specs.World.{IsSession, phase_at};
+ghost use Rattle.erm_world.specs.World.{IsSession, phase_at, work_at};
 
 use crate::RowWorld;
 use crate::stops::{BeginStop, SafeStop};
@@ -31,6 +31,13 @@ pub trait SafeWorld: RowWorld {
         ensures stands { Self.stands self.new }
         ensures ok { OnOk result (DidSafe (Self.view self.old) seat (Self.view self.new)) }
         ensures err { IfErr result (λ stop. DidNotSafe (Self.view self.old) seat stop (Self.view self.new)) };
+
+    /// The begin stamp of the snapshot, safe or not.
+    fn snapshot_begin(&self, seat: Seat) -> Stamp
+        requires stands { Self.stands self.now }
+        requires session { IsSession (Self.view self.now) seat }
+        requires snapshot { HasSnapshot (Self.view self.now) seat }
+        ensures { result ≡ (work_at (Self.view self.now) seat).begin };
 
     /// The row of an object as the safe snapshot sees it: the newest below its begin stamp.
     fn safe_read(&mut self, seat: Seat, oid: Oid) -> Row

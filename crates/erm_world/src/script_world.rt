@@ -2,10 +2,10 @@
 ghost use Rattle.erm_model.specs.RowTransaction.{SameLaw};
 ghost use Rattle.erm_world.specs.Whole.{IsLogOf, KeepsSessions};
 
-use crate::{LogWorld, RowWorld};
+use crate::{LogWorld, SafeWorld};
 
-/// A world of sessions whose log a flusher sees. Sessions and the flusher see one state of it.
-pub trait ScriptWorld: RowWorld + LogWorld {
+/// A world of sessions whose log a flusher sees. Its sessions may have snapshots that only read; sessions and the flusher see one state of it.
+pub trait ScriptWorld: SafeWorld + LogWorld {
     /// The sessions and the flusher speak of one law of rows.
     ghost one_law: { SameLaw Self.law Self.rows_law };
 

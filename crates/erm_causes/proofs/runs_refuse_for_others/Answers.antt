@@ -25,4 +25,4 @@ returns c =
       row = c.versions_are_unique.ensures.row;
       newest = c.versions_are_unique.ensures.newest;
     } in
-    runs_refuse tree laws c.begun_transactions_are_runs.ensures c.executions_tell_sessions.ensures c.executions_go_on.ensures c.claims_are_few.ensures
+    runs_refuse tree laws c.begun_transactions_are_runs.ensures c.answers_stay.ensures c.executions_tell_sessions.ensures c.executions_go_on.ensures c.claims_are_few.ensures

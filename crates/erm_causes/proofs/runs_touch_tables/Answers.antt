@@ -25,4 +25,4 @@ returns c =
       row = c.versions_are_unique.ensures.row;
       newest = c.versions_are_unique.ensures.newest;
     } in
-    runs_touch tree laws c.begun_transactions_are_runs.ensures
+    runs_touch tree laws c.begun_transactions_are_runs.ensures c.answers_stay.ensures

@@ -29,6 +29,7 @@ fn lead(answer: &Answer) -> &'static [u8]
 {
     match answer {
         Answer::Began(_) => b"begin ",
+        Answer::Safe(_) => b"safe ",
         Answer::Replied(Reply::Value(Some(_))) => b"value ",
         Answer::Replied(Reply::Value(None) | Reply::Pair(None)) => b"none",
         Answer::Replied(Reply::Done) => b"ok",
@@ -39,6 +40,7 @@ fn lead(answer: &Answer) -> &'static [u8]
         Answer::Committed { .. } => b"committed ",
         Answer::Excluded { .. } => b"excluded at ",
         Answer::Aborted => b"aborted",
+        Answer::Ended => b"ended",
         Answer::Durable(_) => b"durable ",
         Answer::Flushed(_) => b"flushed ",
         Answer::Empty(_) => b"empty ",
@@ -47,10 +49,13 @@ fn lead(answer: &Answer) -> &'static [u8]
         Answer::NoTransaction => b"no transaction",
         Answer::IsSealed => b"is sealed",
         Answer::NotSealed => b"not sealed",
+        Answer::ReadOnly => b"read only",
+        Answer::NotSafe => b"not safe",
         Answer::LogEnd { .. } => b"log end ",
         Answer::NumbersEnd => b"numbers end",
         Answer::WaitSeat { .. } => b"wait ",
         Answer::WaitRing { .. } => b"wait ring ",
+        Answer::Unsafe { .. } => b"unsafe ",
         Answer::Owned { .. } => b"owned ",
         Answer::Newer { .. } => b"newer ",
         Answer::ExcludedEarly { .. } => b"excluded succ ",
@@ -74,6 +79,7 @@ fn push_told(out: &mut Vec<u8>, words: &[u8], answer: &Answer) -> Result<(), All
 {
     match answer {
         Answer::Began(stamp)
+        | Answer::Safe(stamp)
         | Answer::Sealed(stamp)
         | Answer::Durable(stamp)
         | Answer::Flushed(stamp)
@@ -94,15 +100,19 @@ fn push_told(out: &mut Vec<u8>, words: &[u8], answer: &Answer) -> Result<(), All
         }
         Answer::ExcludedEarly { succ, pred } => push_two(out, words, *succ, b" pred ", *pred),
         Answer::WaitSeat { seat, seen } => push_two(out, words, u64::from(*seat), b" ", *seen),
+        Answer::Unsafe { seat, stamp } => push_two(out, words, u64::from(*seat), b" ", *stamp),
         Answer::Owned { seat, number } => {
             push_two(out, words, u64::from(*seat), b" ", u64::from(*number))
         }
         Answer::Replied(Reply::Value(None) | Reply::Pair(None) | Reply::Done)
         | Answer::Aborted
+        | Answer::Ended
         | Answer::NotIdle
         | Answer::NoTransaction
         | Answer::IsSealed
         | Answer::NotSealed
+        | Answer::ReadOnly
+        | Answer::NotSafe
         | Answer::NumbersEnd
         | Answer::ReadsFull
         | Answer::WritesFull

@@ -161,6 +161,7 @@ fn without_arguments(keyword: Keyword, words: Option<&[u8]>) -> Result<Command, 
     }
     match keyword {
         Keyword::Begin => Ok(Command::Begin),
+        Keyword::Safe => Ok(Command::Safe),
         Keyword::Seal => Ok(Command::Seal),
         Keyword::Settle => Ok(Command::Settle),
         Keyword::Commit => Ok(Command::Commit),

@@ -29,4 +29,4 @@ returns c =
     let given : Laws = limits.given histories (record { way = ways.way; met = ways.met; next = ways.next }) c.begun_transactions_are_runs.ensures in
     let keys : KeyLaws = key_laws c.nodes_are_read_back.ensures.record c.record_values.ensures.given c.record_values.ensures.found c.map_has_values_of_records.ensures.value c.nodes_are_read_back.ensures.found in
     λ v t script answers run i drawn e.
-    oids_full_of laws given keys c.begun_transactions_are_runs.ensures c.executions_tell_sessions.ensures v run.opened t script answers run i drawn e
+    oids_full_of laws given keys c.begun_transactions_are_runs.ensures c.answers_stay.ensures c.executions_tell_sessions.ensures v run.opened t script answers run i drawn e

@@ -34,5 +34,5 @@ returns c = λ v t script answers run closed opening are starts.
     tight_windows laws t v.opening.sessions (places_of script answers closed) (run_holds moves v t run.opened.serializable whole)
     (ap (λ (o : world.Opening). o.sessions) (sym same))
     (λ seat session. c.runs_tell_sessions.ensures v t script answers run closed are seat (session_before v t seat same session))
-    (λ seat session. run_marks v t script answers so_far closed are keys c.begun_transactions_are_runs.ensures seat (session_before v t seat same session))
+    (λ seat session. run_marks v t script answers so_far closed are keys c.begun_transactions_are_runs.ensures c.answers_stay.ensures seat (session_before v t seat same session))
     (run_orderly moves v t run.opened.serializable whole (opened_orderly v run.opened))

@@ -55,6 +55,7 @@ pub returns : goal.returns
 returns g c =
     let o = c.args.opened in
     let names = c.args.names.now in
+    let few = c.requires.script.few in
     let script = c.args.script.now in
     let mid = g.D.Disk.told c.args.disk in
     let store = c.run_script.new.store in
@@ -74,6 +75,8 @@ returns g c =
       courses = record { tell = c.executions_tell_sessions.ensures; go = c.executions_go_on.ensures; states = c.logs_tell_states.ensures; maps = maps };
       may = c.kept_images_may_open.ensures;
       one = c.serial_order_is_unique.ensures.unique_for_sessions;
+      orders = c.serial_order_is_unique.ensures.exists_for_sessions;
+      serial = c.runs_are_serial_with_snapshots.ensures;
       audits = record {
         logged = c.logs_have_the_commits_told.ensures;
         met = record { meet = c.recovery_meets_the_run.ensures; audit = c.audits_tell_the_commits.ensures; earlier = c.recovery_meets_earlier_blocks.ensures };
@@ -108,15 +111,15 @@ returns g c =
     record {
       ended = λ before state opens.
           subst (λ (e : Result (Vec Line Global) RunStop). EndsRun limits e before after names script) told
-          (ends laws limits state names v t begun log (opening_of o v) script o.slots store.slots before mid after (opened_on maps limits fits before mid state (length names) v begun o of_view opens)
+          (ends laws limits state names v t begun log (opening_of o v) script o.slots store.slots before mid after (opened_on maps limits fits before mid state (length names) v begun o few of_view opens)
           c.run_script.result stands logged did.stands by.moments by.acknowledged did.flushed by.tail did.ran did.cut by.starved);
       untold = λ before state opens.
           subst (λ (e : Result (Vec Line Global) RunStop). LeavesUntold limits e before after names script) told
-          (untold laws limits state names v t begun log (opening_of o v) script o.slots store.slots before mid after (opened_on maps limits fits before mid state (length names) v begun o of_view opens)
+          (untold laws limits state names v t begun log (opening_of o v) script o.slots store.slots before mid after (opened_on maps limits fits before mid state (length names) v begun o few of_view opens)
           c.run_script.result stands logged did.stands by.moments by.acknowledged did.ran did.cut by.starved);
       tables =
           subst AreInTables told
-          (tables laws limits found names v t begun log (opening_of o v) script o.slots store.slots start mid after (opened_on maps limits fits start mid found (length names) v begun o of_view was)
+          (tables laws limits found names v t begun log (opening_of o v) script o.slots store.slots start mid after (opened_on maps limits fits start mid found (length names) v begun o few of_view was)
           c.summaries_are_in_tables.ensures keys (λ l m. (c.requires.script.each l m).range) c.run_script.result did.ran did.cut);
       counts =
           subst (λ (e : Result (Vec Line Global) RunStop). CountsRun e (g.D.Disk.faults c.args.disk) (g.D.Disk.faults store.disk)) told

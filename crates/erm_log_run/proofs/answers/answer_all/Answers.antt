@@ -21,7 +21,7 @@ use Rattle.erm_log_run.proofs.Answering.{line_moves_front, line_moves_more}
 use Rattle.erm_log_run.proofs.Closing.{execution_more}
 use Rattle.erm_log_run.proofs.Leaving.{on_itself, on_then}
 use Rattle.erm_log_run.proofs.Lined.{line_of_too}
-use Rattle.erm_log_run.proofs.Serial.{serializable_too}
+use Rattle.erm_world.proofs.Serial.{serializable_too}
 use Rattle.erm_log_run.proofs.Older.{most_next, older_itself, removed_below, stay_more, stop_removes}
 use Rattle.erm_log_run.proofs.Saving.{saved_more}
 use Rattle.erm_log_run.proofs.Starving.{starved_behind, starved_so, stop_starves}

@@ -6,13 +6,13 @@ use Rattle.erm_outside.specs.Disk.{Step}
 use Rattle.erm_report.specs.declared.answer.Answer.{Answer}
 use Rattle.erm_node.specs.Sound.{sound_law}
 use Rattle.erm_world.specs.World.{Opening}
+use Rattle.erm_world.proofs.Serial.{serializable_too}
 use Rattle.erm_log_run.specs.Closing.{IsClosing}
 use Rattle.erm_log_run.specs.Keeping.{Keeper, keeper_of}
 use Rattle.erm_log_run.proofs.Closing.{flushed_too, none_closed}
 use Rattle.erm_log_run.proofs.Leaving.{SessionLaws, on_itself, on_then, session_keeps}
 use Rattle.erm_log_run.proofs.Older.{older_itself, older_later, older_then, stop_removes}
-use Rattle.erm_log_run.proofs.Progress.{all_idle, closed_plain, first_count, flushed_plain, idle_after, none_left, same_count, turn_taken}
-use Rattle.erm_log_run.proofs.Serial.{serializable_too}
+use Rattle.erm_log_run.proofs.Progress.{all_idle, first_count, idle_after, none_left, same_count, turn_taken}
 use Rattle.erm_log_run.proofs.Starving.{stop_starves}
 use Rattle.erm_log_run.proofs.Stopped.{stop_closes}
 use Rattle.erm_log_run.proofs.closes.close_all.Goals as goal
@@ -32,7 +32,6 @@ loop-init g c =
       many = ap (λ (xs : List (Option Answer)). length xs) none ∙ length-replicate n None;
       opening = refl;
       closing = subst (λ (xs : List (Option Answer)). IsClosing v n xs v) (sym none) (none_closed v n);
-      plain = c.requires.plain;
       counted = first_count n v;
       held = c.requires.held;
       keeps = on_itself g.W.LogWorld.rows_law.meets _;
@@ -60,7 +59,6 @@ loop-preserved g c =
     let serial = serializable_too g.W.RowWorld.law sound_law mid c.requires.law (g.met.W.RowWorld.serializable mid_world mid_stands) in
     let closing : IsClosing v n c.close_open.new.ends.items after = c.close_open.ensures.closing v (flushed_too v before mid n c.loop.ends.items kept.closing many did serial) in
     let same = same_count n before mid many did.session in
-    let plain_mid = flushed_plain before mid kept.plain did in
     let counted = kept.counted in
     let first : Keeper = keeper_of (g.W.LogWorld.log c.args.world.now) c.args.store.now (g.D.Disk.told c.args.store.now.disk) in
     let was : Keeper = keeper_of (g.W.LogWorld.log c.loop.world) c.loop.store (g.D.Disk.told c.loop.store.disk) in
@@ -79,8 +77,7 @@ loop-preserved g c =
       many = closing.many;
       opening = c.close_open.ensures.closed.opening ∙ did.opening ∙ kept.opening;
       closing = closing;
-      plain = closed_plain mid after plain_mid c.close_open.ensures.closed;
-      counted = turn_taken n c.loop.counter mid after many_mid plain_mid c.close_open.ensures.closed (omega (arith, same, counted)) c.loop-test.true;
+      counted = turn_taken n c.loop.counter mid after many_mid c.close_open.ensures.closed (omega (arith, same, counted)) c.loop-test.true;
       held = keeps.0;
       keeps = on_then law.meets first k m (on_then law.meets first was k kept.keeps flushes.1) keeps.1;
       slots = c.in_ok-flush_up.ensures.slots ∙ kept.slots;
@@ -165,7 +162,3 @@ pub returns-in_err-flush_up-2-clause-spared : goal.returns-in_err-flush_up-2-cla
 returns-in_err-flush_up-2-clause-spared g c =
     let p = err_from_is_err_and c.from_residual-in_err-flush_up-2.result c.from_residual-in_err-flush_up-2.ensures.1 in
     rw (p.1, p.2) (stop_starves (Unit {0}) (Vec (Option Answer) Global) c.in_err-flush_up-2.field-0.0 ⊥ (c.flush_up-2.new.store ≡ c.args.store.now) (λ no. absurd no) c.in_err-flush_up-2.ensures.fed)
-
-pub close_open-requires-clause-plain : goal.close_open-requires-clause-plain
-close_open-requires-clause-plain g c =
-    flushed_plain (g.W.RowWorld.view c.loop.world) (g.W.RowWorld.view c.flush_up.new.world) c.loop.invariant.plain c.in_ok-flush_up.ensures.flushed

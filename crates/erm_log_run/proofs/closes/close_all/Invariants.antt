@@ -1,6 +1,6 @@
 use Rattle.std.proofs.Common.{◌≡◌, ◌+◌, ◌≤◌, length}
 use Rattle.erm_outside.specs.Disk.{Tells}
-use Rattle.erm_log_run.specs.Closing.{IsClosing, NoSnapshots, count_open}
+use Rattle.erm_log_run.specs.Closing.{IsClosing, count_open}
 use Rattle.erm_log_run.specs.Keeping.{IsHeld, KeepsOn, keeper_of}
 use Rattle.erm_log_run.specs.Saving.{AreRemoved}
 use Rattle.erm_log_run.proofs.closes.close_all.Given as goal
@@ -12,7 +12,6 @@ invariant-loop g l = record {
   many : length l.ends.items ≡ l.sessions;
   opening : (g.W.RowWorld.view l.world).opening ≡ (g.W.RowWorld.view l.fn.world).opening;
   closing : IsClosing (g.W.RowWorld.view l.fn.world) l.sessions l.ends.items (g.W.RowWorld.view l.world);
-  plain : NoSnapshots (g.W.RowWorld.view l.world);
   counted : count_open l.sessions (g.W.RowWorld.view l.world).session + l.counter ≤ l.sessions;
   held : IsHeld g.W.LogWorld.rows_law.meets (keeper_of (g.W.LogWorld.log l.world) l.store (g.D.Disk.told l.store.disk));
   keeps : KeepsOn g.W.LogWorld.rows_law.meets (keeper_of (g.W.LogWorld.log l.fn.world) l.fn.store (g.D.Disk.told l.fn.store.disk)) (keeper_of (g.W.LogWorld.log l.world) l.store (g.D.Disk.told l.store.disk));

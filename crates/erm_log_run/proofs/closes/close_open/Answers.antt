@@ -9,13 +9,13 @@ use Rattle.erm_lines.specs.Executions.{DidEnd}
 use Rattle.std.proofs.lemmas.List.{length-set}
 use Rattle.erm_node.specs.Sound.{sound_law}
 use Rattle.erm_world.specs.World.{phase_at}
+use Rattle.erm_world.proofs.Serial.{serializable_too}
 use Rattle.erm_crash.specs.Kept.{LeavesLog}
 use Rattle.erm_told.proofs.Lines.{turn_end}
 use Rattle.erm_log_run.specs.Closing.{IsClosing}
 use Rattle.erm_log_run.proofs.Closing.{closed_too}
 use Rattle.erm_log_run.proofs.Leaving.{leaves_itself, leaves_then, turn_leaves}
-use Rattle.erm_log_run.proofs.Passing.{end_leaves, none_passed, passed_closed, passed_plain, passed_waits}
-use Rattle.erm_log_run.proofs.Serial.{serializable_too}
+use Rattle.erm_log_run.proofs.Passing.{end_leaves, none_passed, passed_closed, passed_waits}
 use Rattle.erm_log_run.proofs.closes.close_open.Goals as goal
 use Rattle.erm_log_run.proofs.closes.close_open.Goals.{in-Ok, in_default-close_session}
 
@@ -59,13 +59,3 @@ loop-place-preserved g c =
             subst (LeavesLog first) (sym same) kept.4,
           )
     ]
-
--- the sessions that were passed are as they were, or idle
-pub close_session-requires-clause-plain : goal.close_session-requires-clause-plain
-close_session-requires-clause-plain g c =
-    let first = g.W.RowWorld.view c.args.world.now in
-    let before = g.W.RowWorld.view c.loop-place.world in
-    let k = c.loop-place.place in
-    let less = c.loop-place-test.true in
-    let many = c.requires.sessions in
-    passed_plain first before k (k + 1) c.requires.plain c.loop-place.invariant.2 (omega arith, omega (arith, less, many))

@@ -14,7 +14,7 @@ use Rattle.erm_log_run.proofs.Lined.{checkpoint_moved, flush_moved, log_line, na
 use Rattle.erm_log_run.proofs.Older.{session_older}
 use Rattle.erm_log_run.proofs.Receipts.{receipts_stay}
 use Rattle.erm_log_run.proofs.Saving.{session_removes, session_saved}
-use Rattle.erm_log_run.proofs.Serial.{serializable_too}
+use Rattle.erm_world.proofs.Serial.{serializable_too}
 use Rattle.erm_log_run.proofs.Starving.{starved_weaker}
 use Rattle.erm_log_run.proofs.Stopped.{fails_of_log, ok_then}
 use Rattle.erm_log_run.proofs.lines.run_line.Goals as goal

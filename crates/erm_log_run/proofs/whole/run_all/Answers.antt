@@ -16,7 +16,6 @@ use Rattle.erm_log_run.proofs.Starving.{starved_behind, starved_first, starved_s
 use Rattle.erm_log_run.proofs.Stopped.{stop_counts, stop_keeps}
 use Rattle.erm_log_run.proofs.Told.{stop_told_too, told_then}
 use Rattle.erm_log_run.proofs.whole.run_all.Goals as goal
-use Rattle.erm_log_run.proofs.Progress.{told_plain}
 
 pub answer_all-requires-clause-runs : goal.answer_all-requires-clause-runs
 answer_all-requires-clause-runs g c = λ seat session active.
@@ -53,8 +52,6 @@ close_all-requires g c = record {
   stands = c.answer_all.ensures.stands;
   law = c.requires.law;
   sessions = ap (λ (o : Opening). o.sessions) c.in_ok-answer_all.ensures.ran.1 ∙ c.requires.sessions;
-  plain = told_plain c.executions_tell_sessions.ensures (g.W.RowWorld.view c.args.world.now) (g.W.RowWorld.view c.answer_all.new.world) c.requires.opened
-      c.in_ok-answer_all.ensures.ran.1 _ c.in_ok-answer_all.ensures.ran.2;
   held = c.in_ok-answer_all.ensures.keeps.0;
 }
 

@@ -107,7 +107,9 @@ returns-in-Ok g c =
       closes = c.runs_close_sessions.ensures;
       stamps = c.runs_have_stamps.ensures;
       snapshots = c.runs_have_snapshots.ensures;
-      serial = c.runs_are_serial.ensures;
+      safe = c.runs_have_safe_snapshots.ensures;
+      serial = c.runs_are_serial_with_snapshots.ensures;
+      orders = c.serial_order_is_unique.ensures.exists_for_sessions;
       causes = c.runs_have_causes.ensures;
       refusals = c.runs_refuse_with_cause.ensures;
       windows = c.runs_have_tight_windows.ensures;
@@ -116,7 +118,7 @@ returns-in-Ok g c =
     let moments = moments_of sound k m keeps.1 kept in
     record {
       stands = c.run_all.ensures.stands;
-      ran = (was, (λ fits. told_tight laws v t script opening is names c.requires.sessions lines was fits), c.in-Ok.ensures.saves, c.in-Ok.ensures.older);
+      ran = (was, (λ fits. told_tight laws v t script opening is names c.requires.sessions c.requires.few lines was fits), c.in-Ok.ensures.saves, c.in-Ok.ensures.older);
       flushed = ran.3;
       holds = keeps.0.holds;
       tail = keeps.1.tail;
@@ -180,6 +182,7 @@ returns-in-Err-DiskFault g c =
       phases = c.parts_have_phases.ensures;
       stamps = c.parts_have_stamps.ensures;
       snapshots = c.parts_have_snapshots.ensures;
+      safe = c.parts_have_safe_snapshots.ensures;
       causes = c.parts_have_causes.ensures;
       refusals = c.parts_refuse_with_cause.ensures;
     } in

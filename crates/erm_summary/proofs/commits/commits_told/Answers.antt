@@ -1,9 +1,9 @@
 use Rattle.std.proofs.Common.{◌≡◌, ◌+◌, length, map, ap, ◌∙◌}
 use Rattle.std.proofs.lemmas.Result.{IfOk-weaker}
-use Rattle.erm_good_report.specs.GoodReport.{places_of}
-use Rattle.erm_good_report.specs.Transactions.{said_of, history_of, transactions_of}
+use Rattle.erm_good_report.specs.GoodReport.{places_of, serial_of}
+use Rattle.erm_good_report.specs.Transactions.{said_of}
 use Rattle.erm_summary.specs.Told.{closed_of, history_told}
-use Rattle.erm_summary.proofs.Seats.{all_histories}
+use Rattle.erm_summary.proofs.Seats.{all_placed}
 use Rattle.erm_summary.proofs.commits.commits_told.Goals as goal
 
 pub hear_closes-requires : goal.hear_closes-requires
@@ -21,4 +21,4 @@ returns c =
     let follow = c.in_ok-hear_closes.ensures.follows script answers (said_of script answers) (c.in_ok-hear_lines.ensures.follows (c.in_ok-heard.ensures.follows script answers)) in
     let count : length sessions ≡ c.args.sessions = c.in_ok-hear_closes.ensures.count ∙ c.in_ok-hear_lines.ensures.count ∙ c.in_ok-heard.ensures.count in
     IfOk-weaker c.gather.result _ _ (λ commits is.
-    ap (history_told script answers) is ∙ all_histories script answers places 1 sessions follow ∙ ap (λ n. history_of (transactions_of n places)) count) c.gather.ensures
+    ap (history_told script answers) is ∙ all_placed script answers places sessions follow ∙ ap (λ n. serial_of n places) count) c.gather.ensures

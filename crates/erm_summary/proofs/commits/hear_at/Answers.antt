@@ -5,7 +5,7 @@ use Rattle.erm_summary.proofs.commits.hear_at.Goals as goal
 use Rattle.erm_summary.proofs.commits.hear_at.Goals.{then-number-eq0-via-then-number-eq0, then-number-eq0-via-else-number-eq0+then-number-len}
 
 pub returns-then-number-eq0-clause-follows : goal.returns-then-number-eq0-clause-follows
-returns-then-number-eq0-clause-follows c script answers said asked is each =
+returns-then-number-eq0-clause-follows c script answers said asked is asks each =
     other_seats script answers said (record { session = c.args.seat; asked = asked; answer = c.args.answer.now }) 1 c.args.heard.now.items
     (elim c.then-number-eq0.branch [
       | then-number-eq0-via-then-number-eq0 w ↦ λ low high. omega (arith, low, c.from-number.ensures, w.if-number-eq0.true)
@@ -26,9 +26,9 @@ returns-clause-follows c =
     let within : c.from-number.result - 1 < length c.args.heard.now.items = omega (arith, c.if-number-eq0.false, c.if-number-len.false, c.len.ensures, c.args.heard.now.ok.0) in
     let place : c.args.seat ≡ 1 + (c.from-number.result - 1) = omega (arith, c.from-number.ensures, c.if-number-eq0.false) in
     both_ok c.hear.result
-    (λ goes same script answers said asked is each.
+    (λ goes same script answers said asked is asks each.
     own_seat script answers said (record { session = c.args.seat; asked = asked; answer = c.args.answer.now }) 1 (c.from-number.result - 1) c.args.heard.now.items c.index_mut.result.now c.hear.new.self within
-    (sym c.index_mut.ensures.value) place (λ p before. goes script answers asked p is before) same each)
+    (sym c.index_mut.ensures.value) place (λ p before. goes script answers asked p is asks before) same each)
     c.hear.ensures.follows c.hear.ensures.seat
 
 pub returns-clause-room : goal.returns-clause-room

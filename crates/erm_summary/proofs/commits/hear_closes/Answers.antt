@@ -29,7 +29,7 @@ loop-close-preserved c =
       follows = λ script answers said each.
           subst (λ more. FollowEach script answers more 1 c.hear_at.new.heard.items)
           (append_assoc said (closes_of (map closed_of (take i closed))) (place (closed_of close) ∷ []) ∙ ap (λ more. said ++ more) (sym longer))
-          (now.follows script answers (said ++ closes_of (map closed_of (take i closed))) None refl (before.follows script answers said each));
+          (now.follows script answers (said ++ closes_of (map closed_of (take i closed))) None refl refl (before.follows script answers said each));
       room = λ rest left. now.room rest (before.room (rest + 1) (omega (arith, left)));
       count = now.count ∙ before.count;
     }

@@ -43,7 +43,7 @@ loop-place-preserved c =
             follows = λ each.
                 subst (λ ss. FollowEach script answers (take (i + 1) (said_of script answers)) 1 ss) (sym items)
                 (subst (λ said. FollowEach script answers said 1 w.hear_at.new.heard.items) (sym longer)
-                (now.follows script answers (take i (said_of script answers)) (Some line.command) (line, here, told, refl) (before.follows each)));
+                (now.follows script answers (take i (said_of script answers)) (Some line.command) (line, here, told, refl) (sym w.asks_safe-asks.ensures) (before.follows each)));
             room = λ more rest left room.
                 subst (HaveRoom (rest + more)) (sym items)
                 (now.room (rest + more) (subst (λ n. HaveRoom n c.loop-place.heard.items) (omega arith) (before.room more (rest + 1) (omega (arith, left)) room)));

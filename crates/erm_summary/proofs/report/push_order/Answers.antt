@@ -23,7 +23,7 @@ loop-place-preserved c =
           let at = slice_get_read commits (length commits) p commit refl (ltb-true p (length commits) (sym w.in-Some.ensures.lookup.0)) w.in-Some.ensures.lookup.1 in
           commit_more names commits order i commit first c.loop-place.lines.items c.match-get.lines.items head c.loop-place-test.true at c.loop-place.invariant
           (ap (λ (v : Vec Line Global). v.items) w.lines-is ∙ w.in_ok-push-2.ensures.items
-          ∙ ap (λ name. c.loop-place.lines.items ++ line.Commit name commit.number commit.stamp commit.succ commit.pred ∷ []) w.name.ensures)
+          ∙ ap (λ (one : Line). c.loop-place.lines.items ++ one ∷ []) w.line_of.ensures)
       | in_default w ↦
           let past = slice_get_past commits p (ltb-false p (length commits) (sym w.in_default.ensures.lookup.0)) in
           ap (λ (v : Vec Line Global). v.items) w.lines-is

@@ -1,13 +1,78 @@
-use Rattle.std.proofs.Common.{Option, sym, subst}
+use Rattle.std.proofs.Common.{Option, sym, ap, subst}
 use Rattle.std.proofs.lemmas.Result.{IfOk-weaker}
 use Rattle.erm_report.specs.declared.answer.Answer.{Answer}
 use Rattle.erm_script.specs.declared.script.Command.{Command}
+use Rattle.erm_script.specs.declared.script.Command.TheVariants as command
 use Rattle.erm_world.specs.World.{View, phase_at}
-use Rattle.erm_lines_at_once.specs.Answers.{WasAnsweredBeside}
+use Rattle.erm_good_report.specs.Phases.{NeedsAny, NeedsReader, NeedsWriter, need_of}
+use Rattle.erm_lines.proofs.Watched.{active_in, idle_where, operates, settle_where, start_where}
+use Rattle.erm_lines_at_once.specs.Answers.{TriedSnapshot, WasAnsweredBeside}
 use Rattle.erm_lines_at_once.specs.Operations.{TriedOnce}
-use Rattle.erm_turn_cases.specs.Turns.{WasTried}
-use Rattle.erm_turn_cases.proofs.Kept.{aborted_now, begun_now, operation_tried, sealed_now}
+use Rattle.erm_turn_cases.specs.Turns.{IsRunNow, WasTried}
+use Rattle.erm_turn_cases.proofs.Kept.{aborted_now, begun_now, on_ok_of, operation_tried, sealed_now}
+use Rattle.erm_turn_cases.proofs.Watching.{snapshot_runs_now, snapshot_tried}
 use Rattle.erm_turn_cases.proofs.lines.run.Goals as goal
+
+-- THE PHASES
+pub begin-requires-clause-idle : goal.begin-requires-clause-idle
+begin-requires-clause-idle g c = idle_where (phase_at (g.S.SharedSession.own c.args.session.now) (g.S.SharedSession.seat c.args.session.now)) c.args.command.now c.requires.allowed c.in-Begin.is
+
+pub begin_snapshot-requires-clause-idle : goal.begin_snapshot-requires-clause-idle
+begin_snapshot-requires-clause-idle g c =
+    start_where (phase_at (g.S.SharedSession.own c.args.session.now) (g.S.SharedSession.seat c.args.session.now)) c.args.command.now c.requires.allowed c.in-Safe.is c.requires.plain
+
+pub seal-requires-clause-active : goal.seal-requires-clause-active
+seal-requires-clause-active g c =
+    active_in (phase_at (g.S.SharedSession.own c.args.session.now) (g.S.SharedSession.seat c.args.session.now)) c.args.command.now NeedsWriter (ap need_of c.in-Seal.is) tt c.requires.plain c.requires.allowed
+
+pub seal-requires-clause-ran : goal.seal-requires-clause-ran
+seal-requires-clause-ran g c =
+    c.requires.ran (active_in (phase_at (g.S.SharedSession.own c.args.session.now) (g.S.SharedSession.seat c.args.session.now)) c.args.command.now NeedsWriter (ap need_of c.in-Seal.is) tt c.requires.plain c.requires.allowed)
+
+pub settle-requires-clause-sealed : goal.settle-requires-clause-sealed
+settle-requires-clause-sealed g c = settle_where (phase_at (g.S.SharedSession.own c.args.session.now) (g.S.SharedSession.seat c.args.session.now)) c.args.command.now c.requires.allowed c.in-Settle.is
+
+pub commit-requires-clause-active : goal.commit-requires-clause-active
+commit-requires-clause-active g c =
+    active_in (phase_at (g.S.SharedSession.own c.args.session.now) (g.S.SharedSession.seat c.args.session.now)) c.args.command.now NeedsReader (ap need_of c.in-Commit.is) tt c.requires.plain c.requires.allowed
+
+pub commit-requires-clause-ran : goal.commit-requires-clause-ran
+commit-requires-clause-ran g c =
+    c.requires.ran (active_in (phase_at (g.S.SharedSession.own c.args.session.now) (g.S.SharedSession.seat c.args.session.now)) c.args.command.now NeedsReader (ap need_of c.in-Commit.is) tt c.requires.plain c.requires.allowed)
+
+pub abort-requires-clause-active : goal.abort-requires-clause-active
+abort-requires-clause-active g c =
+    active_in (phase_at (g.S.SharedSession.own c.args.session.now) (g.S.SharedSession.seat c.args.session.now)) c.args.command.now NeedsAny (ap need_of c.in-Abort.is) tt c.requires.plain c.requires.allowed
+
+pub operate-requires : goal.operate-requires
+operate-requires g c =
+    let phase = phase_at (g.S.SharedSession.own c.args.session.now) (g.S.SharedSession.seat c.args.session.now) in
+    let it = operates c.args.command.now c.requires.asks c.in_default.not-Begin c.in_default.not-Safe c.in_default.not-Seal c.in_default.not-Settle c.in_default.not-Commit c.in_default.not-Abort in
+    let active = active_in phase c.args.command.now it.need it.needs it.of c.requires.plain c.requires.allowed in
+    record { law = c.requires.law; stands = c.requires.stands; active = active; ran = c.requires.ran active; named = it.named; table = c.requires.table }
+
+-- A SNAPSHOT
+pub returns-in-Safe-clause-ran : goal.returns-in-Safe-clause-ran
+returns-in-Safe-clause-ran g c =
+    let seat = g.S.SharedSession.seat c.args.session.now in
+    let v = g.S.SharedSession.own c.args.session.now in
+    let after = c.begin_snapshot.new.session in
+    let some = g.met.S.SharedSession.some c.args.shared.now after c.begin_snapshot.ensures.stands in
+    on_ok_of c.begin_snapshot.result (λ (tried : Option Answer). (f : View) → g.S.SharedSession.ends after f → TriedSnapshot f seat tried v (g.S.SharedSession.own after))
+    (IsRunNow ((g.S.SharedSession.own after).session seat))
+    (λ tried was. snapshot_runs_now some.0 seat tried v (g.S.SharedSession.own after) c.requires.ran (was some.0 some.1)) c.begin_snapshot.ensures.tried
+
+pub returns-in-Safe-clause-tried : goal.returns-in-Safe-clause-tried
+returns-in-Safe-clause-tried g c =
+    let seat = g.S.SharedSession.seat c.args.session.now in
+    let v = g.S.SharedSession.own c.args.session.now in
+    let after = c.begin_snapshot.new.session in
+    IfOk-weaker c.begin_snapshot.result (λ (tried : Option Answer). (f : View) → g.S.SharedSession.ends after f → TriedSnapshot f seat tried v (g.S.SharedSession.own after))
+    (λ (tried : Option Answer). (f : View) → g.S.SharedSession.ends after f → WasTried f seat c.args.command.now tried v (g.S.SharedSession.own after))
+    (λ tried was f end. subst (λ (x : Command). WasTried f seat x tried v (g.S.SharedSession.own after)) (sym c.in-Safe.is) (snapshot_tried f seat tried v (g.S.SharedSession.own after) (was f end)))
+    c.begin_snapshot.ensures.tried
+
+-- THE OTHERS
 
 pub returns-in_ok-begin-in-Begin-clause-ran : goal.returns-in_ok-begin-in-Begin-clause-ran
 returns-in_ok-begin-in-Begin-clause-ran g c =
@@ -47,6 +112,6 @@ returns-in_default g c =
       ran = c.operate.ensures.ran;
       tried = IfOk-weaker c.operate.result (λ (tried : Option Answer). (f : View) → g.S.SharedSession.ends after f → TriedOnce f seat c.args.command.now tried before (g.S.SharedSession.own after))
           (λ (tried : Option Answer). (f : View) → g.S.SharedSession.ends after f → WasTried f seat c.args.command.now tried before (g.S.SharedSession.own after))
-          (λ tried was f end. operation_tried f seat c.args.command.now tried before (g.S.SharedSession.own after) (phase_at before seat) c.requires.phase
-          c.in_default.not-Begin c.in_default.not-Seal c.in_default.not-Settle c.in_default.not-Commit c.in_default.not-Abort (was f end)) c.operate.ensures.tried;
+          (λ tried was f end. operation_tried f seat c.args.command.now tried before (g.S.SharedSession.own after) c.requires.asks
+          c.in_default.not-Begin c.in_default.not-Safe c.in_default.not-Seal c.in_default.not-Settle c.in_default.not-Commit c.in_default.not-Abort (was f end)) c.operate.ensures.tried;
     }

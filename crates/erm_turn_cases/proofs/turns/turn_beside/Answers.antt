@@ -7,3 +7,10 @@ returns-clause-later g c =
     let stands = c.try_line-tried.ensures.stands in
     let here = g.W.RowWorld.view after.world in
     (c.try_line-tried.ensures.onward.ends_so here (ends_itself g.W.RowWorld.law here after.seat stands.1 (g.met.W.RowWorld.serializable after.world stands.0))).1
+
+pub returns-clause-moves : goal.returns-clause-moves
+returns-clause-moves g c =
+    let after = c.try_line-tried.new.session in
+    let stands = c.try_line-tried.ensures.stands in
+    let here = g.W.RowWorld.view after.world in
+    (c.try_line-tried.ensures.onward.ends_so here (ends_itself g.W.RowWorld.law here after.seat stands.1 (g.met.W.RowWorld.serializable after.world stands.0))).3

@@ -1,8 +1,9 @@
-use Rattle.std.proofs.Common.{◌≡◌, ◌∙◌, ◌==◌, ap, cond, subst, Some, None}
+use Rattle.std.proofs.Common.{◌≡◌, ◌∙◌, ◌==◌, ap, cond, subst, sym, Some, None}
+use Rattle.std.specs.Option.{option_map}
 use Rattle.erm_report.specs.declared.answer.Answer.TheVariants as answer
-use Rattle.erm_good_report.specs.Transactions.{Aborts, Excludes, Progress, ended, goes_on, heard}
+use Rattle.erm_good_report.specs.Transactions.{Aborts, Excludes, Progress, ended, goes_on, heard, own_snapshot, with_begin, with_line}
 use Rattle.erm_explain.specs.Books.{HasProgress}
-use Rattle.erm_explain.proofs.Moving.{goes_besides, twice}
+use Rattle.erm_explain.proofs.Moving.{begun_so, ended_so, goes_besides, heard_so, looked, twice, waits_still, went_on}
 use Rattle.erm_explain.proofs.books.Books.hear.Goals as goal
 
 pub returns-in-Began-clause-heard : goal.returns-in-Began-clause-heard
@@ -31,7 +32,7 @@ returns-in_ok-end-in-ExcludedEarly-clause-heard c script answers at told s p has
     rw c.in-ExcludedEarly.is
     (subst (λ (q : Progress). HasProgress script answers c.end-in-ExcludedEarly.new.self s q)
     (twice (line.session == s) (ended (Excludes None c.in-ExcludedEarly.succ c.in-ExcludedEarly.pred)) (goes_on (Some line.command) a) p)
-    (c.in_ok-end-in-ExcludedEarly.ensures.ends script answers s _ noted))
+    (c.in_ok-end-in-ExcludedEarly.ensures.ends script answers s _ (went_on script answers c.note-in-ExcludedEarly.new.self s (line.session == s) line.command a p (looked (Some line.command) a p.snapshot) noted)))
 
 pub returns-in_ok-end-in-Owned-clause-heard : goal.returns-in_ok-end-in-Owned-clause-heard
 returns-in_ok-end-in-Owned-clause-heard c script answers at told s p has =
@@ -41,7 +42,7 @@ returns-in_ok-end-in-Owned-clause-heard c script answers at told s p has =
     rw c.in-Owned.is
     (subst (λ (q : Progress). HasProgress script answers c.end-in-Owned.new.self s q)
     (twice (line.session == s) (ended Aborts) (goes_on (Some line.command) a) p)
-    (c.in_ok-end-in-Owned.ensures.ends script answers s _ noted))
+    (c.in_ok-end-in-Owned.ensures.ends script answers s _ (went_on script answers c.note-in-Owned.new.self s (line.session == s) line.command a p (looked (Some line.command) a p.snapshot) noted)))
 
 pub returns-in_ok-end-in-Newer-clause-heard : goal.returns-in_ok-end-in-Newer-clause-heard
 returns-in_ok-end-in-Newer-clause-heard c script answers at told s p has =
@@ -51,15 +52,50 @@ returns-in_ok-end-in-Newer-clause-heard c script answers at told s p has =
     rw c.in-Newer.is
     (subst (λ (q : Progress). HasProgress script answers c.end-in-Newer.new.self s q)
     (twice (line.session == s) (ended Aborts) (goes_on (Some line.command) a) p)
-    (c.in_ok-end-in-Newer.ensures.ends script answers s _ noted))
+    (c.in_ok-end-in-Newer.ensures.ends script answers s _ (went_on script answers c.note-in-Newer.new.self s (line.session == s) line.command a p (looked (Some line.command) a p.snapshot) noted)))
 
 pub returns-in_ok-note-in_default-clause-heard : goal.returns-in_ok-note-in_default-clause-heard
 returns-in_ok-note-in_default-clause-heard c script answers at told s p has =
     let line = c.args.line.now in
     let o = c.in_default in
-    let same : goes_on (Some line.command) c.args.answer.now p ≡ heard line.session (Some line.command) c.args.answer.now p =
-    goes_besides line.session (Some line.command) c.args.answer.now p o.not-Began o.not-Sealed o.not-Committed o.not-Excluded o.not-ExcludedEarly o.not-Owned o.not-Newer
-    o.not-Aborted o.not-NotIdle o.not-NoTransaction o.not-IsSealed o.not-NotSealed
-    in
-    subst (λ (q : Progress). HasProgress script answers c.note-in_default.new.self s (cond (line.session == s) q p)) same
+    heard_so script answers c.note-in_default.new.self s (line.session == s) line.session line.command c.args.answer.now p
+    (goes_besides script answers c.note-in_default.new.self s line.session line.command c.args.answer.now p o.not-Began o.not-Sealed o.not-Committed o.not-Excluded o.not-ExcludedEarly o.not-Owned o.not-Newer
+    o.not-Aborted o.not-NotIdle o.not-NoTransaction o.not-IsSealed o.not-NotSealed o.not-ReadOnly o.not-NotSafe o.not-Safe o.not-WaitSeat o.not-Unsafe o.not-Ended)
     (c.in_ok-note-in_default.ensures.notes script answers c.args.answer.now at told s p has)
+
+pub returns-in-Safe-clause-heard : goal.returns-in-Safe-clause-heard
+returns-in-Safe-clause-heard c script answers at told s p has =
+    rw c.in-Safe.is (c.watch.ensures.watches script answers (λ q. with_begin c.in-Safe.field-0 (own_snapshot q)) s p has)
+
+pub returns-then-asks_safe-clause-heard : goal.returns-then-asks_safe-clause-heard
+returns-then-asks_safe-clause-heard c script answers at told s p has =
+    let line = c.args.line.now in
+    let a = answer.WaitSeat c.in-WaitSeat.seat c.in-WaitSeat.seen in
+    let noted = c.in_ok-note-in-WaitSeat.ensures.notes script answers a at (told ∙ ap Some c.in-WaitSeat.is) s p has in
+    rw c.in-WaitSeat.is
+    (begun_so script answers c.watch-then-asks_safe.new.self s (line.session == s) c.in-WaitSeat.seat c.in-WaitSeat.seen line.command p (sym c.asks_safe.ensures ∙ c.if-asks_safe.true)
+    (subst (λ (q : Progress). HasProgress script answers c.watch-then-asks_safe.new.self s q)
+    (twice (line.session == s) (λ q. record q { snapshot = Some (own_snapshot q) }) (λ q. record q { current = option_map (with_line (Some line.command) a) q.current }) p)
+    (c.watch-then-asks_safe.ensures.watches script answers own_snapshot s _ noted)))
+
+pub returns-else-asks_safe-clause-heard : goal.returns-else-asks_safe-clause-heard
+returns-else-asks_safe-clause-heard c script answers at told s p has =
+    let line = c.args.line.now in
+    let a = answer.WaitSeat c.in-WaitSeat.seat c.in-WaitSeat.seen in
+    let noted = c.in_ok-note-in-WaitSeat.ensures.notes script answers a at (told ∙ ap Some c.in-WaitSeat.is) s p has in
+    rw c.in-WaitSeat.is
+    (went_on script answers c.note.new.self s (line.session == s) line.command a p
+    (waits_still c.in-WaitSeat.seat c.in-WaitSeat.seen line.command p (sym c.asks_safe.ensures ∙ c.if-asks_safe.false)) noted)
+
+pub returns-in_ok-end-in-Unsafe-clause-heard : goal.returns-in_ok-end-in-Unsafe-clause-heard
+returns-in_ok-end-in-Unsafe-clause-heard c script answers at told s p has =
+    let line = c.args.line.now in
+    rw c.in-Unsafe.is
+    (subst (λ (q : Progress). HasProgress script answers c.end.new.self s q)
+    (twice (line.session == s) (ended Aborts) (λ q. record q { snapshot = Some (own_snapshot q) }) p)
+    (c.in_ok-end-in-Unsafe.ensures.ends script answers s _ (c.watch-in-Unsafe.ensures.watches script answers own_snapshot s p has)))
+
+pub returns-in_ok-end-in-Ended-clause-heard : goal.returns-in_ok-end-in-Ended-clause-heard
+returns-in_ok-end-in-Ended-clause-heard c script answers at told s p has =
+    rw c.in-Ended.is
+    (ended_so script answers c.end-in-Ended.new.self s (c.args.line.now.session == s) Aborts p (c.in_ok-end-in-Ended.ensures.ends script answers s p has))

@@ -33,7 +33,7 @@ returns-in_ok-push-clause-notes c script answers answer at told =
     (subst (λ (i : ℕ). i < length current) c.from-seat.ensures within)
     (subst (λ (i : ℕ). get_or current i None ≡ Some c.in-Some.told) c.from-seat.ensures here)
     (ap (λ (i : ℕ). set current i (Some after)) c.from-seat.ensures)
-    refl refl
+    refl refl refl
     (line_more script answers line c.args.place answer c.in-Some.told after at told named refl refl refl refl refl c.in_ok-push.ensures.items)
 
 pub returns-in_ok-push-clause-placed : goal.returns-in_ok-push-clause-placed

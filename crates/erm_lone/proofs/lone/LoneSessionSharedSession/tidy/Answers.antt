@@ -7,11 +7,11 @@ use Rattle.erm_world.proofs.Commits.{tells_commits}
 use Rattle.erm_beside.specs.Calls.{After, NotClaimedBeside}
 use Rattle.erm_lone.proofs.Meets.{met_err}
 use Rattle.erm_lone.proofs.Leaves.{wrote_leaves, stays}
-use Rattle.erm_lone.proofs.Moves.{wrote_later, at_once, if_err, onward, refused_err}
+use Rattle.erm_lone.proofs.Moves.{wrote_next, at_once, if_err, onward, refused_err}
 use Rattle.erm_lone.proofs.lone.LoneSessionSharedSession.tidy.Goals as goal
 
 pub returns-clause-onward : goal.returns-clause-onward
-returns-clause-onward g c = onward g.W.RowWorld.law (g.W.RowWorld.view c.args.self.now.world) (g.W.RowWorld.view c.tidy.new.self) c.args.self.now.seat (wrote_later c.tidy.result g.W.RowWorld.law (g.W.RowWorld.view c.args.self.now.world) (g.W.RowWorld.view c.tidy.new.self) c.args.self.now.seat (did_claim c.args.oid) (asked_claim c.args.oid) c.requires.active c.tidy.ensures.ok c.tidy.ensures.err)
+returns-clause-onward g c = onward c.worlds_move_on.ensures g.W.RowWorld.law (g.W.RowWorld.view c.args.self.now.world) (g.W.RowWorld.view c.tidy.new.self) c.args.self.now.seat (wrote_next c.worlds_move_on.ensures c.tidy.result g.W.RowWorld.law (g.W.RowWorld.view c.args.self.now.world) (g.W.RowWorld.view c.tidy.new.self) c.args.self.now.seat (did_claim c.args.oid) (asked_claim c.args.oid) c.requires.stands.1 c.requires.active c.tidy.ensures.ok c.tidy.ensures.err)
 
 pub returns-clause-ok : goal.returns-clause-ok
 returns-clause-ok g c = on_ok_weaker c.tidy.result (λ did. at_once c.args.self.now.seat (λ (u t : View). DidClaim u c.args.self.now.seat c.args.oid t) (g.W.RowWorld.view c.args.self.now.world) (g.W.RowWorld.view c.tidy.new.self) did) c.tidy.ensures.ok
@@ -21,9 +21,9 @@ returns-clause-err g c = if_err c.tidy.result (λ (why : RowStop). DidNotClaim (
     (λ why did. at_once c.args.self.now.seat (NotClaimedBeside c.args.self.now.seat c.args.oid why) (g.W.RowWorld.view c.args.self.now.world) (g.W.RowWorld.view c.tidy.new.self) (refused_err g.W.RowWorld.law (g.W.RowWorld.view c.args.self.now.world) (g.met.W.RowWorld.serializable c.args.self.now.world c.requires.stands.0) (g.W.RowWorld.view c.tidy.new.self) c.args.self.now.seat (asked_claim c.args.oid) why did)) c.tidy.ensures.err
 
 pub returns-clause-met : goal.returns-clause-met
-returns-clause-met g c = met_err c.tidy.result tells_commits g.W.RowWorld.law (g.W.RowWorld.view c.args.self.now.world) (g.W.RowWorld.view c.tidy.new.self) c.args.self.now.seat (asked_claim c.args.oid) (g.met.W.RowWorld.serializable c.args.self.now.world c.requires.stands.0) (wrote_later c.tidy.result g.W.RowWorld.law (g.W.RowWorld.view c.args.self.now.world) (g.W.RowWorld.view c.tidy.new.self) c.args.self.now.seat (did_claim c.args.oid) (asked_claim c.args.oid) c.requires.active c.tidy.ensures.ok c.tidy.ensures.err) c.tidy.ensures.err
+returns-clause-met g c = met_err c.tidy.result tells_commits g.W.RowWorld.law (g.W.RowWorld.view c.args.self.now.world) (g.W.RowWorld.view c.tidy.new.self) c.args.self.now.seat (asked_claim c.args.oid) (g.met.W.RowWorld.serializable c.args.self.now.world c.requires.stands.0) (wrote_next c.worlds_move_on.ensures c.tidy.result g.W.RowWorld.law (g.W.RowWorld.view c.args.self.now.world) (g.W.RowWorld.view c.tidy.new.self) c.args.self.now.seat (did_claim c.args.oid) (asked_claim c.args.oid) c.requires.stands.1 c.requires.active c.tidy.ensures.ok c.tidy.ensures.err).later c.tidy.ensures.err
 
 pub returns-clause-stands : goal.returns-clause-stands
 returns-clause-stands g c =
-    let on = stays g.O.Others.standing (g.W.RowWorld.view c.args.self.now.world) (g.W.RowWorld.view c.tidy.new.self) c.args.self.now.seat (wrote_leaves c.tidy.result g.W.RowWorld.law (g.W.RowWorld.view c.args.self.now.world) (g.W.RowWorld.view c.tidy.new.self) c.args.self.now.seat (did_claim c.args.oid) (asked_claim c.args.oid) c.requires.active c.tidy.ensures.ok c.tidy.ensures.err) (c.requires.stands.1, c.requires.stands.2) in
-    (c.tidy.ensures.stands, on.0, on.1)
+    let on = stays g.O.Others.standing (g.W.RowWorld.view c.args.self.now.world) (g.W.RowWorld.view c.tidy.new.self) c.args.self.now.seat (wrote_leaves c.tidy.result g.W.RowWorld.law (g.W.RowWorld.view c.args.self.now.world) (g.W.RowWorld.view c.tidy.new.self) c.args.self.now.seat (did_claim c.args.oid) (asked_claim c.args.oid) c.requires.active c.tidy.ensures.ok c.tidy.ensures.err) (c.requires.stands.1, c.requires.stands.2, c.requires.stands.3) in
+    (c.tidy.ensures.stands, on.0, on.1, on.2)

@@ -1,23 +1,36 @@
-use Rattle.std.proofs.Common.{subst, sym, arith}
+use Rattle.std.proofs.Common.{◌∙◌, subst, sym, arith, Some}
 use Rattle.std.proofs.lemmas.Result.{on_ok_weaker}
-use Rattle.erm_good_report.specs.Transactions.{heard}
+use Rattle.erm_good_report.specs.Transactions.{Aborts, ended, heard, own_snapshot}
+use Rattle.erm_report.specs.declared.answer.Answer.TheVariants as answer
 use Rattle.erm_summary.specs.Told.{Follows, IsAskedAt}
-use Rattle.erm_summary.proofs.Sessions.{heard_quietly, heard_aside, EndsAside}
+use Rattle.erm_summary.proofs.Sessions.{heard_quietly, heard_aside, heard_unsafe, heard_waits, EndsAside}
 use Rattle.erm_summary.proofs.hearing.Session.hear.Goals as goal
 
 pub returns-in_default-clause-follows : goal.returns-in_default-clause-follows
-returns-in_default-clause-follows c script answers asked p is f =
+returns-in_default-clause-follows c script answers asked p is asks f =
     let d = c.in_default in
-    heard_quietly script answers c.args.answer.now asked p c.args.self.now d.not-Began d.not-Replied d.not-Committed d.not-Excluded d.not-Aborted d.not-Owned d.not-Newer d.not-ExcludedEarly f
+    heard_quietly script answers c.args.answer.now asked p c.args.self.now d.not-Began d.not-Replied d.not-Committed d.not-Excluded d.not-Aborted d.not-Owned d.not-Newer d.not-ExcludedEarly
+    d.not-Safe d.not-WaitSeat d.not-Unsafe d.not-Ended f
 
 pub returns-in-Replied-clause-follows : goal.returns-in-Replied-clause-follows
 returns-in-Replied-clause-follows c =
-    on_ok_weaker c.reply.result (λ told script answers asked p is f.
+    on_ok_weaker c.reply.result (λ told script answers asked p is asks f.
     subst (λ a. Follows script answers (heard c.args.self.now.seat asked a p) c.reply.new.self) (sym c.in-Replied.is)
     (told script answers asked c.in-Replied.field-0 p (subst (IsAskedAt script answers c.args.place asked) c.in-Replied.is is) f)) c.reply.ensures.follows
 
 pub returns-in-Excluded-clause-follows : goal.returns-in-Excluded-clause-follows
-returns-in-Excluded-clause-follows c script answers asked p is f =
+returns-in-Excluded-clause-follows c script answers asked p is asks f =
     let aside : EndsAside script answers c.args.answer.now = let h = c.in-Excluded.is in grind arith in
-    subst (Follows script answers (heard c.args.self.now.seat asked c.args.answer.now p)) (sym c.give_up.ensures)
+    subst (Follows script answers (heard c.args.self.now.seat asked c.args.answer.now p)) (sym c.give_up-in-Excluded.ensures)
     (heard_aside script answers c.args.answer.now asked p c.args.self.now aside f)
+
+pub returns-else-asks-clause-follows : goal.returns-else-asks-clause-follows
+returns-else-asks-clause-follows c script answers asked p is asks f =
+    subst (λ a. Follows script answers (heard c.args.self.now.seat asked a p) c.args.self.now) (sym c.in-WaitSeat.is)
+    (heard_waits script answers c.in-WaitSeat.seat c.in-WaitSeat.seen asked p c.args.self.now (asks ∙ c.if-asks.false) f)
+
+pub returns-in-Unsafe-clause-follows : goal.returns-in-Unsafe-clause-follows
+returns-in-Unsafe-clause-follows c script answers asked p is asks f =
+    subst (λ a. Follows script answers (heard c.args.self.now.seat asked a p) c.give_up.new.self) (sym c.in-Unsafe.is)
+    (subst (Follows script answers (ended Aborts (record p { snapshot = Some (own_snapshot p) }))) (sym c.give_up.ensures)
+    (heard_unsafe script answers p c.watch-in-Unsafe.new.self (c.watch-in-Unsafe.ensures.follows script answers p f)))

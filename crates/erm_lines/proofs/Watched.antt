@@ -1,0 +1,278 @@
+-- What the lines of a snapshot do to a view, and in which phases a line of each kind is run.
+use Rattle.std.proofs.Common.{◌≡◌, ◌≢◌, ℕ, ◌⊎◌, Bool, if◌then◌else◌, true, false, IsSome, List, [], ◌∷◌, ◌++◌, Option, Some, None, inl, inr, refl, sym, ap, ◌∙◌, subst}
+use Rattle.erm_model.specs.declared.outcome.Phase.{Phase}
+use Rattle.erm_model.specs.declared.outcome.Phase.TheVariants.{Active, Idle, Sealed, Pending, Safe}
+use Rattle.erm_report.specs.declared.answer.Answer.{Answer}
+use Rattle.erm_report.specs.declared.answer.Answer.TheVariants as answer
+use Rattle.erm_script.specs.declared.script.Command.{Command}
+use Rattle.erm_script.specs.declared.script.Command.TheVariants as command
+use Rattle.erm_script.specs.declared.script.ScriptLine.{ScriptLine}
+use Rattle.erm_world.specs.Calls.{Becomes, IsDone}
+use Rattle.erm_world.specs.Safe.{DidBeginSafe, HasSnapshot, with_snapshot}
+use Rattle.erm_world.specs.Snapshots.{snapshot_not_active}
+use Rattle.erm_world.specs.World.{Finished, IsSession, Session, Snapshot, Stand, View, Work, phase_at, phase_of, work_at}
+use Rattle.erm_world.specs.World as world
+use Rattle.erm_good_report.specs.Phases.{FitsRefusal, HasNoSnapshot, IsAnswerTo, Need, NeedsReader, NeedsSnapshot, NeedsWriter, need_of, refusal_for, refusal_of}
+use Rattle.erm_good_report.specs.Transactions.{table_of}
+use Rattle.erm_lines.specs.Answers.{DidAskDurable, DidAskSafe, DidAskSnapshot, DidAsked, DidCommand, DidIn, DidLine, DidOfSnapshot}
+use Rattle.erm_lines.specs.Whole.{is_snapshot}
+use Rattle.erm_lines.proofs.Moved.{IsOfActive, active_where, asked_still}
+
+-- The session isn't active then; what is over is as before, or one more that was aborted; and nothing else changed.
+pub record Watches (v : View) (seat : ℕ) (t : View) : Type 0 where
+  pub inactive : phase_at t seat ≡ Active → ⊥
+  pub over : ((t.session seat).over ≡ (v.session seat).over)
+      ⊎ ((w : Work) × ((t.session seat).over ≡ (v.session seat).over ++ record { work = w; fate = world.aborts } ∷ []))
+  pub others : (q : ℕ) → q ≢ seat → t.session q ≡ v.session q
+  pub opening : t.opening ≡ v.opening
+  pub flushed : t.flushed ≡ v.flushed
+  pub pinned : t.pinned ≡ v.pinned
+
+still : (v t : View) (seat : ℕ) → (phase_at v seat ≡ Active → ⊥) → t ≡ v → Watches v seat t
+still v t seat rests is = record {
+  inactive = λ active. rests (sym (ap (λ (x : View). phase_at x seat) is) ∙ active);
+  over = inl (ap (λ (x : View). (x.session seat).over) is);
+  others = λ q another. ap (λ (x : View). x.session q) is;
+  opening = ap (λ (x : View). x.opening) is;
+  flushed = ap (λ (x : View). x.flushed) is;
+  pinned = ap (λ (x : View). x.pinned) is;
+}
+
+goes_on : (v t : View) (seat : ℕ) (s : Snapshot) → Becomes v seat (with_snapshot v seat s) t → Watches v seat t
+goes_on v t seat s did = record {
+  inactive = λ active. snapshot_not_active s (subst (λ (x : Session). phase_of x.stand ≡ Active) did.own active);
+  over = inl (ap (λ (x : Session). x.over) did.own);
+  others = did.others;
+  opening = did.opening;
+  flushed = did.flushed;
+  pinned = did.pinned;
+}
+
+ends : (v t : View) (seat : ℕ) (w : Work) → IsDone v seat w world.aborts t → Watches v seat t
+ends v t seat w did = record {
+  inactive = λ active. let at = ap (λ (x : Session). phase_of x.stand) did.own in cc;
+  over = inr (w, ap (λ (x : Session). x.over) did.own);
+  others = did.others;
+  opening = did.opening;
+  flushed = did.flushed;
+  pinned = did.pinned;
+}
+
+-- a snapshot that was begun, and asked then
+begun_then : (v u t : View) (seat begin : ℕ) → DidBeginSafe v seat begin u → Watches u seat t → Watches v seat t
+begun_then v u t seat begin began asked =
+    let over = ap (λ (x : Session). x.over) began.3.own in record {
+      inactive = asked.inactive;
+      over = elim asked.over as (λ _. ((t.session seat).over ≡ (v.session seat).over) ⊎ ((w : Work) × ((t.session seat).over ≡ (v.session seat).over ++ record { work = w; fate = world.aborts } ∷ []))) [
+        | inl same ↦ inl (same ∙ over)
+        | inr more ↦ inr (more.0, more.1 ∙ ap (λ (fs : List Finished). fs ++ record { work = more.0; fate = world.aborts } ∷ []) over)
+      ];
+      others = λ q another. asked.others q another ∙ began.3.others q another;
+      opening = asked.opening ∙ began.3.opening;
+      flushed = asked.flushed ∙ began.3.flushed;
+      pinned = asked.pinned ∙ began.3.pinned;
+    }
+
+asked_safe : (v t : View) (seat : ℕ) (a : Answer) → (phase_at v seat ≡ Active → ⊥) → DidAskSafe v seat a t → Watches v seat t
+asked_safe v t seat (answer.Safe stamp) rests did = goes_on v t seat (record did.0.0 { is_safe = true }) did.0.2
+asked_safe v t seat (answer.WaitSeat other seen) rests did = still v t seat rests did.0
+asked_safe v t seat (answer.Unsafe other stamp) rests did = ends v t seat (work_at v seat) did.0
+asked_safe v t seat a rests did = absurd did
+
+pub asked_snapshot : (v t : View) (seat : ℕ) (a : Answer) → (phase_at v seat ≡ Active → ⊥) → DidAskSnapshot v seat a t → Watches v seat t
+asked_snapshot v t seat (answer.LogEnd tail) rests did = still v t seat rests did.0
+asked_snapshot v t seat answer.NumbersEnd rests did = still v t seat rests did.0
+asked_snapshot v t seat a rests did =
+    let begun = goes_on v did.between seat _ did.began.3 in
+    begun_then v did.between t seat did.begin did.began (asked_safe did.between t seat a begun.inactive did.asked)
+
+-- a line of a session that has a snapshot
+pub watched : (v t : View) (seat : ℕ) (c : Command) (a : Answer) → (phase_at v seat ≡ Active → ⊥) → DidOfSnapshot v seat c a t → Watches v seat t
+watched v t seat command.Safe a rests did = asked_safe v t seat a rests did
+watched v t seat (command.Get table key) (answer.Replied r) rests did = still v t seat rests did.same
+watched v t seat (command.Next table from) (answer.Replied r) rests did = still v t seat rests did.same
+watched v t seat (command.Scan table low high) (answer.Replied r) rests did = still v t seat rests did.same
+watched v t seat command.Commit answer.Ended rests did = ends v t seat (work_at v seat) did
+watched v t seat command.Abort answer.Aborted rests did = ends v t seat (work_at v seat) did
+watched v t seat command.Durable a rests did = still v t seat rests (asked_still v t seat a did)
+watched v t seat c a rests did = absurd did
+
+-- PHASES. A `safe` that isn't refused is one of a session that isn't active.
+pub safe_rests : (p : Phase) → refusal_for (Some NeedsSnapshot) p ≡ None → p ≡ Active → ⊥
+safe_rests Idle free active = cc
+safe_rests Active free active = cc
+safe_rests Sealed free active = cc
+safe_rests Pending free active = cc
+safe_rests Safe free active = cc
+
+-- A line that isn't refused is one of a session without a snapshot, or with one.
+pub in_phase : (Q : Type 0) (v t : View) (seat : ℕ) (c : Command) (a : Answer) → (HasNoSnapshot (phase_at v seat) → DidCommand v seat c a t → Q)
+    → ((phase_at v seat ≡ Active → ⊥) → DidOfSnapshot v seat c a t → Q) → DidIn (phase_at v seat) v seat c a t → Q
+in_phase Q v t seat c a plain watches did = by (phase_at v seat) refl did
+  where
+    by : (p : Phase) → phase_at v seat ≡ p → DidIn p v seat c a t → Q
+    by Idle is did = plain (subst HasNoSnapshot (sym is) tt) did
+    by Active is did = plain (subst HasNoSnapshot (sym is) tt) did
+    by Sealed is did = plain (subst HasNoSnapshot (sym is) tt) did
+    by Pending is did = watches (λ active. let no = sym is ∙ active in cc) did
+    by Safe is did = watches (λ active. let no = sym is ∙ active in cc) did
+
+-- whether a commit is on the disk is asked in each phase alike
+pub durable_in : (v t : View) (seat : ℕ) (a : Answer) (p : Phase) → DidAskDurable v seat a t → DidIn p v seat command.Durable a t
+durable_in v t seat a Idle did = did
+durable_in v t seat a Active did = did
+durable_in v t seat a Sealed did = did
+durable_in v t seat a Pending did = did
+durable_in v t seat a Safe did = did
+
+-- and so it was run
+in_plain : (v t : View) (seat : ℕ) (c : Command) (a : Answer) (p : Phase) → HasNoSnapshot p → DidCommand v seat c a t → DidIn p v seat c a t
+in_plain v t seat c a Idle plain did = did
+in_plain v t seat c a Active plain did = did
+in_plain v t seat c a Sealed plain did = did
+in_plain v t seat c a Pending plain did = absurd plain
+in_plain v t seat c a Safe plain did = absurd plain
+
+in_snapshot : (v t : View) (seat : ℕ) (c : Command) (a : Answer) (p : Phase) → is_snapshot p ≡ true → DidOfSnapshot v seat c a t → DidIn p v seat c a t
+in_snapshot v t seat c a Idle is did = absurd (cc)
+in_snapshot v t seat c a Active is did = absurd (cc)
+in_snapshot v t seat c a Sealed is did = absurd (cc)
+in_snapshot v t seat c a Pending is did = did
+in_snapshot v t seat c a Safe is did = did
+
+line_of : (v t : View) (l : ScriptLine) (a : Answer) → IsSession v l.session → refusal_of (phase_at v l.session) l.command ≡ None → IsAnswerTo l.command a
+    → DidIn (phase_at v l.session) v l.session l.command a t → DidLine v l a t
+line_of v t l a session free fits did = record {
+  session = session;
+  fits = subst (λ (r : Option Answer). FitsRefusal r l.command a) (sym free) fits;
+  did = subst (λ (r : Option Answer). DidAsked r v l.session l.command a t) (sym free) did;
+}
+
+pub plain_line : (v t : View) (l : ScriptLine) (a : Answer) → IsSession v l.session → refusal_of (phase_at v l.session) l.command ≡ None → HasNoSnapshot (phase_at v l.session) → IsAnswerTo l.command a
+    → DidCommand v l.session l.command a t → DidLine v l a t
+plain_line v t l a session free plain fits did = line_of v t l a session free fits (in_plain v t l.session l.command a (phase_at v l.session) plain did)
+
+pub watched_line : (v t : View) (l : ScriptLine) (a : Answer) → IsSession v l.session → refusal_of (phase_at v l.session) l.command ≡ None → is_snapshot (phase_at v l.session) ≡ true → IsAnswerTo l.command a
+    → DidOfSnapshot v l.session l.command a t → DidLine v l a t
+watched_line v t l a session free is fits did = line_of v t l a session free fits (in_snapshot v t l.session l.command a (phase_at v l.session) is did)
+
+-- whether it has one is told by its phase
+pub no_snapshot : (p : Phase) → is_snapshot p ≡ false → HasNoSnapshot p
+no_snapshot Idle is = tt
+no_snapshot Active is = tt
+no_snapshot Sealed is = tt
+no_snapshot Pending is = absurd (cc)
+no_snapshot Safe is = absurd (cc)
+
+pub snapshot_there : (v : View) (seat : ℕ) → is_snapshot (phase_at v seat) ≡ true → HasSnapshot v seat
+snapshot_there v seat is = by (v.session seat).stand refl is
+  where
+    by : (stand : Stand) → (v.session seat).stand ≡ stand → is_snapshot (phase_of stand) ≡ true → HasSnapshot v seat
+    by world.idle at is = absurd (cc)
+    by (world.active w) at is = absurd (cc)
+    by (world.sealed w stamp) at is = absurd (cc)
+    by (world.snapshot s) at is = (s, at)
+
+-- a session that is neither idle, nor sealed, nor active has one
+pub snapshot_left : (v : View) (seat : ℕ) → (phase_at v seat ≡ Idle → ⊥) → (phase_at v seat ≡ Sealed → ⊥) → (phase_at v seat ≡ Active → ⊥) → HasSnapshot v seat
+snapshot_left v seat busy unsealed rests = by (v.session seat).stand refl
+  where
+    by : (stand : Stand) → (v.session seat).stand ≡ stand → HasSnapshot v seat
+    by world.idle at = absurd (busy (ap phase_of at))
+    by (world.active w) at = absurd (rests (ap phase_of at))
+    by (world.sealed w stamp) at = absurd (unsealed (ap phase_of at))
+    by (world.snapshot s) at = (s, at)
+
+-- a snapshot that has just begun is pending
+pub begun_pending : (v t : View) (seat begin : ℕ) → DidBeginSafe v seat begin t → phase_at t seat ≡ Pending
+begun_pending v t seat begin did = ap (λ (s : Session). phase_of s.stand) did.3.own
+
+-- what of a snapshot's lines is left to the looks
+pub looks_are_safe : (p : Phase) (c : Command) → is_snapshot p ≡ true → c ≢ command.Safe → c ≢ command.Commit → c ≢ command.Abort → IsSome (need_of c) → refusal_of p c ≡ None
+    → (p ≡ Safe) × IsSome (table_of c)
+looks_are_safe Safe (command.Get table key) is one two three asks free = (refl, refl)
+looks_are_safe Safe (command.Next table from) is one two three asks free = (refl, refl)
+looks_are_safe Safe (command.Scan table low high) is one two three asks free = (refl, refl)
+looks_are_safe p command.Safe is one two three asks free = absurd (one refl)
+looks_are_safe p command.Commit is one two three asks free = absurd (two refl)
+looks_are_safe p command.Abort is one two three asks free = absurd (three refl)
+looks_are_safe p command.Durable is one two three asks free = absurd (cc)
+looks_are_safe p command.Flush is one two three asks free = absurd (cc)
+looks_are_safe p command.Checkpoint is one two three asks free = absurd (cc)
+looks_are_safe Idle c is one two three asks free = absurd (cc)
+looks_are_safe Active c is one two three asks free = absurd (cc)
+looks_are_safe Sealed c is one two three asks free = absurd (cc)
+looks_are_safe Pending c is one two three asks free = absurd (cc)
+looks_are_safe Safe c is one two three asks free = absurd (cc)
+
+-- THE PHASE in which a command is allowed, of a session without a snapshot
+pub idle_where : (p : Phase) (c : Command) → refusal_of p c ≡ None → c ≡ command.Begin → p ≡ Idle
+idle_where Idle c free is = refl
+idle_where Active c free is = absurd (let no = ap (λ (d : Command). refusal_of Active d) (sym is) ∙ free in cc)
+idle_where Sealed c free is = absurd (let no = ap (λ (d : Command). refusal_of Sealed d) (sym is) ∙ free in cc)
+idle_where Pending c free is = absurd (let no = ap (λ (d : Command). refusal_of Pending d) (sym is) ∙ free in cc)
+idle_where Safe c free is = absurd (let no = ap (λ (d : Command). refusal_of Safe d) (sym is) ∙ free in cc)
+
+pub start_where : (p : Phase) (c : Command) → refusal_of p c ≡ None → c ≡ command.Safe → HasNoSnapshot p → p ≡ Idle
+start_where Idle c free is plain = refl
+start_where Active c free is plain = absurd (let no = ap (λ (d : Command). refusal_of Active d) (sym is) ∙ free in cc)
+start_where Sealed c free is plain = absurd (let no = ap (λ (d : Command). refusal_of Sealed d) (sym is) ∙ free in cc)
+start_where Pending c free is plain = absurd plain
+start_where Safe c free is plain = absurd plain
+
+pub settle_where : (p : Phase) (c : Command) → refusal_of p c ≡ None → c ≡ command.Settle → p ≡ Sealed
+settle_where Idle c free is = absurd (let no = ap (λ (d : Command). refusal_of Idle d) (sym is) ∙ free in cc)
+settle_where Active c free is = absurd (let no = ap (λ (d : Command). refusal_of Active d) (sym is) ∙ free in cc)
+settle_where Sealed c free is = refl
+settle_where Pending c free is = absurd (let no = ap (λ (d : Command). refusal_of Pending d) (sym is) ∙ free in cc)
+settle_where Safe c free is = absurd (let no = ap (λ (d : Command). refusal_of Safe d) (sym is) ∙ free in cc)
+
+pub active_in : (p : Phase) (c : Command) (need : Need) → need_of c ≡ Some need → IsOfActive need → HasNoSnapshot p → refusal_of p c ≡ None → p ≡ Active
+active_in p c need is of plain free = active_where need p of plain (sym (ap (λ (n : Option Need). refusal_for n p) is) ∙ free)
+
+-- a command that needs an active session, and names a table
+pub record Operates (c : Command) : Type 0 where
+  pub need : Need
+  pub needs : need_of c ≡ Some need
+  pub of : IsOfActive need
+  pub named : IsSome (table_of c)
+
+pub operates : (c : Command) → IsSome (need_of c) → c ≢ command.Begin → c ≢ command.Safe → c ≢ command.Seal → c ≢ command.Settle → c ≢ command.Commit → c ≢ command.Abort → Operates c
+operates command.Begin asks a b d e f g = absurd (a refl)
+operates command.Safe asks a b d e f g = absurd (b refl)
+operates command.Seal asks a b d e f g = absurd (d refl)
+operates command.Settle asks a b d e f g = absurd (e refl)
+operates command.Commit asks a b d e f g = absurd (f refl)
+operates command.Abort asks a b d e f g = absurd (g refl)
+operates (command.Get table key) asks a b d e f g = record { need = NeedsReader; needs = refl; of = tt; named = refl }
+operates (command.Put table key value) asks a b d e f g = record { need = NeedsWriter; needs = refl; of = tt; named = refl }
+operates (command.Del table key) asks a b d e f g = record { need = NeedsWriter; needs = refl; of = tt; named = refl }
+operates (command.Next table from) asks a b d e f g = record { need = NeedsReader; needs = refl; of = tt; named = refl }
+operates (command.Scan table low high) asks a b d e f g = record { need = NeedsReader; needs = refl; of = tt; named = refl }
+operates (command.Tidy table key) asks a b d e f g = record { need = NeedsWriter; needs = refl; of = tt; named = refl }
+operates command.Durable asks a b d e f g = absurd (cc)
+operates command.Flush asks a b d e f g = absurd (cc)
+operates command.Checkpoint asks a b d e f g = absurd (cc)
+
+pub snapshot_rests : (v : View) (seat : ℕ) → is_snapshot (phase_at v seat) ≡ true → phase_at v seat ≡ Active → ⊥
+snapshot_rests v seat is active = let no = sym (ap (λ (p : Phase). is_snapshot p) active) ∙ is in cc
+
+pub has_phase : (v : View) (seat : ℕ) → HasSnapshot v seat → is_snapshot (phase_at v seat) ≡ true
+has_phase v seat has = subst (λ (at : Stand). is_snapshot (phase_of at) ≡ true) (sym has.1) (either_way has.0.is_safe)
+  where
+    either_way : (b : Bool) → is_snapshot (if b then Safe else Pending) ≡ true
+    either_way true = refl
+    either_way false = refl
+
+-- where a `safe` isn't refused, a session with a snapshot has a pending one
+pub pending_where : (p : Phase) (c : Command) → is_snapshot p ≡ true → refusal_of p c ≡ None → c ≡ command.Safe → p ≡ Pending
+pending_where Idle c is free asks = absurd (cc)
+pending_where Active c is free asks = absurd (cc)
+pending_where Sealed c is free asks = absurd (cc)
+pending_where Pending c is free asks = refl
+pending_where Safe c is free asks = absurd (let no = ap (λ (d : Command). refusal_of Safe d) (sym asks) ∙ free in cc)
+
+-- a command that was told no refusal is refused by no phase that is this one
+pub is_free : (told : Option Answer) (p q : Phase) (c : Command) → told ≡ refusal_of p c → p ≡ q → ((a : Answer) → told ≡ Some a → ⊥) → refusal_of q c ≡ None
+is_free (Some a) p q c is same never = absurd (never a refl)
+is_free None p q c is same never = sym (is ∙ ap (λ (x : Phase). refusal_of x c) same)

@@ -1,0 +1,26 @@
+use Rattle.std.proofs.Common.{◌≡◌}
+use Rattle.erm_world.specs.World.{View}
+use Rattle.erm_beside.specs.declared.safe_txn.SafeTxn.{SafeTxn}
+use Rattle.erm_lines_at_once.proofs.Sighted.{found_next, ready}
+use Rattle.erm_lines_at_once.proofs.looks.next.Goals as goal
+
+pub next-requires-clause-ready : goal.next-requires-clause-ready
+next-requires-clause-ready g c =
+    ready g.S.SharedSession.law (λ (s : SafeTxn g.row.S.Denot g.row.S-Shared.Denot). g.S.SharedSession.own s.session.now) (λ (s : SafeTxn g.row.S.Denot g.row.S-Shared.Denot). g.S.SharedSession.seat s.session.now)
+    (λ (s : SafeTxn g.row.S.Denot g.row.S-Shared.Denot). g.S.SharedSession.stands s.shared.now s.session.now) (λ (s : SafeTxn g.row.S.Denot g.row.S-Shared.Denot) (f : View). g.S.SharedSession.ends s.session.now f)
+    (λ (s t : SafeTxn g.row.S.Denot g.row.S-Shared.Denot). (t.session.ghost_name ≡ s.session.ghost_name) × (t.shared ≡ s.shared))
+    (λ (s : SafeTxn g.row.S.Denot g.row.S-Shared.Denot) (f : View). g.met.S.SharedSession.within s.session.now f) (λ (s : SafeTxn g.row.S.Denot g.row.S-Shared.Denot). g.met.S.SharedSession.some s.shared.now s.session.now)
+    (λ (s : SafeTxn g.row.S.Denot g.row.S-Shared.Denot) (f : View). g.met.S.SharedSession.lasting s.session.now f) c.requires.law
+    c.args.txn.now c.requires.active
+
+pub returns-in-Ok-clause-answered : goal.returns-in-Ok-clause-answered
+returns-in-Ok-clause-answered g c = λ f end.
+    found_next g.S.SharedSession.law (λ (s : SafeTxn g.row.S.Denot g.row.S-Shared.Denot). g.S.SharedSession.own s.session.now) (λ (s : SafeTxn g.row.S.Denot g.row.S-Shared.Denot). g.S.SharedSession.seat s.session.now)
+    (λ (s : SafeTxn g.row.S.Denot g.row.S-Shared.Denot). g.S.SharedSession.stands s.shared.now s.session.now) (λ (s : SafeTxn g.row.S.Denot g.row.S-Shared.Denot) (f : View). g.S.SharedSession.ends s.session.now f)
+    (λ (s t : SafeTxn g.row.S.Denot g.row.S-Shared.Denot). (t.session.ghost_name ≡ s.session.ghost_name) × (t.shared ≡ s.shared))
+    (λ (s : SafeTxn g.row.S.Denot g.row.S-Shared.Denot) (f : View). g.met.S.SharedSession.within s.session.now f) (λ (s : SafeTxn g.row.S.Denot g.row.S-Shared.Denot). g.met.S.SharedSession.some s.shared.now s.session.now)
+    (λ (s : SafeTxn g.row.S.Denot g.row.S-Shared.Denot) (f : View). g.met.S.SharedSession.lasting s.session.now f) c.requires.law
+    c.args.txn.now c.next.new.txn c.args.table c.args.from c.in-Ok.found c.in-Ok.ensures.ok f end
+
+pub unreachable-requires : goal.unreachable-requires
+unreachable-requires g c = c.in-Err.ensures.err.refused.stopped

@@ -1,0 +1,56 @@
+use Rattle.std.proofs.Common.{◌≡◌, None, sym, subst}
+use Rattle.erm_model.specs.declared.outcome.Phase.{Phase}
+use Rattle.erm_script.specs.declared.script.Command.{Command}
+use Rattle.erm_world.specs.World.{phase_at}
+use Rattle.erm_good_report.specs.Phases.{refusal_of}
+use Rattle.erm_lines.proofs.Watched.{has_phase, looks_are_safe, pending_where}
+use Rattle.erm_lines_at_once.specs.Answers.{WasWatchedBeside}
+use Rattle.erm_worker.specs.Work.{WasWatched}
+use Rattle.erm_worker.proofs.Watching.{durable_watched, needs, watched_of}
+use Rattle.erm_worker.proofs.snapshots.watch.Goals as goal
+
+pub ask-requires-clause-pending : goal.ask-requires-clause-pending
+ask-requires-clause-pending g c =
+    let seat = g.S.SharedSession.seat c.args.session.now in
+    let v = g.S.SharedSession.own c.args.session.now in
+    pending_where (phase_at v seat) c.args.command.now (has_phase v seat c.requires.snapshot) c.requires.allowed c.in-Safe.is
+
+pub returns-in-Safe-clause-watched : goal.returns-in-Safe-clause-watched
+returns-in-Safe-clause-watched g c = λ f end.
+    let seat = g.S.SharedSession.seat c.args.session.now in
+    let v = g.S.SharedSession.own c.args.session.now in
+    subst (λ (x : Command). WasWatched f seat x c.ask.result v (g.S.SharedSession.own c.ask.new.session)) (sym c.in-Safe.is) (watched_of f seat c.ask.result v (g.S.SharedSession.own c.ask.new.session) (c.ask.ensures.asked f end))
+
+pub returns-in-Commit-clause-watched : goal.returns-in-Commit-clause-watched
+returns-in-Commit-clause-watched g c = λ f end.
+    let seat = g.S.SharedSession.seat c.args.session.now in
+    let v = g.S.SharedSession.own c.args.session.now in
+    subst (λ (x : Command). WasWatchedBeside f seat x c.end_snapshot.result v (g.S.SharedSession.own c.end_snapshot.new.session)) (sym c.in-Commit.is) (c.end_snapshot.ensures.answered f)
+
+pub returns-in-Abort-clause-watched : goal.returns-in-Abort-clause-watched
+returns-in-Abort-clause-watched g c = λ f end.
+    let seat = g.S.SharedSession.seat c.args.session.now in
+    let v = g.S.SharedSession.own c.args.session.now in
+    subst (λ (x : Command). WasWatchedBeside f seat x c.give_up_snapshot.result v (g.S.SharedSession.own c.give_up_snapshot.new.session)) (sym c.in-Abort.is) (c.give_up_snapshot.ensures.answered f)
+
+pub returns-in-Durable-clause-watched : goal.returns-in-Durable-clause-watched
+returns-in-Durable-clause-watched g c = λ f end.
+    let seat = g.S.SharedSession.seat c.args.session.now in
+    let v = g.S.SharedSession.own c.args.session.now in
+    subst (λ (x : Command). WasWatched f seat x c.durable.result v (g.S.SharedSession.own c.durable.new.session)) (sym c.in-Durable.is)
+    (durable_watched f seat c.durable.result v (g.S.SharedSession.own c.durable.new.session) c.requires.snapshot (c.durable.ensures.asked f))
+
+pub look-requires : goal.look-requires
+look-requires g c =
+    let seat = g.S.SharedSession.seat c.args.session.now in
+    let v = g.S.SharedSession.own c.args.session.now in
+    let asks = needs c.args.command.now c.requires.may.of_session c.in_default.not-Durable in
+    let it = looks_are_safe (phase_at v seat) c.args.command.now (has_phase v seat c.requires.snapshot) c.in_default.not-Safe c.in_default.not-Commit c.in_default.not-Abort asks c.requires.allowed in
+    record {
+      law = c.requires.law;
+      stands = c.requires.stands;
+      safe = it.0;
+      free = subst (λ (p : Phase). refusal_of p c.args.command.now ≡ None) it.0 c.requires.allowed;
+      named = it.1;
+      table = c.requires.may.table;
+    }

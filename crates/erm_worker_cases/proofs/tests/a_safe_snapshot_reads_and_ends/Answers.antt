@@ -1,0 +1,10 @@
+use Rattle.std.proofs.Common.{◌≡◌, ◌<◌, ◌≤◌, List, sym, ◌∙◌, subst, arith}
+use Rattle.erm_script.specs.declared.script.ScriptLine.{ScriptLine}
+use Rattle.erm_worker_cases.specs.Lines.{AreOf}
+use Rattle.erm_worker_cases.proofs.tests.a_safe_snapshot_reads_and_ends.Goals as goal
+
+pub work-requires-clause-lines : goal.work-requires-clause-lines
+work-requires-clause-lines g c = subst (λ (ls : List ScriptLine). AreOf 1 ls) (c.deref.ensures.value ∙ sym c.deref-2.ensures.value) (c.are_of.ensures search)
+
+pub work-requires-2-clause-lines : goal.work-requires-2-clause-lines
+work-requires-2-clause-lines g c = subst (λ (ls : List ScriptLine). AreOf 2 ls) (c.deref-3.ensures.value ∙ sym c.deref-4.ensures.value) (c.are_of-2.ensures search)
