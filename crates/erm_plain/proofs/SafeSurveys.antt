@@ -305,6 +305,7 @@ waits_before sessions seat next c sound quiet own active at early =
       another = waits.0;
       work = work_of y.current;
       current = from.current;
+      positive = word.0;
       at_most = from.at_most;
       below = omega (arith, low, begin);
     }

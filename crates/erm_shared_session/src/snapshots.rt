@@ -65,6 +65,15 @@ impl<L: RowLaw> SafeSession for TableSession<L> {
         looked
     }
 
+    /// The begin stamp of the snapshot, safe or not.
+    fn snapshot_begin(&self, _shared: &Table<L>) -> Stamp
+        requires stands { Stands L.law _shared.now self.now }
+        requires snapshot { HasSnapshot (own_of self.now) (seat_of self.now) }
+        ensures { result ≡ (work_at (own_of self.now) (seat_of self.now)).begin }
+    {
+        self.session.snapshot_begin()
+    }
+
     /// The row of an object, below 2^14, as the safe snapshot sees it: the newest below its begin stamp, in each world in which all may end.
     fn safe_read(&mut self, shared: &Table<L>, oid: Oid) -> Row
         requires stands { Stands L.law shared.now self.old }

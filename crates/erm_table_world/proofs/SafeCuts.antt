@@ -17,7 +17,7 @@ module _ (n : ℕ) where
   did_safe v t seat did = (did.0, did.1, became n v t seat _ did.2, safe_in t _ did.3)
 
   before : (v : View) (seat bound other seen : ℕ) → IsBefore v seat bound other seen → IsBefore (cut n v) seat bound other seen
-  before v seat bound other seen is = record { session = is.session; another = is.another; work = is.work; current = is.current; at_most = is.at_most; below = is.below }
+  before v seat bound other seen is = record { session = is.session; another = is.another; work = is.work; current = is.current; positive = is.positive; at_most = is.at_most; below = is.below }
 
   went_back : (v : View) (seat bound other stamp : ℕ) → WentBack v seat bound other stamp → WentBack (cut n v) seat bound other stamp
   went_back v seat bound other stamp is = record {

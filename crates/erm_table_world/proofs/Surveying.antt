@@ -196,6 +196,7 @@ module _ (law : Law) (sessions seat : ℕ) (b : Book) (at : StandsAt law session
           another = waits.another;
           work = work_of y.current;
           current = current.0;
+          positive = parts.0;
           at_most = current.1;
           below = subst (λ (n : ℕ). seen < n) (sym (begin_shown sessions seat (core_of b) active)) parts.1;
         },

@@ -32,12 +32,13 @@ abbrev pub DidSafe : View → ℕ → View → Type 0
 DidSafe v seat t = (s : Snapshot) × ((v.session seat).stand ≡ world.snapshot s)
     × Becomes v seat (with_snapshot v seat (record s { is_safe = true })) t × IsSafeIn t s.begin
 
--- another session's transaction or snapshot, in progress, whose begin word was seen below the own stamp
+-- another session's transaction or snapshot, in progress, whose begin word was seen, which was set, below the own stamp
 pub record IsBefore (v : View) (seat bound other seen : ℕ) : Type 0 where
   pub session : IsSession v other
   pub another : other ≢ seat
   pub work : Work
   pub current : IsCurrent (v.session other).stand work
+  pub positive : 0 < seen
   pub at_most : seen ≤ work.begin
   pub below : seen < bound
 
