@@ -1,5 +1,5 @@
 -- The report of sessions at once that the disk's fault cut off: of each session its first lines are answered, so that the lines have gaps.
-use Rattle.std.specs.Prelude.{◌≡◌, ◌≢◌, ℕ, ◌-◌, ◌==◌, nat_lt, if◌then◌else◌, List, [], ◌∷◌, ◌++◌, length, Some}
+use Rattle.std.specs.Prelude.{◌≡◌, ◌≢◌, ℕ, ◌-◌, ◌==◌, nat_lt, if◌then◌else◌, List, [], ◌∷◌, ◌++◌, filter, length, Some}
 use Rattle.std.specs.List.{All, AllPairs, slice_get}
 use Rattle.erm_model.specs.declared.outcome.Phase.TheVariants.{Sealed}
 use Rattle.erm_model.specs.Committed.{Committed, HasSnapshotReplies, RunsInOrder, rank_of, state_after}
@@ -52,11 +52,11 @@ pub record OwesInPart (opening : Opening) (whole part : List ScriptLine) (answer
       → IsInReach (moment_in opening whole part answers told i l) l.command a
   pub safe : SnapshotsAgree (moment_in opening whole part answers told) opening part answers told
 
--- A session that was closed though no line tells it: all its lines are answered, and leave it sealed.
+-- A session that was closed though no line tells it: each of its lines is answered, one written twice twice, and they leave it sealed.
 pub record IsUnseen (whole part : List ScriptLine) (answers : List Answer) (c : Closed) : Type 0 where
   pub fits : Closes Sealed c.answer
   pub sealed : phase_of c.session (said_of part answers) ≡ Sealed
-  pub answered : (l : ScriptLine) → l ∈ whole → l.session ≡ c.session → l ∈ part
+  pub answered : filter (λ l. l.session == c.session) part ≡ filter (λ l. l.session == c.session) whole
 
 -- The report: the opening, the answers so far, by the numbers of their lines, and the fault. Sessions may have been closed that no line tells
 -- of, each once, and what they committed counts for the transactions told.
