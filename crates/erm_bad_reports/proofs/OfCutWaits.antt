@@ -21,7 +21,7 @@ use Rattle.erm_bad_reports.specs.CutReports.{BreaksCutAlone, AtLog, CutClause, F
 use Rattle.erm_bad_reports.specs.StampParts.{Part, MeetsPart, Differ, Least, Begun, Sealed, Begins, Draws, Ascends, Flushes, FlushesFirst, BeginsAscend, Stops, UntoldAfter, UntoldBefore}
 use Rattle.erm_bad_reports.proofs.OfStampParts.{any_place}
 use Rattle.erm_bad_reports.proofs.OfUntold.{first_waited}
-use Rattle.erm_bad_reports.proofs.Tests.{begins_ascend, begins_stop, first_snapshot, flushed_begin, flushed_drawn, phases_kept, refusals_kept, ring_wait, stamps_ascend, stamps_differ, stamps_drawn, untold_after, untold_before}
+use Rattle.erm_bad_reports.proofs.Tests.{begins_ascend, begins_stop, first_snapshot, flushed_begin, flushed_drawn, phases_kept, refusals_kept, ring_wait, safe_kept, stamps_ascend, stamps_differ, stamps_drawn, untold_after, untold_before}
 
 -- ---- what was said is read off the lines
 no_end : (xs : List Line) (x : Line) → xs ++ x ∷ [] ≡ [] → ⊥
@@ -80,11 +80,12 @@ any_stamp stamp session number = each_in (λ u. u.session ≡ session → u.numb
 
 owes_all_but_begins : OwesAllButPart Begins begun_at_a_wait
 owes_all_but_begins = record {
-  phases = phases_kept whole (tt, (tt, (tt, (tt, (tt, (tt, (tt, tt)))))));
+  phases = phases_kept whole (tt, (tt, (tt, (tt, (tt, (tt, (tt, tt))))))) refl;
   parts = parts_but_begins;
   snapshots = each_in (λ t. HasSnapshotReplies (history_of told) empty t.begin (steps_of t)) told
       (first_snapshot (history_of told) empty 13 [] refl tt, (first_snapshot (history_of told) empty 13 [] refl tt, (first_snapshot (history_of told) empty 13 [] refl tt, tt)));
   causes = each_in (λ t. HasCauseOf t.ending told t) told (tt, (tt, (tt, tt)));
+  safe = safe_kept whole refl;
   refusals = refusals_kept whole refl (
     record { own = λ t is. tt; log = tt; unfilled = tt },
     (

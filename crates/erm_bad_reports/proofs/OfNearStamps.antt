@@ -17,12 +17,12 @@ use Rattle.erm_good_report.specs.Transactions.{Commits, Said, Transaction, Unfin
 use Rattle.erm_good_report.specs.Windows.{IsCommit}
 use Rattle.erm_good_report.proofs.Decided.{own_window}
 use Rattle.erm_good_report.proofs.Parts.{all_pairs_of_two, each_in}
-use Rattle.erm_bad_reports.specs.Clauses.{Clause, Meets, lines_of, told_of, IsLowAt, IsHighAt, Fit, Answered, Closes, Phases, Stamps, Snapshots, Causes, Refusals, Serial, Ascending, Runs, LowEnds, HighEnds}
+use Rattle.erm_bad_reports.specs.Clauses.{Clause, Meets, lines_of, told_of, IsLowAt, IsHighAt, Fit, Answered, Closes, Phases, Stamps, Snapshots, Causes, Refusals, Safe, Serial, Ascending, Runs, LowEnds, HighEnds}
 use Rattle.erm_bad_reports.specs.StampParts.{BreaksPartAlone, Part, MeetsPart, Differ, Least, Begun, Sealed, Begins, Draws, Ascends, Flushes, FlushesFirst, BeginsAscend, Stops, UntoldAfter, UntoldBefore, begun_at_a_newer, drawn_within}
 use Rattle.erm_bad_reports.proofs.OfStampParts.{any_place}
 use Rattle.erm_bad_reports.proofs.OfStampsOfTwo.{in_time}
 use Rattle.erm_bad_reports.proofs.Reading.{owes_of}
-use Rattle.erm_bad_reports.proofs.Tests.{begins_ascend, begins_stop, byte, first_snapshot, flushed_begin, flushed_drawn, high_ends, low_ends, most_from, no_pair_ascends, one_commit_ordered, phases_kept, refusals_kept, stamps_begin, stamps_differ, stamps_drawn, untold_after, untold_before}
+use Rattle.erm_bad_reports.proofs.Tests.{begins_ascend, begins_stop, byte, first_snapshot, flushed_begin, flushed_drawn, high_ends, low_ends, most_from, no_pair_ascends, one_commit_ordered, phases_kept, refusals_kept, safe_kept, stamps_begin, stamps_differ, stamps_drawn, untold_after, untold_before}
 
 -- ---- within the block of an earlier one
 abbrev near_told : List Transaction
@@ -35,7 +35,7 @@ keeps_but_near : (other : Clause) → other ≢ Stamps → Meets other drawn_wit
 keeps_but_near Fit not = All-from_recursion FitsTypes (lines_of drawn_within) ((omega arith, omega arith), ((omega arith, omega arith), ((omega arith, omega arith), ((omega arith, (omega arith, omega arith, omega arith)), ((omega arith, (omega arith, omega arith, omega arith)), (omega arith, ((omega arith, omega arith, omega arith, omega arith), ((omega arith, omega arith, omega arith, omega arith), (omega arith, (tt, tt))))))))))
 keeps_but_near Answered not = refl
 keeps_but_near Closes not = record { each = refl; fits = λ c (k, at). cc }
-keeps_but_near Phases not = phases_kept drawn_within (tt, (tt, (tt, (tt, tt))))
+keeps_but_near Phases not = phases_kept drawn_within (tt, (tt, (tt, (tt, tt)))) refl
 keeps_but_near Stamps not = absurd (not refl)
 keeps_but_near Snapshots not = each_in (λ t. HasSnapshotReplies (history_of near_told) empty t.begin (steps_of t)) near_told
     (first_snapshot (history_of near_told) empty 13 [] refl tt, (first_snapshot (history_of near_told) empty 13 [] refl tt, tt))
@@ -47,6 +47,7 @@ keeps_but_near Refusals not = refusals_kept drawn_within refl (
   record { own = λ t is. tt; log = tt; unfilled = tt },
   (record { own = λ t is. tt; log = tt; unfilled = tt }, (record { own = λ t is. own_window _ t _; log = tt; unfilled = tt }, (record { own = λ t is. own_window _ t _; log = tt; unfilled = tt }, tt))),
 )
+keeps_but_near Safe not = safe_kept drawn_within refl
 keeps_but_near Serial not = record { same = IsPermutation-refl (history_of near_told); ascends = all_pairs_of_two (λ a b. ComesBefore (rank_of a) (rank_of b)) _ _ (inl (omega arith)) }
 keeps_but_near Ascending not = no_pair_ascends
 keeps_but_near Runs not = record { run = (tt, (tt, refl)) }
@@ -108,7 +109,7 @@ keeps_but_newer : (other : Clause) → other ≢ Stamps → Meets other begun_at
 keeps_but_newer Fit not = All-from_recursion FitsTypes (lines_of begun_at_a_newer) ((omega arith, omega arith), ((omega arith, omega arith), ((omega arith, tt), ((omega arith, (omega arith, omega arith, omega arith)), ((omega arith, omega arith), ((omega arith, omega arith), ((omega arith, omega arith), ((omega arith, tt), (omega arith, ((omega arith, omega arith, omega arith, omega arith), (omega arith, ((omega arith, omega arith, byte 1 (omega arith)), (tt, tt)))))))))))))
 keeps_but_newer Answered not = refl
 keeps_but_newer Closes not = record { each = refl; fits = λ c (k, at). cc }
-keeps_but_newer Phases not = phases_kept begun_at_a_newer (tt, (tt, (tt, (tt, (tt, (tt, (tt, tt)))))))
+keeps_but_newer Phases not = phases_kept begun_at_a_newer (tt, (tt, (tt, (tt, (tt, (tt, (tt, tt))))))) refl
 keeps_but_newer Stamps not = absurd (not refl)
 keeps_but_newer Snapshots not = each_in (λ t. HasSnapshotReplies (history_of newer_told) empty t.begin (steps_of t)) newer_told
     (first_snapshot (history_of newer_told) empty 13 _ refl (refl, tt), (first_snapshot (history_of newer_told) empty 13 [] refl tt, (first_snapshot (history_of newer_told) empty 13 [] refl tt, tt)))
@@ -145,6 +146,7 @@ keeps_but_newer Refusals not = refusals_kept begun_at_a_newer refl (
     ),
   ),
 )
+keeps_but_newer Safe not = safe_kept begun_at_a_newer refl
 keeps_but_newer Serial not = one_commit_ordered _
 keeps_but_newer Ascending not = λ i j d less within. absurd (omega arith)
 keeps_but_newer Runs not = record { run = ((refl, tt), refl) }

@@ -188,7 +188,7 @@ keeps_but_excludes : (other : Clause) → other ≢ Causes → Meets other reade
 keeps_but_excludes Fit not = All-from_recursion FitsTypes (lines_of reader_excludes) ((omega arith, omega arith), ((omega arith, omega arith), ((omega arith, omega arith), ((omega arith, omega arith), ((omega arith, tt), ((omega arith, tt), ((omega arith, tt), ((omega arith, (omega arith, omega arith, omega arith)), ((omega arith, (omega arith, omega arith, omega arith)), ((omega arith, (omega arith, omega arith, omega arith)), (omega arith, ((omega arith, omega arith, omega arith, omega arith), ((omega arith, omega arith, omega arith, omega arith), (omega arith, ((omega arith, omega arith, byte 1 (omega arith)), (tt, tt))))))))))))))))
 keeps_but_excludes Answered not = refl
 keeps_but_excludes Closes not = record { each = refl; fits = λ c (k, at). cc }
-keeps_but_excludes Phases not = phases_kept reader_excludes (tt, (tt, (tt, (tt, (tt, (tt, (tt, (tt, (tt, tt)))))))))
+keeps_but_excludes Phases not = phases_kept reader_excludes (tt, (tt, (tt, (tt, (tt, (tt, (tt, (tt, (tt, tt))))))))) refl
 keeps_but_excludes Stamps not = stamps_agree reader_excludes.opening excludes_told (said_of reader_excludes.script reader_excludes.report.answers) refl refl refl refl refl refl
     (each_in (λ t. 13 ≤ t.begin) excludes_told (omega arith, (omega arith, (omega arith, tt))))
     (each_in (λ t. IfSome (stamp_of t) (λ stamp. t.begin ≤ stamp)) excludes_told (omega arith, (omega arith, (omega arith, tt))))
@@ -223,6 +223,7 @@ keeps_but_excludes Refusals not = refusals_kept reader_excludes refl (
     ),
   ),
 )
+keeps_but_excludes Safe not = safe_kept reader_excludes refl
 keeps_but_excludes Serial not = record { same = IsPermutation-refl (history_of excludes_told); ascends = all_pairs_of_two (λ a b. ComesBefore (rank_of a) (rank_of b)) _ _ (inl (omega arith)) }
 keeps_but_excludes Ascending not = λ i j d less within. absurd (omega arith)
 keeps_but_excludes Runs not = record { run = ((refl, tt), ((ap reply.Value (sym (value_at-insert empty 0 1 (1 ∷ []) 0 2 ∙ value_at-empty 0 2)), tt), refl)) }

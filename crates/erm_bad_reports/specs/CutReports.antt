@@ -20,7 +20,7 @@ use Rattle.erm_good_report.specs.Snapshots.{SnapshotsAgree}
 use Rattle.erm_good_report.specs.Stamps.{StampsAgree}
 use Rattle.erm_good_report.specs.Transactions.{Transaction, history_of, said_of, steps_of, transactions_of}
 use Rattle.erm_bad_reports.specs.Cases.{a_line, asked_from, b_line, of_log, one_name, opening_at}
-use Rattle.erm_bad_reports.specs.Clauses.{Case, Causes, Meets, Phases, Refusals, Snapshots}
+use Rattle.erm_bad_reports.specs.Clauses.{Case, Causes, Meets, Phases, Refusals, Safe, Snapshots}
 use Rattle.erm_bad_reports.specs.StampParts.{MeetsPart, Part, c_line, three_names}
 
 -- a script that was run in turn until the disk failed, the answers so far, the line at which it failed, if it was one, and the sessions closed
@@ -89,6 +89,7 @@ pub record OwesAllButPart (part : Part) (k : CutCase) : Type 0 where
   pub snapshots : Meets Snapshots (whole_of k)
   pub causes : Meets Causes (whole_of k)
   pub refusals : Meets Refusals (whole_of k)
+  pub safe : Meets Safe (whole_of k)
 
 -- its lines are no report that was cut off, whatever parts they are read as
 abbrev pub IsNoCutReport : CutCase → Type 0

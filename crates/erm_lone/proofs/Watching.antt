@@ -1,7 +1,7 @@
 -- A snapshot that only reads of a session of a world, as that of a session beside others.
 use Rattle.std.specs.Prelude.{OnOk}
 use Rattle.std.proofs.Common.{◌≡◌, ℕ, ◌+◌, ◌≤◌, false, List, length, refl, sym, ap, subst, arith, Result, Ok, Err, IfOk, IfErr}
-use Rattle.erm_model.specs.declared.outcome.Phase.TheVariants.{Idle, Pending, Safe}
+use Rattle.erm_model.specs.declared.outcome.Phase.TheVariants.{Idle, Pending}
 use Rattle.erm_model.specs.RowTransaction.{Law}
 use Rattle.erm_world.specs.declared.stops.BeginStop.{BeginStop}
 use Rattle.erm_world.specs.declared.stops.SafeStop.{SafeStop}
@@ -15,7 +15,7 @@ use Rattle.erm_world.proofs.Commits.{tells_commits}
 use Rattle.erm_safe_world.specs.Moves.{MovesOn}
 use Rattle.erm_beside.specs.Calls.{After, MayNotBeginBeside, Passes}
 use Rattle.erm_beside.specs.Safe.{DidBeginSafeBeside, DidSafeBeside, IsRowBelow, NotSafeBeside, NotSafeMet}
-use Rattle.erm_lone.specs.Later.{EndsIn, IsSafeNow}
+use Rattle.erm_lone.specs.Later.{EndsIn}
 use Rattle.erm_lone.specs.Moving.{WorldsMoveOn}
 use Rattle.erm_lone.specs.Within.{world_itself}
 use Rattle.erm_lone.proofs.Later.{world_begins_safe, world_ends_safe, world_is_safe}
@@ -32,7 +32,7 @@ pending_with (world.snapshot s) pending = (s, refl)
 
 -- BEGIN
 pub begins_leaves : (r : Result ℕ BeginStop) (v t : View) (seat : ℕ) → IfOk r (λ begin. DidBeginSafe v seat begin t) → IfErr r (λ why. MayNotBegin v seat why t) → Leaves v seat t
-begins_leaves (Ok begin) v t seat did was = leaves_becomes v t seat _ did.3 (λ now. cc)
+begins_leaves (Ok begin) v t seat did was = leaves_becomes v t seat _ did.3
 begins_leaves (Err why) v t seat did was = leaves_same v t seat (not_begun v t seat why was)
 
 pub begun_so : (r : Result ℕ BeginStop) (v t : View) (seat : ℕ) → IfOk r (λ begin. DidBeginSafe v seat begin t) → IfOk r (λ begin. After seat (DidBeginSafeBeside seat begin) v t)
@@ -45,12 +45,7 @@ refused_so (Err why) v t seat was = at_once seat (MayNotBeginBeside seat why) v 
 
 -- SAFE
 pub looked_leaves : {X : Type 0} (r : Result X SafeStop) (v t : View) (seat : ℕ) → OnOk r (DidSafe v seat t) → IfErr r (λ why. DidNotSafe v seat why t) → Leaves v seat t
-looked_leaves (Ok x) v t seat (s, stand, now, is_safe) was = record {
-  others = now.others;
-  opening = now.opening;
-  given_up = now.given_up;
-  safe = λ so is. subst (λ (n : ℕ). IsSafeIn t n) (sym (ap (λ (y : Session). (work_of y.stand).begin) now.own)) is_safe;
-}
+looked_leaves (Ok x) v t seat did was = leaves_becomes v t seat _ did.2
 looked_leaves (Err (stop.NotYet other seen)) v t seat did was = leaves_same v t seat was.0
 looked_leaves (Err (stop.Unsafe other stamp)) v t seat did was = aborts_leaves v t seat was.0
 
@@ -118,11 +113,11 @@ module _ (moving : WorldsMoveOn) where
   unsafe_met (Err (stop.Unsafe other stamp)) law v t seat lawful was = λ f end. back_met law v t f seat other stamp lawful was end
 
   -- READ. The row stays the newest below the stamp, which is safe.
-  pub row_below : (law : Law) (v t f : View) (seat oid : ℕ) (row : List ℕ) → IsSafeNow v seat → phase_at v seat ≡ Safe → t ≡ v → DidSafeRead v seat oid row → EndsIn law t seat f
+  pub row_below : (law : Law) (v t f : View) (seat oid : ℕ) (row : List ℕ) → IsSafeIn v (work_at v seat).begin → t ≡ v → DidSafeRead v seat oid row → EndsIn law t seat f
       → IsRowBelow f (work_at v seat).begin oid row
-  row_below law v t f seat oid row stands is_safe same read end =
+  row_below law v t f seat oid row is_safe same read end =
       let on : MovesOn v f = subst (λ (u : View). MovesOn u f) same end.3 in
-      (read.0, moving.rows_stay v f (work_at v seat).begin oid read.0 row on (stands is_safe) end.2.snapshots read.1)
+      (read.0, moving.rows_stay v f (work_at v seat).begin oid read.0 row on is_safe end.2.snapshots read.1)
 
 -- the session passes on, as it is
 pub same_passes : (seat : ℕ) (v t : View) → t ≡ v → Passes seat v t

@@ -1,10 +1,8 @@
 -- A world after calls of its sessions: in which worlds its sessions may end.
 use Rattle.std.specs.Prelude.{◌≡◌, ◌≢◌, ℕ, ◌≤◌, List}
-use Rattle.erm_model.specs.declared.outcome.Phase.TheVariants.{Safe}
 use Rattle.erm_model.specs.RowTransaction.{Law}
 use Rattle.erm_world.specs.Laws.{IsSerializable}
-use Rattle.erm_world.specs.Safe.{IsSafeIn}
-use Rattle.erm_world.specs.World.{GivenUp, IsSession, Session, View, phase_at, work_at}
+use Rattle.erm_world.specs.World.{GivenUp, IsSession, Session, View}
 use Rattle.erm_safe_world.specs.Moves.{MovesOn}
 use Rattle.erm_beside.specs.Later.{IsLater}
 
@@ -18,10 +16,6 @@ pub record IsLaterWorld (v f : View) : Type 0 where
 -- as far as a session of this seat knows, all may end in a later state of its world, to which this moves on, and whose transactions are serializable
 abbrev pub EndsIn : Law → View → ℕ → View → Type 0
 EndsIn law v seat f = IsSession v seat × IsLaterWorld v f × IsSerializable law f × MovesOn v f
-
--- where the session has a safe snapshot, this stands on a safe stamp
-abbrev pub IsSafeNow : View → ℕ → Type 0
-IsSafeNow v seat = phase_at v seat ≡ Safe → IsSafeIn v (work_at v seat).begin
 
 -- the sessions of a world but the one of this seat stand so, and have given these claims up
 abbrev pub OthersStand : (ℕ → Session × List GivenUp) → View → ℕ → Type 0

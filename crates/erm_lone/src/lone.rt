@@ -1,6 +1,6 @@
 //! A session of a world that nobody else calls meanwhile.
 ghost use Rattle.erm_world.specs.World.{IsSession};
-ghost use Rattle.erm_lone.specs.Later.{EndsIn, IsSafeNow, OthersStand};
+ghost use Rattle.erm_lone.specs.Later.{EndsIn, OthersStand};
 ghost use Rattle.erm_lone.specs.Within.{ends_itself, is_sound, is_within};
 
 use crate::{Others, worlds_move_on};
@@ -10,7 +10,7 @@ use erm_world::{BeginStop, NotFlushed, RowWorld, Wait};
 use std::marker::PhantomData;
 
 /// A world and the seat of one of its sessions. It has the world alone, so that the others may go on between its calls only where the world
-/// is handed on to them: while it is called they stand as they stood. Where it has a safe snapshot this stands on a safe stamp.
+/// is handed on to them: while it is called they stand as they stood.
 #[derive(Drop)]
 pub struct LoneSession<W, O> {
     pub world: W,
@@ -27,7 +27,7 @@ impl<W: RowWorld, O: Others> SharedSession for LoneSession<W, O> {
 
     ghost seat = { λ s. s.seat };
 
-    ghost stands = { λ shared s. W.stands s.world × IsSession (W.view s.world) s.seat × OthersStand O.standing (W.view s.world) s.seat × IsSafeNow (W.view s.world) s.seat };
+    ghost stands = { λ shared s. W.stands s.world × IsSession (W.view s.world) s.seat × OthersStand O.standing (W.view s.world) s.seat };
 
     ghost ends = { λ s f. EndsIn W.law (W.view s.world) s.seat f };
 

@@ -8,6 +8,7 @@ use Rattle.erm_world.specs.Calls.{Becomes, IsDone}
 use Rattle.erm_world.specs.Laws.{IsCommitOf}
 use Rattle.erm_world.specs.World.{Fate, Finished, IsSession, IsWorking, Opening, Session, View, Work, history_of}
 use Rattle.erm_world.specs.World as world
+use Rattle.erm_world.specs.Whole.{KeepsSessions}
 use Rattle.erm_world.proofs.Commits.{tells_commits}
 use Rattle.erm_world.proofs.Lists.{∈-before}
 use Rattle.erm_safe_world.specs.Moves.{IsOfNow, MovesOn}
@@ -52,6 +53,33 @@ moves_then v t u first second =
       commits = λ r m.
           ⊎_elim (λ (before : r ∈ history_of t). first.commits r before) (λ (now : IsOfNow t r.begin). inr (now_before v t r.begin first now)) (second.commits r m);
       works = λ seat w session working. now_before v t w.begin first (second.works seat w (session_after v t seat first.opening session) working);
+    }
+
+-- A FLUSHER leaves the sessions, and so what they have committed and are at work with.
+keeps_commit : (v t : View) → t.opening ≡ v.opening → ((q : ℕ) → IsSession v q → t.session q ≡ v.session q) → (r : TransactionRecord) → r ∈ history_of v → r ∈ history_of t
+keeps_commit v t opening same r m =
+    let c = (tells_commits v).only r m in
+    (tells_commits t).each r (record {
+      seat = c.seat;
+      session = session_after v t c.seat opening c.session;
+      work = c.work;
+      stamp = c.stamp;
+      succ = c.succ;
+      pred = c.pred;
+      over = subst (λ (s : Session). record { work = c.work; fate = world.commits c.stamp c.succ c.pred } ∈ s.over) (sym (same c.seat c.session)) c.over;
+      is = c.is;
+    })
+
+pub keeps_moves : (v t : View) → KeepsSessions v t → MovesOn v t
+keeps_moves v t keeps =
+    let tail = keeps.tail in
+    record {
+      opening = keeps.opening;
+      tail = omega (arith, tail);
+      kept = keeps_commit v t keeps.opening keeps.session;
+      commits = λ r m.
+          inl (keeps_commit t v (sym keeps.opening) (λ q session. sym (keeps.session q (session_before v t q keeps.opening session))) r m);
+      works = λ seat w session working. inl (seat, w, session, subst (λ (s : Session). IsWorking s.stand w) (keeps.session seat session) working, refl);
     }
 
 -- ONE SESSION changes: what is over in it was over before, or is a commit of now; and so is what it is at work with.

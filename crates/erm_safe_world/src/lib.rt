@@ -12,11 +12,12 @@ ghost use Rattle.erm_world.specs.declared.stops.SafeStop.{SafeStop};
 ghost use Rattle.erm_world.specs.declared.stops.Wait.{Wait};
 ghost use Rattle.erm_world.specs.Calls.{DidAbort, DidBegin, DidClaim, DidMake, DidNotClaim, DidNotMake, DidNotRead, DidNotSettle, DidRead, DidSeal, DidSettle, DidWrite, MayNotBegin};
 ghost use Rattle.erm_world.specs.Safe.{DidBeginSafe, DidNotSafe, DidSafe, IsSafeIn};
+ghost use Rattle.erm_world.specs.Whole.{KeepsSessions};
 ghost use Rattle.erm_world.specs.World.{IsSession, View, history_of, phase_at};
 ghost use Rattle.erm_safe_world.specs.Moves.{MovesOn};
 
-/// The world moves on by each call of a session that is answered, and by calls one after another. Calls that leave the view leave the world
-/// where it was.
+/// The world moves on by each call of a session that is answered, by each call of a flusher, and by calls one after another. Calls that leave
+/// the view leave the world where it was.
 pub fn calls_move_on()
     ensures stays { (v t : View) → t ≡ v → MovesOn v t }
     ensures goes_on { (v t u : View) → MovesOn v t → MovesOn t u → MovesOn v u }
@@ -30,6 +31,7 @@ pub fn calls_move_on()
     ensures aborts { (v t : View) (seat : ℕ) → DidAbort v seat t → MovesOn v t }
     ensures begins_safe { (v t : View) (seat begin : ℕ) → DidBeginSafe v seat begin t → MovesOn v t }
     ensures is_safe { (v t : View) (seat : ℕ) → DidSafe v seat t → MovesOn v t }
+    ensures flushes { (v t : View) → KeepsSessions v t → MovesOn v t }
 {}
 
 /// And by each call that is refused.

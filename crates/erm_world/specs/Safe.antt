@@ -2,13 +2,14 @@
 use Rattle.std.specs.Prelude.{◌≡◌, ◌≢◌, ℕ, ◌+◌, ◌<◌, ◌≤◌, ◌⊎◌, true, false, List, length}
 use Rattle.erm_model.specs.declared.history.TransactionRecord.{TransactionRecord}
 use Rattle.erm_model.specs.declared.limits.TheConstants.{LAST_NUMBER, STOP}
+use Rattle.erm_model.specs.declared.outcome.Phase.TheVariants.{Safe}
 use Rattle.erm_model.specs.History.{IsNewestBelow}
 use Rattle.erm_model.specs.Member.{◌∈◌}
 use Rattle.erm_model.specs.Safe.{IsSafeAt}
 use Rattle.erm_world.specs.declared.stops.SafeStop.{SafeStop}
 use Rattle.erm_world.specs.declared.stops.SafeStop.TheVariants as safe
 use Rattle.erm_world.specs.Calls.{Becomes, IsDone}
-use Rattle.erm_world.specs.World.{IsCurrent, IsSession, IsWorking, Session, Snapshot, View, Work, history_of, work_at}
+use Rattle.erm_world.specs.World.{IsCurrent, IsSession, IsWorking, Session, Snapshot, View, Work, history_of, phase_at, work_at}
 use Rattle.erm_world.specs.World as world
 
 -- the session has this snapshot
@@ -26,6 +27,10 @@ pub record IsSafeIn (v : View) (b : ℕ) : Type 0 where
   pub past : b ≤ v.tail
   pub history : IsSafeAt (history_of v) b
   pub begins : (seat : ℕ) (w : Work) → IsSession v seat → IsWorking (v.session seat).stand w → b ≤ w.begin
+
+-- each safe snapshot stands on a safe stamp
+abbrev pub HasSafeStamps : View → Type 0
+HasSafeStamps v = (seat : ℕ) → IsSession v seat → phase_at v seat ≡ Safe → IsSafeIn v (work_at v seat).begin
 
 -- SAFE. The snapshot's stamp is safe.
 abbrev pub DidSafe : View → ℕ → View → Type 0

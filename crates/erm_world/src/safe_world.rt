@@ -1,9 +1,9 @@
 //! A world whose sessions may have snapshots that only read.
-ghost use Rattle.std.specs.Prelude.{◌≡◌, ℕ, ◌<◌, IfOk, IfErr, OnOk};
+ghost use Rattle.std.specs.Prelude.{◌≡◌, ◌<◌, IfOk, IfErr, OnOk};
 ghost use Rattle.erm_model.specs.declared.limits.TheConstants.{OID_LIMIT};
 ghost use Rattle.erm_model.specs.declared.outcome.Phase.TheVariants.{Idle, Pending, Safe};
 ghost use Rattle.erm_world.specs.Calls.{DidAbort, MayNotBegin};
-ghost use Rattle.erm_world.specs.Safe.{DidBeginSafe, DidNotSafe, DidSafe, DidSafeRead, HasSnapshot, IsSafeIn};
+ghost use Rattle.erm_world.specs.Safe.{DidBeginSafe, DidNotSafe, DidSafe, DidSafeRead, HasSafeStamps, HasSnapshot};
 ghost use Rattle.erm_world.specs.World.{IsSession, phase_at, work_at};
 
 use crate::RowWorld;
@@ -58,5 +58,5 @@ pub trait SafeWorld: RowWorld {
         ensures ended { DidAbort (Self.view self.old) seat (Self.view self.new) };
 
     /// A safe snapshot stands on a safe stamp, in every state.
-    ghost safe_stamps: { (w : Self) → Self.stands w → (seat : ℕ) → IsSession (Self.view w) seat → phase_at (Self.view w) seat ≡ Safe → IsSafeIn (Self.view w) (work_at (Self.view w) seat).begin };
+    ghost safe_stamps: { (w : Self) → Self.stands w → HasSafeStamps (Self.view w) };
 }

@@ -2,7 +2,7 @@ use Rattle.std.proofs.Common.{refl}
 use Rattle.erm_world.specs.World.{work_at}
 use Rattle.erm_world.specs.Works.{making}
 use Rattle.erm_safe_world.proofs.Calls.{begin_moves, begin_safe_moves, claim_moves, read_moves, safe_moves, seal_moves, settle_moves, works_moves, write_moves}
-use Rattle.erm_safe_world.proofs.Moved.{abort_moves, moves_nowhere, moves_then}
+use Rattle.erm_safe_world.proofs.Moved.{abort_moves, keeps_moves, moves_nowhere, moves_then}
 use Rattle.erm_safe_world.proofs.calls_move_on.Goals as goal
 
 pub returns-clause-stays : goal.returns-clause-stays
@@ -40,3 +40,6 @@ returns-clause-begins_safe c v t seat begin did = begin_safe_moves v t seat begi
 
 pub returns-clause-is_safe : goal.returns-clause-is_safe
 returns-clause-is_safe c v t seat did = safe_moves v t seat did
+
+pub returns-clause-flushes : goal.returns-clause-flushes
+returns-clause-flushes c v t keeps = keeps_moves v t keeps

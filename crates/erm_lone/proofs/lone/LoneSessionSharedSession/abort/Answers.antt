@@ -7,5 +7,5 @@ returns-clause-onward g c = onward c.worlds_move_on.ensures g.W.RowWorld.law (g.
 
 pub returns-clause-stands : goal.returns-clause-stands
 returns-clause-stands g c =
-    let on = stays g.O.Others.standing (g.W.RowWorld.view c.args.self.now.world) (g.W.RowWorld.view c.abort.new.self) c.args.self.now.seat (aborts_leaves (g.W.RowWorld.view c.args.self.now.world) (g.W.RowWorld.view c.abort.new.self) c.args.self.now.seat c.abort.ensures.aborted) (c.requires.stands.1, c.requires.stands.2, c.requires.stands.3) in
-    (c.abort.ensures.stands, on.0, on.1, on.2)
+    let on = stays g.O.Others.standing (g.W.RowWorld.view c.args.self.now.world) (g.W.RowWorld.view c.abort.new.self) c.args.self.now.seat (aborts_leaves (g.W.RowWorld.view c.args.self.now.world) (g.W.RowWorld.view c.abort.new.self) c.args.self.now.seat c.abort.ensures.aborted) (c.requires.stands.1, c.requires.stands.2) in
+    (c.abort.ensures.stands, on.0, on.1)

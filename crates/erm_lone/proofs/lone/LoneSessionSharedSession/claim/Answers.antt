@@ -25,5 +25,5 @@ returns-clause-met g c = met_err c.claim.result tells_commits g.W.RowWorld.law (
 
 pub returns-clause-stands : goal.returns-clause-stands
 returns-clause-stands g c =
-    let on = stays g.O.Others.standing (g.W.RowWorld.view c.args.self.now.world) (g.W.RowWorld.view c.claim.new.self) c.args.self.now.seat (wrote_leaves c.claim.result g.W.RowWorld.law (g.W.RowWorld.view c.args.self.now.world) (g.W.RowWorld.view c.claim.new.self) c.args.self.now.seat (did_claim c.args.oid) (asked_claim c.args.oid) c.requires.active c.claim.ensures.ok c.claim.ensures.err) (c.requires.stands.1, c.requires.stands.2, c.requires.stands.3) in
-    (c.claim.ensures.stands, on.0, on.1, on.2)
+    let on = stays g.O.Others.standing (g.W.RowWorld.view c.args.self.now.world) (g.W.RowWorld.view c.claim.new.self) c.args.self.now.seat (wrote_leaves c.claim.result g.W.RowWorld.law (g.W.RowWorld.view c.args.self.now.world) (g.W.RowWorld.view c.claim.new.self) c.args.self.now.seat (did_claim c.args.oid) (asked_claim c.args.oid) c.requires.active c.claim.ensures.ok c.claim.ensures.err) (c.requires.stands.1, c.requires.stands.2) in
+    (c.claim.ensures.stands, on.0, on.1)

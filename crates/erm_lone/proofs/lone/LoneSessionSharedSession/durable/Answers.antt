@@ -12,5 +12,5 @@ pub returns-clause-stands : goal.returns-clause-stands
 returns-clause-stands g c =
     let v = g.W.RowWorld.view c.args.self.now.world in
     let t = g.W.RowWorld.view c.durable.new.self in
-    let on = stays g.O.Others.standing v t c.args.self.now.seat (leaves_same v t c.args.self.now.seat c.durable.ensures.same) (c.requires.stands.1, c.requires.stands.2, c.requires.stands.3) in
-    (c.durable.ensures.stands, on.0, on.1, on.2)
+    let on = stays g.O.Others.standing v t c.args.self.now.seat (leaves_same v t c.args.self.now.seat c.durable.ensures.same) (c.requires.stands.1, c.requires.stands.2) in
+    (c.durable.ensures.stands, on.0, on.1)

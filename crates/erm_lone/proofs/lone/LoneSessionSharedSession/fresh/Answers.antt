@@ -27,5 +27,5 @@ returns-clause-met g c = met_err c.fresh.result tells_commits g.W.RowWorld.law (
 
 pub returns-clause-stands : goal.returns-clause-stands
 returns-clause-stands g c =
-    let on = stays g.O.Others.standing (g.W.RowWorld.view c.args.self.now.world) (g.W.RowWorld.view c.fresh.new.self) c.args.self.now.seat (called_leaves c.fresh.result g.W.RowWorld.law (g.W.RowWorld.view c.args.self.now.world) (g.W.RowWorld.view c.fresh.new.self) c.args.self.now.seat (λ (oid : ℕ). did_make oid) asked_make c.requires.active c.fresh.ensures.ok c.fresh.ensures.err) (c.requires.stands.1, c.requires.stands.2, c.requires.stands.3) in
-    (c.fresh.ensures.stands, on.0, on.1, on.2)
+    let on = stays g.O.Others.standing (g.W.RowWorld.view c.args.self.now.world) (g.W.RowWorld.view c.fresh.new.self) c.args.self.now.seat (called_leaves c.fresh.result g.W.RowWorld.law (g.W.RowWorld.view c.args.self.now.world) (g.W.RowWorld.view c.fresh.new.self) c.args.self.now.seat (λ (oid : ℕ). did_make oid) asked_make c.requires.active c.fresh.ensures.ok c.fresh.ensures.err) (c.requires.stands.1, c.requires.stands.2) in
+    (c.fresh.ensures.stands, on.0, on.1)

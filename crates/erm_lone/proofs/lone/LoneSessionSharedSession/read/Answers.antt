@@ -27,5 +27,5 @@ returns-clause-met g c = met_err c.read.result tells_commits g.W.RowWorld.law (g
 
 pub returns-clause-stands : goal.returns-clause-stands
 returns-clause-stands g c =
-    let on = stays g.O.Others.standing (g.W.RowWorld.view c.args.self.now.world) (g.W.RowWorld.view c.read.new.self) c.args.self.now.seat (called_leaves c.read.result g.W.RowWorld.law (g.W.RowWorld.view c.args.self.now.world) (g.W.RowWorld.view c.read.new.self) c.args.self.now.seat (λ (row : List ℕ). did_read c.args.oid row) (asked_read c.args.oid) c.requires.active c.read.ensures.ok c.read.ensures.err) (c.requires.stands.1, c.requires.stands.2, c.requires.stands.3) in
-    (c.read.ensures.stands, on.0, on.1, on.2)
+    let on = stays g.O.Others.standing (g.W.RowWorld.view c.args.self.now.world) (g.W.RowWorld.view c.read.new.self) c.args.self.now.seat (called_leaves c.read.result g.W.RowWorld.law (g.W.RowWorld.view c.args.self.now.world) (g.W.RowWorld.view c.read.new.self) c.args.self.now.seat (λ (row : List ℕ). did_read c.args.oid row) (asked_read c.args.oid) c.requires.active c.read.ensures.ok c.read.ensures.err) (c.requires.stands.1, c.requires.stands.2) in
+    (c.read.ensures.stands, on.0, on.1)

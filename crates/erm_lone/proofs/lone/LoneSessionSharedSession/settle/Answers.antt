@@ -14,5 +14,5 @@ returns-clause-err g c = if_err c.settle.result (λ (why : Wait). DidNotSettle (
 
 pub returns-clause-stands : goal.returns-clause-stands
 returns-clause-stands g c =
-    let on = stays g.O.Others.standing (g.W.RowWorld.view c.args.self.now.world) (g.W.RowWorld.view c.settle.new.self) c.args.self.now.seat (settles_leaves c.settle.result (g.W.RowWorld.view c.args.self.now.world) (g.W.RowWorld.view c.settle.new.self) c.args.self.now.seat c.settle.ensures.ok c.settle.ensures.err) (c.requires.stands.1, c.requires.stands.2, c.requires.stands.3) in
-    (c.settle.ensures.stands, on.0, on.1, on.2)
+    let on = stays g.O.Others.standing (g.W.RowWorld.view c.args.self.now.world) (g.W.RowWorld.view c.settle.new.self) c.args.self.now.seat (settles_leaves c.settle.result (g.W.RowWorld.view c.args.self.now.world) (g.W.RowWorld.view c.settle.new.self) c.args.self.now.seat c.settle.ensures.ok c.settle.ensures.err) (c.requires.stands.1, c.requires.stands.2) in
+    (c.settle.ensures.stands, on.0, on.1)

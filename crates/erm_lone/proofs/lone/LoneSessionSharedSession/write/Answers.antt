@@ -25,5 +25,5 @@ returns-clause-met g c = met_err c.write.result tells_commits g.W.RowWorld.law (
 
 pub returns-clause-stands : goal.returns-clause-stands
 returns-clause-stands g c =
-    let on = stays g.O.Others.standing (g.W.RowWorld.view c.args.self.now.world) (g.W.RowWorld.view c.write.new.self) c.args.self.now.seat (wrote_leaves c.write.result g.W.RowWorld.law (g.W.RowWorld.view c.args.self.now.world) (g.W.RowWorld.view c.write.new.self) c.args.self.now.seat (did_write c.args.oid c.args.row.now) (asked_claim c.args.oid) c.requires.active c.write.ensures.ok c.write.ensures.err) (c.requires.stands.1, c.requires.stands.2, c.requires.stands.3) in
-    (c.write.ensures.stands, on.0, on.1, on.2)
+    let on = stays g.O.Others.standing (g.W.RowWorld.view c.args.self.now.world) (g.W.RowWorld.view c.write.new.self) c.args.self.now.seat (wrote_leaves c.write.result g.W.RowWorld.law (g.W.RowWorld.view c.args.self.now.world) (g.W.RowWorld.view c.write.new.self) c.args.self.now.seat (did_write c.args.oid c.args.row.now) (asked_claim c.args.oid) c.requires.active c.write.ensures.ok c.write.ensures.err) (c.requires.stands.1, c.requires.stands.2) in
+    (c.write.ensures.stands, on.0, on.1)

@@ -21,5 +21,5 @@ returns-clause-stands g c =
     let v = g.W.RowWorld.view c.args.self.now.world in
     let t = g.W.RowWorld.view c.begin_safe.new.self in
     let on = stays g.O.Others.standing v t c.args.self.now.seat (begins_leaves c.begin_safe.result v t c.args.self.now.seat c.begin_safe.ensures.ok c.begin_safe.ensures.err)
-    (c.requires.stands.1, c.requires.stands.2, c.requires.stands.3) in
-    (c.begin_safe.ensures.stands, on.0, on.1, on.2)
+    (c.requires.stands.1, c.requires.stands.2) in
+    (c.begin_safe.ensures.stands, on.0, on.1)

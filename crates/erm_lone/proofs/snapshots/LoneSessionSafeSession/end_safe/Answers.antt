@@ -13,5 +13,5 @@ pub returns-clause-stands : goal.returns-clause-stands
 returns-clause-stands g c =
     let v = g.W.RowWorld.view c.args.self.now.world in
     let t = g.W.RowWorld.view c.end_safe.new.self in
-    let on = stays g.O.Others.standing v t c.args.self.now.seat (aborts_leaves v t c.args.self.now.seat c.end_safe.ensures.ended) (c.requires.stands.1, c.requires.stands.2, c.requires.stands.3) in
-    (c.end_safe.ensures.stands, on.0, on.1, on.2)
+    let on = stays g.O.Others.standing v t c.args.self.now.seat (aborts_leaves v t c.args.self.now.seat c.end_safe.ensures.ended) (c.requires.stands.1, c.requires.stands.2) in
+    (c.end_safe.ensures.stands, on.0, on.1)

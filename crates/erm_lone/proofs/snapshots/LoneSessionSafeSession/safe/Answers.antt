@@ -30,5 +30,5 @@ returns-clause-stands g c =
     let v = g.W.RowWorld.view c.args.self.now.world in
     let t = g.W.RowWorld.view c.safe.new.self in
     let on = stays g.O.Others.standing v t c.args.self.now.seat (looked_leaves c.safe.result v t c.args.self.now.seat c.safe.ensures.ok c.safe.ensures.err)
-    (c.requires.stands.1, c.requires.stands.2, c.requires.stands.3) in
-    (c.safe.ensures.stands, on.0, on.1, on.2)
+    (c.requires.stands.1, c.requires.stands.2) in
+    (c.safe.ensures.stands, on.0, on.1)
