@@ -23,6 +23,7 @@ COMMANDS = {
     "commit": (),
     "abort": (),
     "durable": (),
+    "safe": (),
 }
 ALONE = ("flush", "checkpoint")
 SESSIONS = 48

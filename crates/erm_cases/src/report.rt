@@ -20,10 +20,12 @@ const DONE: &[u8] = b"7 value 00ff
 7 pairs 0
 7 cut 1
 7 begin 13
+7 safe 38
 7 sealed 18
 7 committed 18 succ 17 pred 0
 7 excluded at 91 succ 69 pred 70
 7 aborted
+7 ended
 7 durable 13
 7 flushed 69
 7 empty 69
@@ -35,9 +37,12 @@ const REFUSED: &[u8] = b"8 not idle
 8 no transaction
 8 is sealed
 8 not sealed
+8 read only
+8 not safe
 8 log end 1152921504606846976
 8 numbers end
 8 wait 48 69
+8 unsafe 2 47
 8 wait ring 13
 8 owned 1 2
 8 newer 69
@@ -57,6 +62,7 @@ const REPORT: &[u8] = b"open 8 run 1
 close s1 aborted
 order 2
 commit s1 3 stamp 18 succ 17 pred 13
+safe s1 4 at 38
 map 0
 pair 15 0 -
 end
@@ -115,10 +121,12 @@ fn done(alloc: Global) -> Result<Text, AllocError> {
         seventh(Answer::Replied(Reply::Found(Pairs::new(Vec::new(alloc))))),
         seventh(Answer::Cut(1)),
         seventh(Answer::Began(13)),
+        seventh(Answer::Safe(38)),
         seventh(Answer::Sealed(18)),
         seventh(committed()),
         seventh(excluded()),
         seventh(Answer::Aborted),
+        seventh(Answer::Ended),
         seventh(Answer::Durable(13)),
         seventh(Answer::Flushed(69)),
         seventh(Answer::Empty(69)),
@@ -150,9 +158,12 @@ fn refusals(alloc: Global) -> Result<Text, AllocError> {
         eighth(Answer::NoTransaction),
         eighth(Answer::IsSealed),
         eighth(Answer::NotSealed),
+        eighth(Answer::ReadOnly),
+        eighth(Answer::NotSafe),
         eighth(Answer::LogEnd { tail: STOP }),
         eighth(Answer::NumbersEnd),
         eighth(Answer::WaitSeat { seat: 48, seen: 69 }),
+        eighth(Answer::Unsafe { seat: 2, stamp: 47 }),
         eighth(Answer::WaitRing { flushed: 13 }),
         eighth(Answer::Owned { seat: 1, number: 2 }),
         eighth(Answer::Newer { stamp: 69 }),
@@ -191,6 +202,11 @@ fn of_a_report(alloc: Global) -> Result<Text, AllocError> {
             stamp: 18,
             succ: 17,
             pred: 13,
+        },
+        Line::Safe {
+            session: name(b"s1"),
+            number: 4,
+            at: 38,
         },
         Line::Map { pairs: 0 },
         Line::Pair(Pair {

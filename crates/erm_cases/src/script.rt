@@ -46,13 +46,14 @@ a settle
 b commit
 b abort
 a durable
-checkpoint";
+checkpoint
+a safe";
 
 // A command in short: a letter for its kind, its table, and its numbers.
 type Short = (u8, u8, u64, u64);
 
 // The number of each line that is not skipped, its session, and its command.
-const PLACES: [(u32, Seat, Short); 15] = [
+const PLACES: [(u32, Seat, Short); 16] = [
     (2, 1, (b'b', 0, 0, 0)),
     (3, 2, (b'b', 0, 0, 0)),
     (5, 2, (b'g', 0, 1, 0)),
@@ -68,10 +69,11 @@ const PLACES: [(u32, Seat, Short); 15] = [
     (15, 1, (b'A', 0, 0, 0)),
     (16, 2, (b'L', 0, 0, 0)),
     (17, NO_SESSION, (b'K', 0, 0, 0)),
+    (18, 2, (b'W', 0, 0, 0)),
 ];
 
 // Lines, and the kind of fault of each.
-const LINES: [(&[u8], Grammar, Option<FaultKind>); 46] = [
+const LINES: [(&[u8], Grammar, Option<FaultKind>); 49] = [
     (b"flush", ALL, None),
     (b"checkpoint", ALL, None),
     (b"flush begin", ALL, None),
@@ -83,6 +85,7 @@ const LINES: [(&[u8], Grammar, Option<FaultKind>); 46] = [
     (b"a durable", ALL, None),
     (b"a get 0 1", THREADS, None),
     (b"a durable", THREADS, None),
+    (b"a safe", THREADS, None),
     (b"a get 0 1", FEW, None),
     (b"flush", THREADS, Some(FaultKind::Threads)),
     (b"checkpoint", THREADS, Some(FaultKind::Threads)),
@@ -103,12 +106,14 @@ const LINES: [(&[u8], Grammar, Option<FaultKind>); 46] = [
     (b"a scan 0 1 2", FEW, Some(FaultKind::Command)),
     (b"a tidy 0 1", FEW, Some(FaultKind::Command)),
     (b"a durable", FEW, Some(FaultKind::Command)),
+    (b"safe", ALL, Some(FaultKind::Command)),
     (b"a get 0", ALL, Some(FaultKind::Args)),
     (b"a next 0", ALL, Some(FaultKind::Args)),
     (b"a scan 0 1", ALL, Some(FaultKind::Args)),
     (b"a scan 0 1 2 3", ALL, Some(FaultKind::Args)),
     (b"a tidy 0 1 2", ALL, Some(FaultKind::Args)),
     (b"a durable 0", ALL, Some(FaultKind::Args)),
+    (b"a safe 0", ALL, Some(FaultKind::Args)),
     (b"a put 16 abc", ALL, Some(FaultKind::Args)),
     (b"a get 16 1", ALL, Some(FaultKind::Number)),
     (b"a next 0 01", ALL, Some(FaultKind::Number)),
@@ -205,6 +210,7 @@ fn short(command: &Command) -> Short {
         Command::Abort => (b'A', 0, 0, 0),
         Command::Durable => (b'L', 0, 0, 0),
         Command::Checkpoint => (b'K', 0, 0, 0),
+        Command::Safe => (b'W', 0, 0, 0),
     }
 }
 

@@ -1,4 +1,4 @@
-//! Two reports by hand: write skew, and one whose serial order is not that of the stamps.
+//! Three reports by hand: write skew, one whose serial order is not that of the stamps, and one of a snapshot that only reads.
 ghost use Rattle.std.specs.Prelude.{◌≤◌, IfOk, length};
 
 use crate::lines::{text_of, value};
@@ -114,6 +114,42 @@ pair 3 1 ff
 end
 ";
 
+// A snapshot that is safe at once, and stands before a transaction that began at its stamp.
+const SAFE: &[u8] = b"a begin
+a put 0 10 aa
+a put 0 20 bb
+a commit
+c safe
+c get 0 10
+a begin
+a put 0 10 c1
+a commit
+c get 0 10
+c commit
+";
+
+const SAFE_REPORT: &[u8] = b"open 8 run 1
+1 begin 13
+2 ok
+3 ok
+4 committed 13 succ 13 pred 0
+5 safe 38
+6 value aa
+7 begin 38
+8 ok
+9 committed 38 succ 38 pred 13
+10 value aa
+11 ended
+order 3
+commit a 1 stamp 13 succ 13 pred 0
+safe c 1 at 38
+commit a 2 stamp 38 succ 38 pred 13
+map 2
+pair 0 10 c1
+pair 0 20 bb
+end
+";
+
 fn found(bytes: &[u8]) -> Answer
     requires { length bytes.now ≤ VALUE_BYTES }
 {
@@ -175,6 +211,22 @@ fn three_answers() -> [Answer; 19] {
     ]
 }
 
+fn safe_answers() -> [Answer; 11] {
+    [
+        Answer::Began(13),
+        done(),
+        done(),
+        committed(13, 13, 0),
+        Answer::Safe(38),
+        found(b"\xaa"),
+        Answer::Began(38),
+        done(),
+        committed(38, 38, 13),
+        found(b"\xaa"),
+        Answer::Ended,
+    ]
+}
+
 fn three_closed() -> [ClosedSession; 2] {
     [
         ClosedSession {
@@ -220,18 +272,30 @@ fn report(
     Ok(text_of(alloc, &lines)?)
 }
 
-#[test]
-fn write_skew(rt: HostRuntime) -> Result<(), Fail> {
-    let alloc = rt.alloc();
-    let script = script_of(alloc, SKEW)?;
+// The text of the report of a script that closes no session, from an empty map on.
+fn report_from_empty(alloc: Global, text: &[u8], answers: Vec<Answer>) -> Result<Text, Fail> {
+    let script = script_of(alloc, text)?;
     let start = Start {
         map: Map::new(alloc),
         stamp: 8,
         run: 1,
     };
-    let answers = Vec::from_array(alloc, skew_answers())?;
-    let text = report(alloc, &script, start, answers, Vec::new(alloc))?;
+    report(alloc, &script, start, answers, Vec::new(alloc))
+}
+
+#[test]
+fn write_skew(rt: HostRuntime) -> Result<(), Fail> {
+    let answers = Vec::from_array(rt.alloc(), skew_answers())?;
+    let text = report_from_empty(rt.alloc(), SKEW, answers)?;
     assert_eq!(rt; text.as_slice(), SKEW_REPORT);
+    Ok(())
+}
+
+#[test]
+fn a_snapshot_in_its_place(rt: HostRuntime) -> Result<(), Fail> {
+    let answers = Vec::from_array(rt.alloc(), safe_answers())?;
+    let text = report_from_empty(rt.alloc(), SAFE, answers)?;
+    assert_eq!(rt; text.as_slice(), SAFE_REPORT);
     Ok(())
 }
 
