@@ -38,6 +38,7 @@ module _ (v : View) (opened : IsOpened v) where
     alone = λ seat w stamp succ pred c u session m. absurd (none_over seat (record { work = w; fate = world.excluded stamp succ pred }) session m);
     reach = λ seat w stamp session has. absurd (none_sealed seat w stamp session has);
     tail = omega (arith, opened.tail);
+    within = λ seat w stamp session has. absurd (none_sealed seat w stamp session has);
   }
 
   own_part : (seat : ℕ) → IsSession v seat → IsOwnPart v seat v []

@@ -17,6 +17,7 @@ end_left f ends = record {
   excluded = ends.excluded;
   reach = λ seat w stamp session has. omega (arith, ends.reach seat w stamp session has);
   tail = omega (arith, ends.tail);
+  within = ends.within;
 }
 
 abbrev pub in_part : (v f : View) (script : List ScriptLine) (answers : List Answer) (closed : List Closed) → IsRunAtOnce v script answers closed f → IsRunInPart v script script answers closed f

@@ -7,19 +7,31 @@ use Rattle.erm_report.specs.declared.answer.Answer.TheVariants as answer
 use Rattle.erm_script.specs.declared.script.Command.{Command}
 use Rattle.erm_script.specs.declared.script.Command.TheVariants as command
 use Rattle.erm_script.specs.declared.script.ScriptLine.{ScriptLine}
+use Rattle.erm_world.specs.declared.stops.SafeStop.{SafeStop}
 use Rattle.erm_world.specs.declared.stops.SafeStop.TheVariants as stop
 use Rattle.erm_world.specs.Safe.{IsSafeIn, WentBack}
 use Rattle.erm_world.specs.World.{Session, View, phase_at, phase_of, work_at, work_of}
 use Rattle.erm_good_report.specs.Phases.{FitsRefusal, HasNoSnapshot, refusal_of}
 use Rattle.erm_lines.specs.Whole.{is_snapshot}
 use Rattle.erm_beside.specs.Calls.{After, Passes}
-use Rattle.erm_beside.specs.Safe.{DidBeginSafeBeside, DidSafeBeside, NotSafeBeside}
+use Rattle.erm_beside.specs.Safe.{DidBeginSafeBeside, DidSafeBeside, NotSafeBeside, NotSafeMet}
 use Rattle.erm_beside.specs.Onward.{passes_itself, passes_then}
 use Rattle.erm_lines_at_once.specs.Answers.{DidAskSafeBeside, DidAskSnapshotBeside, DidAskedBeside, DidCommandBeside, DidInBeside, DidLineBeside, DidOfSnapshotBeside, TriedSafe, TriedSnapshot, WasAnsweredBeside, WasWatchedBeside}
 
 -- ASKED. Others went on where it waits.
-pub waits_pass : (seat other seen : ℕ) (v t : View) → After seat (NotSafeBeside seat (stop.NotYet other seen)) v t → Passes seat v t
-waits_pass seat other seen v t (u, passes, did) = subst (λ (x : View). Passes seat v x) (sym did.0) passes
+pub waits_pass : (seat other seen : ℕ) (why : SafeStop) (v t : View) → why ≡ stop.NotYet other seen → After seat (NotSafeBeside seat why) v t → Passes seat v t
+waits_pass seat other seen why v t is did = from (subst (λ (s : SafeStop). After seat (NotSafeBeside seat s) v t) is did)
+  where
+    from : After seat (NotSafeBeside seat (stop.NotYet other seen)) v t → Passes seat v t
+    from (u, passes, waits) = subst (λ (x : View). Passes seat v x) (sym waits.0) passes
+
+-- it isn't safe
+pub is_unsafe : (f : View) (seat other stamp : ℕ) (why : SafeStop) (v t : View) → why ≡ stop.Unsafe other stamp → After seat (NotSafeBeside seat why) v t → NotSafeMet f seat why v t
+    → TriedSafe f seat (Some (answer.Unsafe other stamp)) v t
+is_unsafe f seat other stamp why v t is did met = record {
+  fits = tt;
+  did = (subst (λ (s : SafeStop). After seat (NotSafeBeside seat s) v t) is did, subst (λ (s : SafeStop). NotSafeMet f seat s v t) is met);
+}
 
 -- it is safe, and its begin stamp was known
 pub is_safe : (f : View) (seat begin : ℕ) (v t : View) → begin ≡ (work_at v seat).begin → After seat (DidSafeBeside seat) v t → IsSafeIn f (work_at v seat).begin

@@ -2,7 +2,7 @@
 use Rattle.std.specs.Prelude.{ℕ, zero, suc, ◌+◌, ◌*◌, ◌<◌, ◌≤◌, nat_lt, if◌then◌else◌, sum_by, Option, Some, None}
 use Rattle.erm_model.specs.declared.history.TransactionRecord.{TransactionRecord}
 use Rattle.erm_model.specs.declared.history.VersionWritten.{VersionWritten}
-use Rattle.erm_model.specs.declared.limits.TheConstants.{GREATEST_BLOCK}
+use Rattle.erm_model.specs.declared.limits.TheConstants.{GREATEST_BLOCK, LOG_END}
 use Rattle.erm_model.specs.History.{IsPredecessorStamp, IsSuccessorStamp, Makes}
 use Rattle.erm_model.specs.Member.{◌∈◌}
 use Rattle.erm_node.specs.Sound.{sound_law}
@@ -37,7 +37,7 @@ sealed_below v bound = sealed_upto v.opening.sessions v.session bound
 
 -- Its transactions are serializable; one that was excluded after its seal has the definitions' numbers over the whole history, and of what it had
 -- claimed no commit made a version from its begin up to its stamp; and the blocks of those that were sealed, each of the most words at most, lie
--- one behind another from the opening on.
+-- one behind another from the opening on, within the log.
 pub record IsEnd (f : View) : Type 0 where
   pub serializable : IsSerializable sound_law f
   pub excluded : (seat : ℕ) (w : Work) (stamp succ pred : ℕ) → IsSession f seat → record { work = w; fate = world.excluded stamp succ pred } ∈ (f.session seat).over
@@ -48,3 +48,4 @@ pub record IsEnd (f : View) : Type 0 where
       → u.stamp < w.begin
   pub reach : (seat : ℕ) (w : Work) (stamp : ℕ) → IsSession f seat → HasStamp f seat w stamp → stamp ≤ f.opening.tail + GREATEST_BLOCK * sealed_below f stamp
   pub tail : f.tail ≤ f.opening.tail + GREATEST_BLOCK * sealed_below f f.tail
+  pub within : (seat : ℕ) (w : Work) (stamp : ℕ) → IsSession f seat → HasStamp f seat w stamp → stamp < LOG_END

@@ -1,6 +1,6 @@
 -- Executions at once that a report tells in part: of each session's lines the first ones, in a world that stands as these leave it.
 use Rattle.std.specs.Prelude.{◌≡◌, ℕ, ◌+◌, ◌*◌, ◌≤◌, List, length}
-use Rattle.erm_model.specs.declared.limits.TheConstants.{GREATEST_BLOCK, LAST_NUMBER, SESSIONS}
+use Rattle.erm_model.specs.declared.limits.TheConstants.{GREATEST_BLOCK, LAST_NUMBER, LOG_END, SESSIONS}
 use Rattle.erm_model.specs.Committed.{HasSnapshotReplies}
 use Rattle.erm_model.specs.History.{IsPredecessorStamp, IsSuccessorStamp}
 use Rattle.erm_model.specs.Member.{◌∈◌}
@@ -34,6 +34,7 @@ pub record IsLeft (more : ℕ) (f : View) : Type 0 where
       × IsPredecessorStamp (history_of f) pred (record_of seat w stamp succ pred) × (succ ≤ pred)
   pub reach : (seat : ℕ) (w : Work) (stamp : ℕ) → IsSession f seat → HasStamp f seat w stamp → stamp ≤ f.opening.tail + GREATEST_BLOCK * (sealed_below f stamp + more)
   pub tail : f.tail ≤ f.opening.tail + GREATEST_BLOCK * (sealed_below f f.tail + more)
+  pub within : (seat : ℕ) (w : Work) (stamp : ℕ) → IsSession f seat → HasStamp f seat w stamp → stamp < LOG_END
 
 -- Of the lines of a whole script a part was answered; then sessions were closed. What the rest did is none of it, but for the ranges of the log that
 -- it may have drawn.

@@ -13,8 +13,8 @@ next-requires-clause-ready g c =
     (λ (s : SafeTxn g.row.S.Denot g.row.S-Shared.Denot) (f : View). g.met.S.SharedSession.lasting s.session.now f) c.requires.law
     c.args.txn.now c.requires.active
 
-pub returns-in-Ok-clause-answered : goal.returns-in-Ok-clause-answered
-returns-in-Ok-clause-answered g c = λ f end.
+pub returns-clause-answered : goal.returns-clause-answered
+returns-clause-answered g c = λ f end.
     found_next g.S.SharedSession.law (λ (s : SafeTxn g.row.S.Denot g.row.S-Shared.Denot). g.S.SharedSession.own s.session.now) (λ (s : SafeTxn g.row.S.Denot g.row.S-Shared.Denot). g.S.SharedSession.seat s.session.now)
     (λ (s : SafeTxn g.row.S.Denot g.row.S-Shared.Denot). g.S.SharedSession.stands s.shared.now s.session.now) (λ (s : SafeTxn g.row.S.Denot g.row.S-Shared.Denot) (f : View). g.S.SharedSession.ends s.session.now f)
     (λ (s t : SafeTxn g.row.S.Denot g.row.S-Shared.Denot). (t.session.ghost_name ≡ s.session.ghost_name) × (t.shared ≡ s.shared))
