@@ -11,13 +11,12 @@ use Rattle.erm_model.specs.History.{History, IsNewestBelow, IsPredecessorStamp}
 use Rattle.erm_model.specs.RowTransaction.{Law}
 use Rattle.erm_model.specs.Rows.{Rows}
 use Rattle.erm_model.specs.Member.{◌∈◌}
-use Rattle.erm_model.specs.Safe.{IsSafeAt}
 use Rattle.erm_model.proofs.Members.{none_in_nil}
 use Rattle.erm_world.proofs.Lists.{∈-last}
 use Rattle.erm_map_world.specs.MapWorks.{commit_with, finished, found_row, newest}
 use Rattle.erm_map_world.specs.MapWorld.{IsMapWorld, IsWorld, Map, map_view, stand_of}
 use Rattle.erm_map_world.proofs.MapCalls.{committed_push, map_aborted, map_begun, map_claimed, map_committed, map_made, map_read, map_sealed, map_set}
-use Rattle.erm_map_world.proofs.MapLaws.{history_is, the_first, world_is}
+use Rattle.erm_map_world.proofs.MapLaws.{history_is, map_safe, the_first, world_is}
 use Rattle.erm_map_world.proofs.Versions.{found_none, oid_kept}
 use Rattle.erm_world.specs.Calls.{AreReady, Becomes, DidAbort, DidBegin, DidClaim, DidRead, DidSettle, DidWrite, HasNoNewer, IsDone, IsUnowned, Works}
 use Rattle.erm_world.specs.Calls as calls
@@ -25,7 +24,7 @@ use Rattle.erm_world.specs.Laws.{IsLawfulWork}
 use Rattle.erm_world.specs.Safe.{DidBeginSafe, DidSafe, DidSafeRead, HasSnapshot, with_snapshot}
 use Rattle.erm_world.specs.Snapshots.{snapshot_not_active}
 use Rattle.erm_world.specs.Works.{claiming, making, reading, row_read, setting}
-use Rattle.erm_world.specs.World.{Finished, IsSession, IsWorking, Session, Snapshot, Stand, View, Work, begun, history_of, history_upto, phase_at, phase_of, size_of, work_at, work_of}
+use Rattle.erm_world.specs.World.{Finished, IsSession, Session, Snapshot, Stand, View, Work, begun, history_of, history_upto, phase_at, phase_of, size_of, work_at, work_of}
 use Rattle.erm_world.specs.World as world
 
 -- PHASE. It is that of the one session.
@@ -405,17 +404,7 @@ module _ (law : Law) (m : Map) (p : Phase) (w : Work) (seat begin : ℕ) (v : Vi
       in
       (did.0, did.1, did.2, becomes_both v then_view last seat (record { over = (v.session seat).over; stand = world.active (begun number begin) }) (with_snapshot v seat s) did.3 raised)
 
--- SAFE. Each commit of the one session has its turn where it began, and none is in progress.
-commit_safe : (law : Law) (m : Map) (b : ℕ) → IsMapWorld law m → IsSafeAt (history_of (map_view m)) b
-commit_safe law m b is t within before after =
-    let commit = is.past.commits t (subst (λ (h : History). t ∈ h) (history_is m) within) in
-    absurd (omega (arith, commit.begin_is, before, after))
-
-working_none : (m : Map) (s : Snapshot) (b q : ℕ) (w : Work) → IsSession (map_view (record m { stand = world.snapshot s })) q
-    → IsWorking ((map_view (record m { stand = world.snapshot s })).session q).stand w → b ≤ w.begin
-working_none m s b q w session working =
-    absurd (subst (λ (n : ℕ). IsWorking ((map_view (record m { stand = world.snapshot s })).session n).stand w) (the_first (record m { stand = world.snapshot s }) q session) working)
-
+-- SAFE. It is safe where it began.
 module _ (law : Law) (m : Map) (p : Phase) (w : Work) (seat : ℕ) (session : IsSession (map_view (record m { stand = stand_of p w })) seat) where
   safe_map : phase_at (map_view (record m { stand = stand_of p w })) seat ≡ Pending → IsWorld law (record m { stand = stand_of p w }) → IsMapWorld law (record m { stand = stand_of Safe w })
   safe_map pending standing =
@@ -434,11 +423,7 @@ module _ (law : Law) (m : Map) (p : Phase) (w : Work) (seat : ℕ) (session : Is
         s,
         refl,
         becomes (record m { stand = stand_of Pending w }) m.over (stand_of Safe w) (record { over = m.over; stand = stand_of Safe w }) refl,
-        record {
-          past = omega (arith, is.now_is.1);
-          history = commit_safe law (record m { stand = stand_of Safe w }) w.begin is;
-          begins = λ q u own working. working_none m (record { number = w.number; begin = w.begin; is_safe = true }) w.begin q u own working;
-        },
+        map_safe law (record m { stand = stand_of Safe w }) is 1 (omega arith, omega arith) refl,
       )
 
   -- SAFE READ. The newest version of all is the newest where it began.

@@ -2,15 +2,19 @@
 use Rattle.std.proofs.Common.{◌≡◌, ℕ, ◌+◌, ◌<◌, ◌≤◌, List, length, Some, inl, inr, refl, sym, ap, ◌∙◌, subst, arith}
 use Rattle.std.specs.List.{slice_get}
 use Rattle.erm_model.specs.declared.limits.TheConstants.{OID_LIMIT}
+use Rattle.erm_model.specs.declared.outcome.Phase.TheVariants.{Safe}
 use Rattle.erm_model.specs.History.{History, IsCertified, IsSnapshot}
+use Rattle.erm_model.specs.Member.{◌∈◌}
 use Rattle.erm_model.specs.RowTransaction.{Law}
 use Rattle.erm_model.specs.Rows.{Rows}
+use Rattle.erm_model.specs.Safe.{IsSafeAt}
 use Rattle.erm_world.specs.Calls.{AreAllMade}
 use Rattle.erm_world.specs.Laws.{IsLawfulWork, IsNumbered, IsPossibleIn, IsSerializable, SeesSnapshot}
+use Rattle.erm_world.specs.Safe.{HasSafeStamps}
 use Rattle.erm_map_world.specs.MapWorks.{rows_now}
 use Rattle.erm_map_world.specs.MapWorld.{AreOver, IsMapWorld, IsNow, IsWorld, Map, Saw, bound_of, made_of, map_view}
 use Rattle.erm_map_world.proofs.Histories.{none_overwrites}
-use Rattle.erm_world.specs.World.{Finished, Has, HasStamp, IsCurrent, IsSession, Stand, View, Work, committed_in, history_of, history_upto, made_by_all, made_upto, size_of, stamp_of}
+use Rattle.erm_world.specs.World.{Finished, Has, HasStamp, IsCurrent, IsSession, IsWorking, Snapshot, Stand, View, Work, committed_in, history_of, history_upto, made_by_all, made_upto, phase_at, phase_of, size_of, stamp_of, work_at, work_of}
 use Rattle.erm_world.specs.World as world
 
 pub history_is : (m : Map) → history_of (map_view m) ≡ committed_in 1 m.over
@@ -172,8 +176,35 @@ map_possible law m is seat w session has =
     let seen = has_seen law m is w (subst (λ (q : ℕ). Has (map_view m) q w) (the_first m seat session) has) in
     (seen.there, seen.saw.fits.meets, seen.saw.fits)
 
+-- SAFE STAMPS. Each commit of the one session has its turn where it began, and with a snapshot it isn't at work.
+commit_safe : (law : Law) (m : Map) (b : ℕ) → IsMapWorld law m → IsSafeAt (history_of (map_view m)) b
+commit_safe law m b is t within before after =
+    let commit = is.past.commits t (subst (λ (h : History). t ∈ h) (history_is m) within) in
+    absurd (omega (arith, commit.begin_is, before, after))
+
+safe_with : (stand : Stand) → phase_of stand ≡ Safe → (s : Snapshot) × (stand ≡ world.snapshot s)
+safe_with world.idle safe = absurd (cc)
+safe_with (world.active w) safe = absurd (cc)
+safe_with (world.sealed w stamp) safe = absurd (cc)
+safe_with (world.snapshot s) safe = (s, refl)
+
+pub map_safe : (law : Law) (m : Map) → IsMapWorld law m → HasSafeStamps (map_view m)
+map_safe law m is seat session safe =
+    let one = the_first m seat session in
+    let has = safe_with m.stand (subst (λ (q : ℕ). phase_at (map_view m) q ≡ Safe) one safe) in
+    let begin : (work_at (map_view m) seat).begin ≡ has.0.begin =
+    subst (λ (q : ℕ). (work_at (map_view m) q).begin ≡ has.0.begin) (sym one) (ap (λ (x : Stand). (work_of x).begin) has.1)
+    in
+    let now = subst (λ (x : Stand). IsNow law m.rows m.over m.tail m.begun x) has.1 is.now_is in
+    record {
+      past = omega (arith, begin, now.1);
+      history = commit_safe law m (work_at (map_view m) seat).begin is;
+      begins = λ q w own working.
+          absurd (subst (λ (x : Stand). IsWorking x w) has.1 (subst (λ (n : ℕ). IsWorking ((map_view m).session n).stand w) (the_first m q own) working));
+    }
+
 pub world_is : (law : Law) (m : Map) → IsMapWorld law m → IsWorld law m
-world_is law m is = record { is = is; serializable = map_serializable law m is; possible = map_possible law m is }
+world_is law m is = record { is = is; serializable = map_serializable law m is; possible = map_possible law m is; safe_stamps = map_safe law m is }
 
 -- where the limit is reached, each object that may be made was
 pub map_all_made : (law : Law) (m : Map) → IsMapWorld law m → m.next ≡ OID_LIMIT → AreAllMade (map_view m)

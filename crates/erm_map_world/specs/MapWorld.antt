@@ -13,6 +13,7 @@ use Rattle.erm_model.specs.Rows.{Rows}
 use Rattle.erm_model.specs.SerialOrder.{StampsDiffer}
 use Rattle.erm_map_world.specs.MapWorks.{newest, rows_now}
 use Rattle.erm_world.specs.Laws.{FitsWork, IsLawfulWork, IsPossibleIn, IsSerializable}
+use Rattle.erm_world.specs.Safe.{HasSafeStamps}
 use Rattle.erm_world.specs.World.{Finished, Stand, View, Work, committed_in, size_of, stamp_of, work_of}
 use Rattle.erm_world.specs.World as world
 
@@ -134,3 +135,4 @@ pub record IsWorld (law : Law) (m : Map) : Type 0 where
   pub is : IsMapWorld law m
   pub serializable : IsSerializable law (map_view m)
   pub possible : IsPossibleIn law (map_view m)
+  pub safe_stamps : HasSafeStamps (map_view m)

@@ -31,4 +31,6 @@ impl<L: RowLaw> SafeWorld for MapWorld<L> {
         }
         self.phase = Phase::Idle;
     }
+
+    ghost safe_stamps = { λ w standing. standing.safe_stamps };
 }
