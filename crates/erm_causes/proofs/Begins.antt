@@ -1,5 +1,5 @@
 -- Where a run's snapshots begin: at the end of the log, as the line finds it that asks for one where there is none.
-use Rattle.std.proofs.Common.{◌≡◌, ◌≢◌, ◌⊎◌, ℕ, ◌+◌, ◌-◌, ◌<◌, false, List, [], ◌∷◌, length, take, slice_get, Option, Some, None, refl, sym, ap, ◌∙◌, subst, inl, inr, ⊎_elim, arith}
+use Rattle.std.proofs.Common.{◌≡◌, ◌≢◌, ℕ, ◌+◌, ◌-◌, ◌<◌, false, List, [], ◌∷◌, length, take, slice_get, Option, Some, None, refl, sym, ap, ◌∙◌, subst, inl, inr, ⊎_elim, arith}
 use Rattle.std.specs.Option.{option_map_or}
 use Rattle.std.proofs.lemmas.Option.{slice_get_past}
 use Rattle.erm_model.specs.declared.limits.TheConstants.{STOP}
@@ -146,7 +146,7 @@ safe_asked before after l a p asks of did tells =
 module _ (tell : ExecutionsTell) (go : ExecutionsGoOn) (keep : ExecutionsKeepBegins) (v t : View) (opened : IsOpened v) (lawful : IsSerializable sound_law t) (said : List Said) (l : ScriptLine) (a : Answer)
     (x : AtPlace v t said l a) where
   pub opening_at : x.before.opening ≡ v.opening
-  pub opening_at = (go v x.before x.moves x.start).0
+  opening_at = (go v x.before x.moves x.start).0
 
   pub tells_at : (q : ℕ) → IsSession x.before q → Tells q (progress_of q said) (x.before.session q)
   tells_at q session =

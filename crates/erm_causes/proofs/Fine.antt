@@ -1,5 +1,5 @@
 -- A session's transactions touch objects of their lines' tables: what is kept of this by each move.
-use Rattle.std.proofs.Common.{◌≡◌, ◌≢◌, ℕ, ◌<◌, ◌≤◌, ◌⊎◌, List, ◌++◌, Option, Some, None, append_assoc, inl, inr, sym, ap, ◌∙◌, subst, ⊎_elim}
+use Rattle.std.proofs.Common.{◌≡◌, ◌≢◌, ℕ, ◌<◌, ◌≤◌, List, ◌++◌, Option, Some, None, append_assoc, inl, inr, sym, ap, ◌∙◌, subst, ⊎_elim}
 use Rattle.std.proofs.lemmas.Bool.{cases_eq}
 use Rattle.erm_model.specs.declared.history.TransactionRecord.{TransactionRecord}
 use Rattle.erm_model.specs.History.{History}

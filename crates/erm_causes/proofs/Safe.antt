@@ -1,5 +1,5 @@
 -- What a run so far owes of its snapshots: where each begins, and why it is safe, waits or isn't safe.
-use Rattle.std.proofs.Common.{◌≡◌, ◌≢◌, ◌⊎◌, ℕ, suc, ◌+◌, ◌*◌, ◌<◌, ◌≤◌, List, [], ◌∷◌, take, drop, fold, slice_get, Option, Some, None, refl, sym, ap, ◌∙◌, subst, inl, inr, ⊎_elim, arith}
+use Rattle.std.proofs.Common.{◌≡◌, ◌≢◌, ℕ, suc, ◌+◌, ◌*◌, ◌<◌, ◌≤◌, List, [], ◌∷◌, take, drop, fold, slice_get, Option, Some, None, refl, sym, ap, ◌∙◌, subst, inl, inr, ⊎_elim, arith}
 use Rattle.std.proofs.lemmas.List.Sums.{sum_by_push}
 use Rattle.erm_model.specs.declared.limits.TheConstants.{GREATEST_BLOCK, LEAST_BLOCK}
 use Rattle.erm_model.specs.declared.history.TransactionRecord.{TransactionRecord}
@@ -216,6 +216,7 @@ module _ (tell : ExecutionsTell) (go : ExecutionsGoOn) (keep : ExecutionsKeepBeg
     after_opening = (go x.before x.after (move_of l a ∷ []) (x.after, x.did, x.lawful, refl)).0
 
     begin_at : (work_at by.at l.session).begin ≡ own_begin begins (m i l)
+    unfolding by
     begin_at = ap (λ (stand : Stand). (work_of stand).begin) by.stand ∙ sym (own_begin_is tell go keep v t run.opened lawful (take i said) l a x asks of)
 
     now_of : (q : ℕ) → IsSession x.before q → TellsNow q (current_of (m i l) q) (x.before.session q).stand
