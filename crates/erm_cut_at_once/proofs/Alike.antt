@@ -15,10 +15,11 @@ use Rattle.erm_script.specs.declared.script.ScriptLine.{ScriptLine}
 use Rattle.erm_good_report.specs.Causes.{CommitsBeside, HasCauseOf, HasNoWindow, HasWindow, OverwritesBeside, WritesTable}
 use Rattle.erm_good_report.specs.Opening.{AtOnce, Opening}
 use Rattle.erm_good_report.specs.Refusals.{HasLogCause, HasRefusalCause, HasUnfilledCause, HasWindowBefore, IsNewerBy, IsOwnedBy, Moment, WasOver}
+use Rattle.erm_good_report.specs.Snapshots.{BeginsRightly, HasSafeCause, IsSafeAmong, SnapshotsAgree}
 use Rattle.erm_good_report.specs.Stamps.{AllInTime, DrawsUntold, StampsAgree, Told, begin_told}
-use Rattle.erm_good_report.specs.Transactions.{Aborts, Commits, Ending, Excludes, Said, Transaction, Unfinished, committed_as, committed_of, history_of, said_of, stamp_of, stamp_of_ending, steps_of, with_ending}
+use Rattle.erm_good_report.specs.Transactions.{Aborts, Commits, Ending, Excludes, Said, Transaction, Unfinished, committed_as, committed_of, history_of, looks_of, said_of, stamp_of, stamp_of_ending, steps_of, with_ending}
 use Rattle.erm_good_at_once.specs.CutReports.{AreSerial, OwesInPart, moment_in}
-use Rattle.erm_good_at_once.specs.Rising.{Names, StampsRise}
+use Rattle.erm_good_at_once.specs.Rising.{IsMetBelow, Names, StampsRise}
 use Rattle.erm_told.proofs.Pairs.{Pairs, all_pairs, pairs_of}
 
 -- one that is told, and the other: the same, or it isn't told to have ended
@@ -107,6 +108,9 @@ names_too a t names = absurd names
 named_so : (t u : Transaction) → IsAs t u → (said : List Said) → NamedIn said u → NamedIn said t
 named_so t u is said = as_fact (λ x y. NamedIn said y → NamedIn said x) (λ x same. same) (λ x unfinished same i j d less within before names. same i j d less within before (names_too (get_or said i d).answer x names)) t u is
 
+named_as : (t u : Transaction) → IsAs t u → (a : Answer) → Names a t → Names a u
+named_as t u is a names = as_fact (λ x y. Names a x → Names a y) (λ x same. same) (λ x unfinished same. names_too a x same) t u is names
+
 writes_so : (t u : Transaction) (table : ℕ) → IsAs t u → WritesTable u table → WritesTable t table
 writes_so t u table is = as_fact (λ x y. WritesTable y table → WritesTable x table) (λ x same. same) (λ x unfinished writes. record { line = writes.line; of = writes.of; names = writes.names; writes = writes.writes }) t u is
 
@@ -179,8 +183,20 @@ module _ (ts us : List Transaction) (alike : Alike ts us) where
     untold_before = λ i j stamp s drawn. agree.untold_before i j stamp s (untold_there said i stamp drawn);
   }
 
+  met_here : (a : Answer) (begin : ℕ) → IsMetBelow us a begin → IsMetBelow ts a begin
+  met_here a begin below = record {
+    met = below.met;
+    named = λ t m names.
+        let (u, in_it, is) = there ts us alike t m in
+        subst (λ (n : ℕ). n ≤ begin) (same_names t u is).begin (below.named u in_it (named_as t u is a names));
+  }
+
   pub rise_here : (said : List Said) → StampsRise AtOnce us said → StampsRise AtOnce ts said
-  rise_here said rise = record { met = rise.met; named = λ t m. let (u, in_it, is) = there ts us alike t m in named_so t u is said (rise.named u in_it) }
+  rise_here said rise = record {
+    met = rise.met;
+    named = λ t m. let (u, in_it, is) = there ts us alike t m in named_so t u is said (rise.named u in_it);
+    watched = λ i j session begin s a begins has is less at before. met_here a.answer begin (rise.watched i j session begin s a begins has is less at before);
+  }
 
   pub snapshots_here : (opening : Opening) → ((u : Transaction) → u ∈ us → HasSnapshotReplies (history_of us) opening.map u.begin (steps_of u))
       → (t : Transaction) → t ∈ ts → HasSnapshotReplies (history_of ts) opening.map t.begin (steps_of t)
@@ -191,8 +207,8 @@ module _ (ts us : List Transaction) (alike : Alike ts us) where
       (subst (λ (n : ℕ). HasSnapshotReplies (history_of us) opening.map n (steps_of t)) names.begin
       (subst (λ (steps : List Step). HasSnapshotReplies (history_of us) opening.map u.begin steps) names.steps (replies u in_it)))
 
-  pub serial_here : (opening : Opening) → AreSerial opening us → AreSerial opening ts
-  serial_here opening serial order sorted = serial order (subst (λ (h : List Committed). IsSerialOrder rank_of h order) (sym history) sorted)
+  pub serial_here : (opening : Opening) (ended : List Committed) → AreSerial opening (history_of us ++ ended) → AreSerial opening (history_of ts ++ ended)
+  serial_here opening ended serial order sorted = serial order (subst (λ (h : List Committed). IsSerialOrder rank_of (h ++ ended) order) (sym history) sorted)
 
   -- CAUSES
   window_here : (t : Transaction) (stamp succ pred : ℕ) → HasWindow us t stamp succ pred → HasWindow ts t stamp succ pred
@@ -299,17 +315,63 @@ module _ (ts us : List Transaction) (alike : Alike ts us) where
     refusal_here c t (answer.OidsFull drawn) cause = cause
     refusal_here c t a cause = tt
 
+  -- SNAPSHOTS that only read, where lines are run at once
+  module _ (opening : Opening) (whole part : List ScriptLine) (answers : List Answer) where
+    abbrev said : List Said
+    said = said_of part answers
+
+    rightly_here : (begins : ℕ → ℕ → ℕ) (i begin : ℕ) (l : ScriptLine) → BeginsRightly (moment_in opening whole part answers us i l) said begins i begin
+        → BeginsRightly (moment_in opening whole part answers ts i l) said begins i begin
+    unfolding untold_there
+    rightly_here begins i begin l right = record {
+      least = right.least;
+      stops = right.stops;
+      reach = right.reach;
+      before = right.before;
+      behind = right.behind;
+      ascends = right.ascends;
+      untold_before = λ j stamp drawn. right.untold_before j stamp (untold_there said j stamp drawn);
+      untold_behind = λ j stamp drawn. right.untold_behind j stamp (untold_there said j stamp drawn);
+    }
+
+    safe_cause : (begins : ℕ → ℕ → ℕ) (i : ℕ) (l : ScriptLine) (a : Answer) → HasSafeCause begins (moment_in opening whole part answers us i l) a
+        → HasSafeCause begins (moment_in opening whole part answers ts i l) a
+    safe_cause begins i l (answer.Safe begin) cause = (cause.0, record { rest = λ in_turn. absurd (cc in_turn) })
+    safe_cause begins i l (answer.WaitSeat seat seen) cause = absurd (cc cause.in_turn)
+    safe_cause begins i l (answer.Unsafe seat stamp) cause = record {
+      by = cause.by;
+      of = commit_here cause.by stamp cause.succ cause.pred cause.of cause.commits;
+      another = cause.another;
+      session = cause.session;
+      succ = cause.succ;
+      pred = cause.pred;
+      commits = cause.commits;
+      early = λ in_turn. absurd (cc in_turn);
+      back = cause.back;
+      above = cause.above;
+    }
+    safe_cause begins i l a cause = tt
+
+    pub snapshots_agree : SnapshotsAgree (moment_in opening whole part answers us) opening part answers us → SnapshotsAgree (moment_in opening whole part answers ts) opening part answers ts
+    snapshots_agree agree = record {
+      begins = agree.begins;
+      begun = λ i number l at starts. rightly_here agree.begins i (agree.begins l.session number) l (agree.begun i number l at starts);
+      causes = λ i l a at answered asks. safe_cause agree.begins i l a (agree.causes i l a at answered asks);
+      safe = λ session begin s has is. subst (λ (h : List Committed). IsSafeAmong h begin) history (agree.safe session begin s has is);
+      replies = λ session begin s has is. subst (λ (h : List Committed). HasSnapshotReplies h opening.map begin (looks_of s)) history (agree.replies session begin s has is);
+    }
+
   -- TOGETHER, where the causes that ask for no transactions are there
-  pub owes_here : (opening : Opening) (whole part : List ScriptLine) (answers : List Answer) → OwesInPart opening whole part answers us
+  pub owes_here : (opening : Opening) (whole part : List ScriptLine) (answers : List Answer) (ended : List Committed) → OwesInPart opening whole part answers us ended
       → ((i : ℕ) (l : ScriptLine) (a : Answer) → slice_get part i ≡ Some l → slice_get answers i ≡ Some a
       → HasLogCause (moment_in opening whole part answers ts i l) a × HasUnfilledCause (moment_in opening whole part answers ts i l) l.command a)
-      → OwesInPart opening whole part answers ts
-  owes_here opening whole part answers owes logs = record {
+      → OwesInPart opening whole part answers ts ended
+  owes_here opening whole part answers ended owes logs = record {
     phases = owes.phases;
     stamps = stamps_here opening (said_of part answers) owes.stamps;
     rise = rise_here (said_of part answers) owes.rise;
     snapshots = snapshots_here opening owes.snapshots;
-    serial = serial_here opening owes.serial;
+    serial = serial_here opening ended owes.serial;
     causes = causes_here owes.causes;
     refusals = λ i l a at answered.
         let log = logs i l a at answered in record {
@@ -318,4 +380,5 @@ module _ (ts us : List Transaction) (alike : Alike ts us) where
           unfilled = log.1;
         };
     reach = λ i l a at answered. let reach = owes.reach i l a at answered in record { begin = reach.begin; drawn = reach.drawn };
+    safe = snapshots_agree opening whole part answers owes.safe;
   }

@@ -1,6 +1,7 @@
--- Where the lines told leave a session of an execution that was cut off: one whose transaction was aborted behind them counts as closed.
+-- Where the lines told leave a session of an execution that was cut off: one whose transaction was aborted behind them counts as closed. A snapshot that
+-- was begun behind them isn't told, and one that was ended behind them is told as they leave it.
 use Rattle.std.proofs.Common.{◌≡◌, ◌⊎◌, ℕ, zero, suc, ◌==◌, ◌≤◌, Bool, true, false, cond, List, [], ◌∷◌, ◌++◌, Option, Some, None, inl, inr, refl, sym, ap, ◌∙◌, subst, eq-eqb, ne_eqb, arith, le_trans}
-use Rattle.erm_model.specs.declared.outcome.Phase.TheVariants.{Active}
+use Rattle.erm_model.specs.declared.outcome.Phase.TheVariants.{Active, Idle}
 use Rattle.erm_model.specs.declared.outcome.Phase.{Phase}
 use Rattle.erm_model.specs.declared.row_stop.RowStop.TheVariants as stop
 use Rattle.erm_model.specs.RowTransaction.{Asked, asked_claim, asked_make, asked_read}
@@ -13,15 +14,18 @@ use Rattle.erm_script.specs.declared.script.Command.TheVariants as command
 use Rattle.erm_script.specs.declared.script.ScriptLine.{ScriptLine}
 use Rattle.erm_world.specs.Calls.{DidAbort, DidSeal}
 use Rattle.erm_world.specs.Laws.{IsSerializable}
-use Rattle.erm_world.specs.World.{Finished, GivenUp, IsSession, Session, Stand, View, Work, phase_at, phase_of, work_at, work_of}
+use Rattle.erm_world.specs.Safe.{HasSnapshot}
+use Rattle.erm_world.specs.World.{Finished, GivenUp, IsSession, IsWorking, Session, Stand, View, Work, phase_at, phase_of, work_at, work_of}
 use Rattle.erm_world.specs.World as world
+use Rattle.erm_machine.proofs.Listed.{∈-first}
 use Rattle.erm_world.proofs.Lists.{∈-last}
 use Rattle.erm_maps.specs.Runs.{IsRunOf}
 use Rattle.erm_good_report.specs.Phases.{Closes}
 use Rattle.erm_lines.specs.Executions.{Move}
 use Rattle.erm_beside.specs.Calls.{After, Passes, RefusedBeside}
+use Rattle.erm_beside.specs.Safe.{DidBeginSafeBeside}
 use Rattle.erm_lines_at_once.specs.Answers.{DidCloseBeside, DidEndBeside}
-use Rattle.erm_lines_at_once.specs.CutRuns.{IsCutPart, IsRest, Waited, aborted, drew, stood}
+use Rattle.erm_lines_at_once.specs.CutRuns.{IsCutPart, IsRest, Waited, aborted, drew, ended, stood, watched}
 use Rattle.erm_lines_at_once.specs.Executions.{IsOwnRun}
 use Rattle.erm_lines_at_once.specs.Operations.{WasTried}
 use Rattle.erm_causes_at_once.proofs.Called.{Kept, kept_same, tried_kept}
@@ -30,7 +34,9 @@ use Rattle.erm_limits_at_once.proofs.Looked.{BeganIn, began_in}
 use Rattle.erm_told_limits.proofs.Holds.{Laws}
 use Rattle.erm_told_limits.proofs.Ran.{active_with, same_work}
 use Rattle.erm_cut_at_once.proofs.Rereading.{HasReadMore, read_itself, tried_reads}
-use Rattle.erm_cut_at_once.proofs.Stands.{StandsFor, stands_itself, stands_reread, stands_unsealed}
+use Rattle.erm_told.proofs.Turns.{idle_in}
+use Rattle.erm_cut_at_once.proofs.Given.{GivenHas, HasNumbered}
+use Rattle.erm_cut_at_once.proofs.Stands.{StandsFor, stands_ended, stands_itself, stands_reread, stands_unsealed, stands_unwatched, watching}
 
 -- it was closed by this, or not at all
 abbrev pub ClosedBy : Bool → ℕ → View → View → Type 0
@@ -40,6 +46,7 @@ ClosedBy false seat v t = t ≡ v
 -- It is told to stand so, having drawn so many stamps that aren't told, and was closed behind its moves or not.
 pub record LeftAs (f : View) (seat : ℕ) (next : Option ScriptLine) (v : View) (moves : List Move) (told : Session) (drawn : ℕ) (gone : Bool) : Type 0 where
   pub stands : StandsFor drawn told (f.session seat)
+  pub given : (x : GivenUp) → x ∈ f.given_up seat → HasNumbered told x.number
   pub last : View
   pub run : IsOwnRun f seat v moves last
   pub after : View
@@ -89,6 +96,9 @@ active_session : (s : Session) → phase_of s.stand ≡ Active → s ≡ record 
 active_session s active = ap (λ (stand : Stand). record { over = s.over; stand = stand }) (active_with s.stand active)
 
 -- an abort of it, as it was before
+abbrev gone_as : Work → Finished
+gone_as w = record { work = w; fate = world.aborts }
+
 abbrev ended_with : Session → Work → Session
 ended_with s w = record { over = s.over ++ record { work = w; fate = world.aborts } ∷ []; stand = world.idle }
 
@@ -113,32 +123,16 @@ did_end seat v active = record {
 }
 
 module _ (laws : Laws) (f : View) (seat : ℕ) (session : IsSession f seat) (holds : IsSerializable sound_law f) (next : Option ScriptLine) (v : View) (moves : List Move) (part : IsCutPart f seat next v moves)
-    (run : phase_at part.last seat ≡ Active → (steps : List Step) × IsRunOf (work_at part.last seat) steps) where
+    (run : phase_at part.last seat ≡ Active → (steps : List Step) × IsRunOf (work_at part.last seat) steps) (given : GivenHas seat part.last) where
   abbrev last : View
   last = part.last
 
   abbrev here : Session
   here = part.last.session seat
 
-  -- nothing was done
-  stood_there : Passes seat part.last part.end → Left f seat next v moves
-  stood_there passes = record {
-    told = here;
-    drawn = 0;
-    gone = false;
-    left = record {
-      stands = subst (λ (s : Session). StandsFor 0 here s) (sym passes.own ∙ part.ends) (stands_itself here);
-      last = last;
-      run = part.run;
-      after = last;
-      closes = refl;
-      ends = refl;
-      given_up = sym passes.given_up ∙ part.given_up;
-      within = (le_trans passes.tail part.within.0, le_trans passes.flushed part.within.1);
-      active = λ no. absurd (cc no);
-      draws = inl refl;
-    };
-  }
+  -- the claims that it gave up where all end, where it gave up none behind its moves
+  given_here : (given_up : List GivenUp) → given_up ≡ f.given_up seat → given_up ≡ last.given_up seat → (x : GivenUp) → x ∈ f.given_up seat → HasNumbered here x.number
+  given_here given_up ends same x m = given x (subst (λ (xs : List GivenUp). x ∈ xs) (sym ends ∙ same) m)
 
   -- its commit drew a stamp
   drew_there : (l : ScriptLine) (stamp : ℕ) → phase_at part.last seat ≡ Active → next ≡ Some l → l.command ≡ command.Commit → After seat (λ u w. DidSeal u seat stamp w) part.last part.end → Left f seat next v moves
@@ -152,6 +146,7 @@ module _ (laws : Laws) (f : View) (seat : ℕ) (session : IsSession f seat) (hol
         left = record {
           stands = subst (λ (s : Session). StandsFor 1 here s) (sym sealed ∙ part.ends)
               (subst (λ (s : Session). StandsFor 1 s (record { over = here.over; stand = world.sealed w stamp })) (sym (active_session here active)) (stands_unsealed here.over w stamp));
+          given = given_here (part.end.given_up seat) part.given_up (ap (λ (given : ℕ → List GivenUp). given seat) did.given_up ∙ passes.given_up);
           last = last;
           run = part.run;
           after = last;
@@ -170,6 +165,11 @@ module _ (laws : Laws) (f : View) (seat : ℕ) (session : IsSession f seat) (hol
   reads_more (Some l) u active (n, tried) began =
       let r = run active in tried_reads (work_at u seat) began f seat l.command n part.last u active tried r.0 r.1 (same_work (work_at u seat))
 
+  ended_number : (number : ℕ) → phase_at last seat ≡ Active → HasNumbered here number → HasNumbered (ended_with here (work_at last seat)) number
+  ended_number number active (w, inl (g, m, is), same) = (w, inl (g, ∈-first here.over (gone_as (work_at last seat) ∷ []) g m, is), same)
+  ended_number number active (w, inr now, same) =
+      (w, inl (gone_as (work_at last seat), ∈-last here.over (gone_as (work_at last seat)), subst (λ (stand : Stand). IsWorking stand w) (active_with here.stand active) now), same)
+
   -- its transaction was aborted
   aborted_there : (u : View) → phase_at part.last seat ≡ Active → Waited f seat next part.last u → DidAbort u seat part.end → Left f seat next v moves
   aborted_there u active waited did =
@@ -187,6 +187,7 @@ module _ (laws : Laws) (f : View) (seat : ℕ) (session : IsSession f seat) (hol
         gone = true;
         left = record {
           stands = subst (λ (s : Session). StandsFor 0 (ended_with here w) s) (sym ended ∙ part.ends) (stands_reread here.over w y (reads_more next u active waited began));
+          given = λ x m. ended_number x.number active (given_here (part.end.given_up seat) part.given_up (ap (λ (given : ℕ → List GivenUp). given seat) did.given_up ∙ passes.2) x m);
           last = last;
           run = part.run;
           after = closed_view seat last;
@@ -199,10 +200,57 @@ module _ (laws : Laws) (f : View) (seat : ℕ) (session : IsSession f seat) (hol
         };
       }
 
+  -- a session that is told to stand as its moves leave it, having drawn no stamp
+  as_here : StandsFor 0 here (f.session seat) → part.end.given_up seat ≡ last.given_up seat → (last.tail ≤ part.end.tail) × (last.flushed ≤ part.end.flushed) → Left f seat next v moves
+  as_here stands given_up within = record {
+    told = here;
+    drawn = 0;
+    gone = false;
+    left = record {
+      stands = stands;
+      given = given_here (part.end.given_up seat) part.given_up given_up;
+      last = last;
+      run = part.run;
+      after = last;
+      closes = refl;
+      ends = refl;
+      given_up = sym given_up ∙ part.given_up;
+      within = (le_trans within.0 part.within.0, le_trans within.1 part.within.1);
+      active = λ no. absurd (cc no);
+      draws = inl refl;
+    };
+  }
+
+  -- nothing was done
+  stood_there : Passes seat last part.end → Left f seat next v moves
+  stood_there passes = as_here (subst (λ (s : Session). StandsFor 0 here s) (sym passes.own ∙ part.ends) (stands_itself here)) passes.given_up (passes.tail, passes.flushed)
+
+  -- it began a snapshot
+  watched_there : (begin : ℕ) → phase_at last seat ≡ Idle → After seat (DidBeginSafeBeside seat begin) last part.end → Left f seat next v moves
+  watched_there begin idle (u, passes, (few, is, did)) =
+      let began : part.end.session seat ≡ watching here.over begin = did.own ∙ ap (λ (s : Session). watching s.over begin) passes.own in
+      let stands : here ≡ record { over = here.over; stand = world.idle } = ap (λ (stand : Stand). record { over = here.over; stand = stand }) (idle_in here.stand idle) in
+      as_here
+      (subst (λ (s : Session). StandsFor 0 here s) (sym began ∙ part.ends) (subst (λ (s : Session). StandsFor 0 s (watching here.over begin)) (sym stands) (stands_unwatched here.over begin)))
+      (ap (λ (given : ℕ → List GivenUp). given seat) did.given_up ∙ passes.given_up) (omega (arith, passes.tail, did.tail), omega (arith, passes.flushed, did.flushed))
+
+  -- its snapshot was ended
+  ended_there : HasSnapshot last seat → After seat (λ u w. DidAbort u seat w) last part.end → Left f seat next v moves
+  ended_there (x, is) (u, passes, did) =
+      let over : part.end.session seat ≡ ended_with here (work_at last seat) = did.own ∙ ap (λ (s : Session). ended_with s (work_of s.stand)) passes.own in
+      let ended : part.end.session seat ≡ ended_with here (world.begun x.number x.begin) = over ∙ ap (λ (stand : Stand). ended_with here (work_of stand)) is in
+      let stands : here ≡ record { over = here.over; stand = world.snapshot x } = ap (λ (stand : Stand). record { over = here.over; stand = stand }) is in
+      as_here
+      (subst (λ (s : Session). StandsFor 0 here s) (sym ended ∙ part.ends)
+      (subst (λ (s : Session). StandsFor 0 s (ended_with here (world.begun x.number x.begin))) (sym stands) (stands_ended here.over x)))
+      (ap (λ (given : ℕ → List GivenUp). given seat) did.given_up ∙ passes.given_up) (omega (arith, passes.tail, did.tail), omega (arith, passes.flushed, did.flushed))
+
   left_by : IsRest f seat next part.last part.end → Left f seat next v moves
   left_by (stood passes) = stood_there passes
   left_by (aborted u active waited did) = aborted_there u active waited did
   left_by (drew l stamp active is commits did) = drew_there l stamp active is commits did
+  left_by (watched l begin idle is asks did) = watched_there begin idle did
+  left_by (ended has none did) = ended_there has did
 
   pub left_of : Left f seat next v moves
   left_of = left_by part.rest

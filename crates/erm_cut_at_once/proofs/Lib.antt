@@ -1,5 +1,6 @@
 pub mod Alike
 pub mod Closing
+pub mod Given
 pub mod Left
 pub mod MetThere
 pub mod Parted

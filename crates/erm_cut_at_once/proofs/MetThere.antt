@@ -1,11 +1,14 @@
 -- What an own run met of the world in which all end is so of the world as it is told.
-use Rattle.std.proofs.Common.{◌≡◌, ◌⊎◌, ℕ, zero, suc, ◌<◌, ◌≤◌, Bool, true, false, List, [], ◌∷◌, Option, Some, None, inl, inr, sym, ◌∙◌, subst, arith}
+use Rattle.std.proofs.Common.{◌≡◌, ◌⊎◌, ℕ, zero, suc, ◌<◌, ◌≤◌, Bool, true, false, List, [], ◌∷◌, length, Option, Some, None, inl, inr, sym, ap, ◌∙◌, subst, arith}
 use Rattle.erm_model.specs.declared.history.TransactionRecord.{TransactionRecord}
 use Rattle.erm_model.specs.declared.history.VersionWritten.{VersionWritten}
+use Rattle.erm_model.specs.declared.operation.Reply.{Reply}
+use Rattle.erm_model.specs.declared.outcome.Phase.{Phase}
+use Rattle.erm_model.specs.declared.outcome.Phase.TheVariants.{Idle, Active, Sealed, Pending, Safe}
 use Rattle.erm_model.specs.declared.row_stop.RowStop.{RowStop}
 use Rattle.erm_model.specs.declared.row_stop.RowStop.TheVariants as stop
 use Rattle.erm_model.specs.Member.{◌∈◌}
-use Rattle.erm_model.specs.History.{History}
+use Rattle.erm_model.specs.History.{HasNewestRows, History}
 use Rattle.erm_model.specs.RowTransaction.{Asked, Event, asked_claim, asked_make, asked_read}
 use Rattle.erm_model.specs.Rows.{Rows}
 use Rattle.erm_report.specs.declared.answer.Answer.{Answer}
@@ -14,34 +17,68 @@ use Rattle.erm_script.specs.declared.script.Command.{Command}
 use Rattle.erm_script.specs.declared.script.Command.TheVariants as command
 use Rattle.erm_script.specs.declared.script.ScriptLine.{ScriptLine}
 use Rattle.erm_world.specs.Calls.{AreAllDrawn, AreAllMade, IsShut}
-use Rattle.erm_world.specs.World.{Has, IsSession, Session, View, Work, history_of, phase_at, work_at}
+use Rattle.erm_world.specs.declared.stops.SafeStop.{SafeStop}
+use Rattle.erm_world.specs.declared.stops.SafeStop.TheVariants as safe
+use Rattle.erm_world.specs.Laws.{IsNumbered}
+use Rattle.erm_world.specs.World.{GivenUp, Has, IsSession, IsWorking, Session, Stand, View, Work, history_of, phase_at, work_at}
+use Rattle.erm_world.specs.World as world
 use Rattle.erm_world.specs.Works.{is_claimed}
 use Rattle.erm_good_report.specs.Phases.{refusal_of}
 use Rattle.erm_lines.specs.Executions.{Move, close, flush, line, log}
 use Rattle.erm_lines.specs.Operations.{AsksOf, FrontOf}
 use Rattle.erm_beside.specs.Ends.{MetBeside, MetOf, WasNewer, WasOwned}
-use Rattle.erm_lines_at_once.specs.Answers.{DidAskedBeside, DidCommandBeside, DidLineBeside}
+use Rattle.erm_beside.specs.Safe.{NotSafeMet}
+use Rattle.erm_lines_at_once.specs.Answers.{DidAskSafeBeside, DidAskSnapshotBeside, DidAskedBeside, DidBeginAndAskBeside, DidCommandBeside, DidInBeside, DidLineBeside, DidOfSnapshotBeside}
 use Rattle.erm_lines_at_once.specs.Executions.{DidMoveBeside, DidOwn, IsOwnRun, is_own}
+use Rattle.erm_lines_at_once.specs.Looks.{DidLookBeside}
 use Rattle.erm_lines_at_once.specs.Operations.{DidOnce, DidOperationBeside, WasTried, WereCutBeside, told_at_once}
-use Rattle.erm_cut_at_once.proofs.Stands.{StandsFor}
-use Rattle.erm_cut_at_once.proofs.World.{has_here, has_there, same_claims, same_history, same_made, told_world}
+use Rattle.erm_told.proofs.Pairs.{within}
+use Rattle.erm_cut_at_once.proofs.Given.{HasNumbered}
+use Rattle.erm_cut_at_once.proofs.Rereading.{HasReadMore}
+use Rattle.erm_cut_at_once.proofs.Stands.{IsUntold, StandsFor}
+use Rattle.erm_cut_at_once.proofs.World.{has_here, has_there, safe_here, same_claims, same_history, same_made, told_world}
 
-module _ (f : View) (told : ℕ → Session) (drew : ℕ → ℕ) (stands : (seat : ℕ) → IsSession f seat → StandsFor (drew seat) (told seat) (f.session seat)) where
+module _ (f : View) (told : ℕ → Session) (drew : ℕ → ℕ) (stands : (seat : ℕ) → IsSession f seat → StandsFor (drew seat) (told seat) (f.session seat))
+    (given : (seat : ℕ) → IsSession f seat → (x : GivenUp) → x ∈ f.given_up seat → HasNumbered (told seat) x.number) (numbered : (seat : ℕ) → IsSession f seat → IsNumbered (f.session seat)) where
   abbrev g : View
   g = told_world f told
 
   in_history : (r : TransactionRecord) → r ∈ history_of f → r ∈ history_of g
   in_history r m = subst (λ (h : History). r ∈ h) (sym (same_history f told drew stands)) m
 
+  -- who owned an object is told: a snapshot claims none, and gives none up
+  few_before : (s : Session) → IsNumbered s → s.stand ≡ world.idle → (number : ℕ) → HasNumbered s number → number ≤ length s.over
+  few_before s is idle number (w, inl (g, (k, at), same), number_is) =
+      let less = within s.over k g at in
+      omega (arith, less, is.over k g at, ap (λ (u : Work). u.number) same, number_is)
+  few_before s is idle number (w, inr now, number_is) = absurd (subst (λ (stand : Stand). IsWorking stand w) idle now)
+
+  -- it was claimed by this work, or given up under its number
+  abbrev TriedBy : ℕ → ℕ → ℕ → Work → Type 0
+  TriedBy other number oid w = (is_claimed w.claims oid ≡ true) ⊎ (record { number = number; oid = oid } ∈ f.given_up other)
+
+  none_untold : (other number oid : ℕ) → IsSession f other → (u : Work) → u.number ≡ number → TriedBy other number oid u → IsUntold (told other) u → ⊥
+  none_untold other number oid session u number_is (inl claimed) untold =
+      let no : false ≡ true = sym (ap (λ (w : Work). is_claimed w.claims oid) untold.bare) ∙ claimed in cc
+  none_untold other number oid session u number_is (inr gave) untold =
+      let few = few_before (told other) ((stands other session).numbered (numbered other session)) untold.idle number (given other session (record { number = number; oid = oid }) gave) in
+      omega (arith, few, number_is, ap (λ (w : Work). w.number) untold.bare)
+
+  told_owner : (other number oid : ℕ) → IsSession f other → (u : Work) → u.number ≡ number → Has f other u → TriedBy other number oid u → (w : Work) × Has g other w × HasReadMore w u
+  told_owner other number oid session u number_is has tried = elim (has_here f told drew stands other u session has) [
+    | inl is ↦ is
+    | inr untold ↦ absurd (none_untold other number oid session u number_is tried untold)
+  ]
+
   owned_here : (seat : ℕ) (session : IsSession f seat) (oid other number own place : ℕ) → WasOwned f seat oid other number own place → WasOwned g seat oid other number own place
   owned_here seat session oid other number own place owned =
-      let (w, has, more) = has_here f told drew stands other owned.work owned.session owned.has in record {
+      let (w, has, more) = told_owner other number oid owned.session owned.work owned.number_is owned.has owned.tried in record {
         session = owned.session;
         another = owned.another;
         work = w;
         has = has;
         number_is = sym more.number ∙ owned.number_is;
-        tried = elim owned.tried as (λ _. (is_claimed w.claims oid ≡ true) ⊎ (record { number = number; oid = oid } ∈ f.given_up other)) [
+        tried = elim owned.tried as (λ _. TriedBy other number oid w) [
           | inl claimed ↦ inl (subst (λ (cs : List VersionWritten). is_claimed cs oid ≡ true) more.claims claimed)
           | inr given ↦ inr given
         ];
@@ -142,10 +179,60 @@ module _ (f : View) (told : ℕ → Session) (drew : ℕ → ℕ) (stands : (sea
   operation_here seat session c a v t did =
       record { times = did.times; at = did.at; tried = tried_here seat session c did.times v did.at did.tried; once = once_here seat session c a did.at t did.once }
 
+  -- A SNAPSHOT
+  met_safe : (seat : ℕ) (why : SafeStop) (v t : View) → NotSafeMet f seat why v t → NotSafeMet g seat why v t
+  met_safe seat (safe.NotYet other seen) v t met = tt
+  met_safe seat (safe.Unsafe other stamp) v t (back, below) = (
+    record {
+      session = back.session;
+      another = back.another;
+      by = back.by;
+      committed = in_history back.by back.committed;
+      seat_is = back.seat_is;
+      stamp_is = back.stamp_is;
+      back = back.back;
+      above = back.above;
+    },
+    below,
+  )
+
+  safe_asked : (seat : ℕ) (a : Answer) (v t : View) → DidAskSafeBeside f seat a v t → DidAskSafeBeside g seat a v t
+  safe_asked seat (answer.Safe stamp) v t did = (did.0, did.1, safe_here f told drew stands stamp did.2)
+  safe_asked seat (answer.Unsafe other stamp) v t did = (did.0, met_safe seat (safe.Unsafe other stamp) v t did.1)
+  safe_asked seat a v t did = absurd did
+
+  begun_asked : (seat : ℕ) (a : Answer) (v t : View) → DidBeginAndAskBeside f seat a v t → DidBeginAndAskBeside g seat a v t
+  begun_asked seat a v t did = record { begin = did.begin; between = did.between; began = did.began; asked = safe_asked seat a did.between t did.asked }
+
+  snapshot_asked : (seat : ℕ) (a : Answer) (v t : View) → DidAskSnapshotBeside f seat a v t → DidAskSnapshotBeside g seat a v t
+  snapshot_asked seat (answer.LogEnd tail) v t did = did
+  snapshot_asked seat answer.NumbersEnd v t did = did
+  snapshot_asked seat a v t did = begun_asked seat a v t did
+
+  look_here : (seat : ℕ) (c : Command) (r : Reply) (v t : View) → DidLookBeside f seat c r v t → DidLookBeside g seat c r v t
+  look_here seat c r v t did = record {
+    passes = did.passes;
+    op = did.op;
+    asked = did.asked;
+    reply = λ rows sound are. did.reply rows sound (subst (λ (h : History). HasNewestRows h f.opening.rows (work_at v seat).begin rows) (same_history f told drew stands) are);
+  }
+
+  of_snapshot : (seat : ℕ) (c : Command) (a : Answer) (v t : View) → DidOfSnapshotBeside f seat c a v t → DidOfSnapshotBeside g seat c a v t
+  of_snapshot seat command.Safe a v t did = safe_asked seat a v t did
+  of_snapshot seat (command.Get table key) (answer.Replied r) v t did = look_here seat (command.Get table key) r v t did
+  of_snapshot seat (command.Next table from) (answer.Replied r) v t did = look_here seat (command.Next table from) r v t did
+  of_snapshot seat (command.Scan table low high) (answer.Replied r) v t did = look_here seat (command.Scan table low high) r v t did
+  of_snapshot seat command.Commit answer.Ended v t did = did
+  of_snapshot seat command.Abort answer.Aborted v t did = did
+  of_snapshot seat command.Durable (answer.Durable stamp) v t did = did
+  of_snapshot seat command.Durable answer.NoReceipt v t did = did
+  of_snapshot seat c a v t did = absurd did
+
   command_here : (seat : ℕ) (session : IsSession f seat) (c : Command) (a : Answer) (v t : View) → DidCommandBeside f seat c a v t → DidCommandBeside g seat c a v t
   command_here seat session command.Begin (answer.Began stamp) v t did = did
   command_here seat session command.Begin (answer.LogEnd tail) v t did = did
   command_here seat session command.Begin answer.NumbersEnd v t did = did
+  command_here seat session command.Safe a v t did = snapshot_asked seat a v t did
   command_here seat session command.Seal (answer.Sealed stamp) v t did = did
   command_here seat session command.Settle a v t did = did
   command_here seat session command.Commit a v t did = did
@@ -160,9 +247,16 @@ module _ (f : View) (told : ℕ → Session) (drew : ℕ → ℕ) (stands : (sea
   command_here seat session (command.Tidy table key) a v t did = operation_here seat session (command.Tidy table key) a v t did
   command_here seat session c a v t did = absurd did
 
+  phase_here : (phase : Phase) (seat : ℕ) (session : IsSession f seat) (c : Command) (a : Answer) (v t : View) → DidInBeside phase f seat c a v t → DidInBeside phase g seat c a v t
+  phase_here Idle seat session c a v t did = command_here seat session c a v t did
+  phase_here Active seat session c a v t did = command_here seat session c a v t did
+  phase_here Sealed seat session c a v t did = command_here seat session c a v t did
+  phase_here Pending seat session c a v t did = of_snapshot seat c a v t did
+  phase_here Safe seat session c a v t did = of_snapshot seat c a v t did
+
   asked_here : (refusal : Option Answer) (seat : ℕ) (session : IsSession f seat) (c : Command) (a : Answer) (v t : View) → DidAskedBeside refusal f seat c a v t → DidAskedBeside refusal g seat c a v t
   asked_here (Some r) seat session c a v t did = did
-  asked_here None seat session c a v t did = command_here seat session c a v t did
+  asked_here None seat session c a v t did = phase_here (phase_at v seat) seat session c a v t did
 
   line_here : (l : ScriptLine) (a : Answer) (v t : View) → IsSession f l.session → DidLineBeside f l a v t → DidLineBeside g l a v t
   line_here l a v t session did = record { fits = did.fits; did = asked_here (refusal_of (phase_at v l.session) l.command) l.session session l.command a v t did.did }

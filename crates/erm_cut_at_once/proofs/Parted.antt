@@ -163,20 +163,28 @@ next_left seat counts (k ∷ script) l is = elim (next_is seat counts k script) 
     the_one : (x y : ScriptLine) → Some x ≡ Some y → x ≡ y
     the_one x y same = cc
 
--- a session without another line has all its lines answered
-pub all_answered : (seat : ℕ) (counts : ℕ → ℕ) (script : List ScriptLine) → next_of seat counts script ≡ None → (l : ScriptLine) → l ∈ script → l.session ≡ seat → l ∈ answered_of counts script
-all_answered seat counts [] is l m own = m
-all_answered seat counts (k ∷ script) is l m own = elim (next_is seat counts k script) as (λ _. l ∈ answered_of counts (k ∷ script)) [
+-- A SESSION WITHOUT ANOTHER LINE has all its lines answered: those of the part are those of the script.
+filter_first : (seat : ℕ) (k : ScriptLine) (xs ys : List ScriptLine) → filter (owns seat) xs ≡ filter (owns seat) ys → filter (owns seat) (k ∷ xs) ≡ filter (owns seat) (k ∷ ys)
+filter_first seat k xs ys same = by (owns seat k) refl
+  where
+    by : (b : Bool) → owns seat k ≡ b → filter (owns seat) (k ∷ xs) ≡ filter (owns seat) (k ∷ ys)
+    by true is = own_filter seat k xs true is ∙ ap (λ (ls : List ScriptLine). k ∷ ls) same ∙ sym (own_filter seat k ys true is)
+    by false is = own_filter seat k xs false is ∙ same ∙ sym (own_filter seat k ys false is)
+
+filter_other : (seat : ℕ) (k : ScriptLine) (xs : List ScriptLine) → k.session ≢ seat → filter (owns seat) (k ∷ xs) ≡ filter (owns seat) xs
+filter_other seat k xs other = by (eqb_tells k.session seat)
+  where
+    by : (((k.session == seat) ≡ true) × (k.session ≡ seat)) ⊎ (((k.session == seat) ≡ false) × (k.session ≢ seat)) → filter (owns seat) (k ∷ xs) ≡ filter (owns seat) xs
+    by (inl (own, same)) = absurd (other same)
+    by (inr (is, ne)) = own_filter seat k xs false is
+
+pub all_answered : (seat : ℕ) (counts : ℕ → ℕ) (script : List ScriptLine) → next_of seat counts script ≡ None → filter (λ l. l.session == seat) (answered_of counts script) ≡ filter (λ l. l.session == seat) script
+all_answered seat counts [] is = refl
+all_answered seat counts (k ∷ script) is = elim (next_is seat counts k script) as (λ _. filter (owns seat) (answered_of counts (k ∷ script)) ≡ filter (owns seat) (k ∷ script)) [
   | later fewer first rest next ↦
-      subst (λ (ls : List ScriptLine). l ∈ ls) (sym first) (elim (∈-cons l k script m) as (λ _. l ∈ k ∷ answered_of fewer script) [
-        | inl at ↦ subst (λ (x : ScriptLine). x ∈ k ∷ answered_of fewer script) at (∈-head k (answered_of fewer script))
-        | inr further ↦ ∈-behind k (answered_of fewer script) l (all_answered seat fewer script (sym next ∙ is) l further own)
-      ])
+      ap (λ (ls : List ScriptLine). filter (owns seat) ls) first ∙ filter_first seat k (answered_of fewer script) script (all_answered seat fewer script (sym next ∙ is))
   | behind ne first rest next ↦
-      subst (λ (ls : List ScriptLine). l ∈ ls) (sym first) (elim (∈-cons l k script m) as (λ _. l ∈ answered_of counts script) [
-        | inl at ↦ absurd (ne (ap (λ (x : ScriptLine). x.session) at ∙ own))
-        | inr further ↦ all_answered seat counts script (sym next ∙ is) l further own
-      ])
+      ap (λ (ls : List ScriptLine). filter (owns seat) ls) first ∙ all_answered seat counts script (sym next ∙ is) ∙ sym (filter_other seat k script ne)
   | here same rest next ↦ let no : Some k ≡ None = sym next ∙ is in cc
 ]
 

@@ -12,7 +12,7 @@ use Rattle.erm_world.specs.World as world
 use Rattle.erm_maps.specs.Runs.{IsAnswered, IsRunOf}
 use Rattle.erm_good_report.specs.GoodReport.{places_of}
 use Rattle.erm_good_report.specs.Phases.{Closed, Closes, phase_of}
-use Rattle.erm_good_report.specs.Transactions.{Said, nothing, transactions_of}
+use Rattle.erm_good_report.specs.Transactions.{Said, ended_of, nothing, transactions_of}
 use Rattle.erm_good_at_once.specs.CutReports.{OwesInPart, answered_of}
 use Rattle.erm_lines.specs.Executions.{line_moves}
 use Rattle.erm_told.proofs.Pairs.{pairs_of}
@@ -27,7 +27,9 @@ closes_sealed Idle a fits sealed = absurd fits
 closes_sealed Active answer.Aborted fits sealed = absurd sealed
 closes_sealed Active a fits sealed = absurd fits
 closes_sealed Sealed a fits sealed = refl
+closes_sealed Pending answer.Aborted fits sealed = absurd sealed
 closes_sealed Pending a fits sealed = absurd fits
+closes_sealed Safe answer.Aborted fits sealed = absurd sealed
 closes_sealed Safe a fits sealed = absurd fits
 
 module _ (runs : (number begin : ℕ) → IsRunOf (world.begun number begin) []) (stay : (w u : Work) (steps : List Step) → Extends w u → IsAnswered w steps → IsAnswered u steps) where
@@ -49,7 +51,7 @@ once : (closed : List Closed) → AllPairs (λ a b. a.session < b.session) close
 once closed ascend i j d less within = λ is. omega (arith, is, ascend i j d less within)
 
 pub report_well : CutRunsOwe → CutRunsCloseUnseen → CutRunsReportWell
-report_well owe unseen v f script opening names lines of many was fits = record {
+report_well owe unseen v f script opening names lines of many few was fits = record {
   counts = was.counts;
   answers = was.answers;
   each = was.run.each;
@@ -59,6 +61,7 @@ report_well owe unseen v f script opening names lines of many was fits = record 
   once = once was.closed was.run.ascend;
   unseen = unseen v f script was.counts was.answers was.closed was.run;
   owes =
-      subst (λ (n : ℕ). OwesInPart opening script (answered_of was.counts script) was.answers (transactions_of n (places_of (answered_of was.counts script) was.answers was.closed))) many
-      (owe v f script was.counts was.answers was.closed opening was.run of);
+      subst (λ (n : ℕ). OwesInPart opening script (answered_of was.counts script) was.answers (transactions_of n (places_of (answered_of was.counts script) was.answers was.closed))
+      (ended_of n (places_of (answered_of was.counts script) was.answers was.closed))) many
+      (owe v f script was.counts was.answers was.closed opening was.run of (omega (arith, many, few)));
 }

@@ -4,14 +4,16 @@ use Rattle.erm_model.specs.declared.history.VersionRead.{VersionRead}
 use Rattle.erm_model.specs.declared.history.VersionWritten.{VersionWritten}
 use Rattle.erm_model.specs.History.{History, IsCertified, IsNewestBelow, IsPredecessorStamp, IsSnapshot, IsSuccessorStamp}
 use Rattle.erm_model.specs.Member.{◌∈◌}
+use Rattle.erm_model.specs.Safe.{IsSafeAt}
 use Rattle.erm_machine.proofs.Listed.{∈-first}
 use Rattle.erm_node.specs.Sound.{sound_law}
 use Rattle.erm_world.specs.Laws.{IsSerializable, SeesSnapshot}
+use Rattle.erm_world.specs.Safe.{IsSafeIn}
 use Rattle.erm_world.specs.World.{Has, HasStamp, IsSession, Session, View, Work, claims_by_all, claims_upto, committed_in, history_of, history_upto, made_by_all, made_upto, record_of, work_at}
 use Rattle.erm_lines_at_once.specs.Ends.{IsEnd, sealed_below, sealed_upto}
 use Rattle.erm_lines_at_once.specs.Parts.{IsLeft}
 use Rattle.erm_cut_at_once.proofs.Rereading.{HasReadMore}
-use Rattle.erm_cut_at_once.proofs.Stands.{StandsFor}
+use Rattle.erm_cut_at_once.proofs.Stands.{StandsFor, ToldOrNot}
 
 -- how many of the sessions up to a number drew a stamp that isn't told
 unfoldable pub drawn_upto : ℕ → (ℕ → ℕ) → ℕ
@@ -65,12 +67,20 @@ module _ (f : View) (told : ℕ → Session) (drew : ℕ → ℕ) (stands : (sea
   pub same_claims : claims_by_all g ≡ claims_by_all f
   same_claims = claims_there f.opening.sessions all_of
 
-  -- a transaction of the one world is one of the other, but for what it read
+  -- a transaction of the one world is one of the other, but for what it read, and for a snapshot that isn't told
   pub has_there : (seat : ℕ) (w : Work) → IsSession f seat → Has g seat w → (u : Work) × Has f seat u × HasReadMore w u
   has_there seat w session has = (stands seat session).was w has
 
-  pub has_here : (seat : ℕ) (u : Work) → IsSession f seat → Has f seat u → (w : Work) × Has g seat w × HasReadMore w u
+  pub has_here : (seat : ℕ) (u : Work) → IsSession f seat → Has f seat u → ToldOrNot (told seat) u
   has_here seat u session has = (stands seat session).is u has
+
+  -- a stamp that is safe in the one is so in the other
+  pub safe_here : (stamp : ℕ) → IsSafeIn f stamp → IsSafeIn g stamp
+  safe_here stamp safe = record {
+    past = safe.past;
+    history = subst (λ (h : History). IsSafeAt h stamp) (sym same_history) safe.history;
+    begins = λ seat w session now. safe.begins seat w session ((stands seat session).working w now);
+  }
 
   stamp_there : (seat : ℕ) (w : Work) (stamp : ℕ) → IsSession f seat → HasStamp g seat w stamp → HasStamp f seat w stamp
   stamp_there seat w stamp session has = (stands seat session).stamped w stamp has

@@ -1,6 +1,7 @@
 -- What the report of an execution at once that a fault cut off owes: the laws, as statements.
-use Rattle.std.specs.Prelude.{◌≡◌, ℕ, List, [], ◌∷◌, ◌++◌, length}
+use Rattle.std.specs.Prelude.{◌≡◌, ℕ, ◌≤◌, List, [], ◌∷◌, ◌++◌, length}
 use Rattle.std.specs.List.{All}
+use Rattle.erm_model.specs.declared.limits.TheConstants.{SESSIONS}
 use Rattle.erm_report.specs.declared.answer.Answer.{Answer}
 use Rattle.erm_report.specs.declared.line.Line.{Line}
 use Rattle.erm_report.specs.declared.line.Line.TheVariants as line
@@ -10,18 +11,20 @@ use Rattle.erm_world.specs.World.{View}
 use Rattle.erm_good_report.specs.GoodReport.{answer_lines, places_of}
 use Rattle.erm_good_report.specs.Opening.{Opening}
 use Rattle.erm_good_report.specs.Phases.{Closed}
-use Rattle.erm_good_report.specs.Transactions.{transactions_of}
+use Rattle.erm_good_report.specs.Transactions.{ended_of, transactions_of}
 use Rattle.erm_good_at_once.specs.CutReports.{IsCutAtOnce, IsUnseen, OwesInPart, answered_of}
 use Rattle.erm_model.specs.Member.{◌∈◌}
 use Rattle.erm_lines.specs.Executions.{IsOpeningOf}
 use Rattle.erm_lines_at_once.specs.CutRuns.{IsCutRunAtOnce}
 use Rattle.erm_limits_at_once.specs.Laws.{AreCellsFull}
 
--- All that a report owes to its answers is so of the lines answered, each line of the script having been run in part perhaps.
+-- All that a report owes to its answers is so of the lines answered, each line of the script having been run in part perhaps, where there are no more
+-- sessions than may be.
 abbrev pub CutRunsOwe : Type 0
 CutRunsOwe = (v f : View) (script : List ScriptLine) (counts : ℕ → ℕ) (answers : List Answer) (closed : List Closed) (opening : Opening)
-    → IsCutRunAtOnce v script counts answers closed f → IsOpeningOf v opening
+    → IsCutRunAtOnce v script counts answers closed f → IsOpeningOf v opening → v.opening.sessions ≤ SESSIONS
     → OwesInPart opening script (answered_of counts script) answers (transactions_of v.opening.sessions (places_of (answered_of counts script) answers closed))
+    (ended_of v.opening.sessions (places_of (answered_of counts script) answers closed))
 
 -- A session that was decided behind the last answers had all its lines answered, and they leave it sealed.
 abbrev pub CutRunsCloseUnseen : Type 0
@@ -44,4 +47,4 @@ pub record TellsCutAtOnce (v f : View) (opening : Opening) (script : List Script
 -- Such lines, whose numbers and values fit their types, are a good report of what was cut off.
 abbrev pub CutRunsReportWell : Type 0
 CutRunsReportWell = (v f : View) (script : List ScriptLine) (opening : Opening) (names : List (List ℕ)) (lines : List Line) → IsOpeningOf v opening → v.opening.sessions ≡ length names
-    → TellsCutAtOnce v f opening script lines → All FitsTypes lines → IsCutAtOnce opening names script lines
+    → length names ≤ SESSIONS → TellsCutAtOnce v f opening script lines → All FitsTypes lines → IsCutAtOnce opening names script lines

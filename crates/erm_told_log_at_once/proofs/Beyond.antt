@@ -18,7 +18,7 @@ use Rattle.erm_good_report.specs.Phases.{refusal_of}
 use Rattle.erm_lines.specs.Executions.{Move, close, flush, line, log}
 use Rattle.erm_lines.specs.Operations.{AsksOf, FrontOf, Ran}
 use Rattle.erm_beside.specs.Calls.{After, DidSettleBeside, NotClaimedBeside, NotMadeBeside, NotReadBeside, Passes, RefusedBeside}
-use Rattle.erm_lines_at_once.specs.Answers.{DidAskedBeside, DidCloseBeside, DidCommandBeside, DidCommitBeside, DidDecideBeside}
+use Rattle.erm_lines_at_once.specs.Answers.{DidAskSafeBeside, DidAskSnapshotBeside, DidAskedBeside, DidBeginAndAskBeside, DidCloseBeside, DidCommandBeside, DidCommitBeside, DidDecideBeside, DidInBeside, DidOfSnapshotBeside}
 use Rattle.erm_lines_at_once.specs.Executions.{DidMoveBeside, DidOwn, IsOwnRun, is_own}
 use Rattle.erm_lines_at_once.specs.Operations.{Beside, DidOnce, DidOperationBeside, WasTried, WereCutBeside, told_at_once}
 
@@ -137,10 +137,38 @@ module _ (f : View) (seat : ℕ) (v t : View) where
   beyond_done : (u : View) (s : Session) → Passes seat v u → Becomes u seat s t → Beyond v t
   beyond_done u s passes now = beyond_then v u t (beyond_passes seat v u passes) (beyond_becomes u seat s t now)
 
+  -- a snapshot
+  beyond_safe : (u : View) (a : Answer) → DidAskSafeBeside f seat a u t → Beyond u t
+  beyond_safe u (answer.Safe stamp) ((w, passes, (s, stand, now)), is, safe) = beyond_then u w t (beyond_passes seat u w passes) (beyond_becomes w seat _ t now)
+  beyond_safe u (answer.Unsafe other stamp) ((w, passes, now), met) = beyond_then u w t (beyond_passes seat u w passes) (beyond_becomes w seat _ t now)
+  beyond_safe u a did = absurd did
+
+  beyond_begun : (a : Answer) → DidBeginAndAskBeside f seat a v t → Beyond v t
+  beyond_begun a did =
+      let (u, passes, (few, is, now)) = did.began in
+      beyond_then v did.between t (beyond_then v u did.between (beyond_passes seat v u passes) (beyond_becomes u seat _ did.between now)) (beyond_safe did.between a did.asked)
+
+  beyond_asks : (a : Answer) → DidAskSnapshotBeside f seat a v t → Beyond v t
+  beyond_asks (answer.LogEnd tail) (u, passes, did) = beyond_same u passes did.0
+  beyond_asks answer.NumbersEnd (u, passes, did) = beyond_same u passes did.0
+  beyond_asks a did = beyond_begun a did
+
+  beyond_watched : (c : Command) (a : Answer) → DidOfSnapshotBeside f seat c a v t → Beyond v t
+  beyond_watched command.Safe a did = beyond_safe v a did
+  beyond_watched (command.Get table key) (answer.Replied r) did = beyond_passes seat v t did.passes
+  beyond_watched (command.Next table from) (answer.Replied r) did = beyond_passes seat v t did.passes
+  beyond_watched (command.Scan table low high) (answer.Replied r) did = beyond_passes seat v t did.passes
+  beyond_watched command.Commit answer.Ended (u, passes, did) = beyond_done u _ passes did
+  beyond_watched command.Abort answer.Aborted (u, passes, did) = beyond_done u _ passes did
+  beyond_watched command.Durable (answer.Durable stamp) (u, passes, did) = beyond_same u passes did.0
+  beyond_watched command.Durable answer.NoReceipt (u, passes, did) = beyond_same u passes did.0
+  beyond_watched c a did = absurd did
+
   beyond_command : (c : Command) (a : Answer) → DidCommandBeside f seat c a v t → Beyond v t
   beyond_command command.Begin (answer.Began stamp) (u, passes, (few, is, now)) = beyond_done u _ passes now
   beyond_command command.Begin (answer.LogEnd tail) (u, passes, did) = beyond_same u passes did.0
   beyond_command command.Begin answer.NumbersEnd (u, passes, did) = beyond_same u passes did.0
+  beyond_command command.Safe a did = beyond_asks a did
   beyond_command command.Seal (answer.Sealed stamp) (u, passes, did) = beyond_then v u t (beyond_passes seat v u passes) (beyond_sealed u seat stamp t did)
   beyond_command command.Settle a did = beyond_decided seat a v t did
   beyond_command command.Commit a did = beyond_commit seat a v t did
@@ -155,16 +183,23 @@ module _ (f : View) (seat : ℕ) (v t : View) where
   beyond_command (command.Tidy table key) a did = beyond_operation f seat (command.Tidy table key) a v t did
   beyond_command c a did = absurd did
 
+  beyond_in : (phase : Phase) (c : Command) (a : Answer) → DidInBeside phase f seat c a v t → Beyond v t
+  beyond_in Idle c a did = beyond_command c a did
+  beyond_in Active c a did = beyond_command c a did
+  beyond_in Sealed c a did = beyond_command c a did
+  beyond_in Pending c a did = beyond_watched c a did
+  beyond_in Safe c a did = beyond_watched c a did
+
   beyond_asked : (refusal : Option Answer) (c : Command) (a : Answer) → DidAskedBeside refusal f seat c a v t → Beyond v t
   beyond_asked (Some r) c a passes = beyond_passes seat v t passes
-  beyond_asked None c a did = beyond_command c a did
+  beyond_asked None c a did = beyond_in (phase_at v seat) c a did
 
   beyond_closed : (phase : Phase) (a : Answer) → DidCloseBeside phase seat a v t → Beyond v t
   beyond_closed Idle a did = absurd did
   beyond_closed Active a (u, passes, did) = beyond_done u _ passes did
   beyond_closed Sealed a did = beyond_decided seat a v t did
-  beyond_closed Pending a did = absurd did
-  beyond_closed Safe a did = absurd did
+  beyond_closed Pending a (u, passes, did) = beyond_done u _ passes did
+  beyond_closed Safe a (u, passes, did) = beyond_done u _ passes did
 
 -- THE OWN RUN
 beyond_move : (f : View) (seat : ℕ) (m : Move) (v t : View) → DidMoveBeside f seat m v t → Beyond v t

@@ -3,7 +3,7 @@ use Rattle.std.proofs.Common.{ℕ, Option, Some, None, ◌∙◌, arith}
 use Rattle.erm_script.specs.declared.script.ScriptLine.{ScriptLine}
 use Rattle.erm_world.specs.World.{View}
 use Rattle.erm_good_at_once.specs.CutReports.{answered_of}
-use Rattle.erm_lines_at_once.specs.CutRuns.{IsRest, Waited, aborted, drew, next_of, stood}
+use Rattle.erm_lines_at_once.specs.CutRuns.{IsRest, Waited, aborted, drew, ended, next_of, stood, watched}
 use Rattle.erm_told_crash.specs.Laws.{ToldTellStates}
 use Rattle.erm_told_crash.specs.Logged.{ToldLogCommits}
 use Rattle.erm_told_fronts.specs.Fronts.{ToldFrontsRun}
@@ -43,6 +43,8 @@ pub rest_beyond : (f : View) (seat : ℕ) (next : Option ScriptLine) (v t : View
 rest_beyond f seat next v t (stood passes) = beyond_passes seat v t passes
 rest_beyond f seat next v t (aborted u active waited did) = beyond_then v u t (waited_beyond f seat next v u waited) (beyond_becomes u seat _ t did)
 rest_beyond f seat next v t (drew l stamp active is commits (u, passes, did)) = beyond_then v u t (beyond_passes seat v u passes) (beyond_sealed u seat stamp t did)
+rest_beyond f seat next v t (watched l begin idle is asks (u, passes, (few, is_begin, did))) = beyond_then v u t (beyond_passes seat v u passes) (beyond_becomes u seat _ t did)
+rest_beyond f seat next v t (ended has none (u, passes, did)) = beyond_then v u t (beyond_passes seat v u passes) (beyond_becomes u seat _ t did)
 
 pub cuts_flushed : CutRunsTellFlushed
 cuts_flushed v f script counts answers closed run =

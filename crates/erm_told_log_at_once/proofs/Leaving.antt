@@ -1,7 +1,7 @@
 -- Where the lines told leave a session of an execution that was cut off: its transaction may have been aborted behind them, having read more, or
 -- sealed with a stamp that none of them tells.
 use Rattle.std.proofs.Common.{◌≡◌, ℕ, Bool, true, false, List, [], ◌∷◌, ◌++◌, Option, Some, None, inl, inr, refl, sym, ap, ◌∙◌, subst}
-use Rattle.erm_model.specs.declared.outcome.Phase.TheVariants.{Active}
+use Rattle.erm_model.specs.declared.outcome.Phase.TheVariants.{Active, Idle}
 use Rattle.erm_model.specs.Member.{◌∈◌}
 use Rattle.erm_model.proofs.Members.{none_in_nil}
 use Rattle.erm_machine.proofs.Listed.{∈-cons, ∈-either, ∈-first}
@@ -9,6 +9,7 @@ use Rattle.erm_node.specs.Sound.{sound_law}
 use Rattle.erm_script.specs.declared.script.ScriptLine.{ScriptLine}
 use Rattle.erm_world.specs.Calls.{DidAbort, DidSeal}
 use Rattle.erm_world.specs.Laws.{IsSerializable}
+use Rattle.erm_world.specs.Safe.{HasSnapshot}
 use Rattle.erm_world.specs.Whole.{HasStamps}
 use Rattle.erm_world.specs.World.{Finished, IsSession, Session, Stand, View, Work, phase_at, phase_of, work_at, work_of}
 use Rattle.erm_world.specs.World as world
@@ -17,16 +18,17 @@ use Rattle.erm_maps.specs.Runs.{IsRunOf}
 use Rattle.erm_good_report.specs.Transactions.{Aborts, Progress, Transaction, Unfinished, steps_of}
 use Rattle.erm_lines.specs.Told.{Tells, TellsNow}
 use Rattle.erm_beside.specs.Calls.{After, Passes}
-use Rattle.erm_lines_at_once.specs.CutRuns.{IsRest, Waited, aborted, drew, stood}
+use Rattle.erm_beside.specs.Safe.{DidBeginSafeBeside}
+use Rattle.erm_lines_at_once.specs.CutRuns.{IsRest, Waited, aborted, drew, ended, stood, watched}
 use Rattle.erm_told.proofs.Sessions.{aborted_told}
-use Rattle.erm_told.proofs.Turns.{now_active}
+use Rattle.erm_told.proofs.Turns.{idle_in, none_active, now_active}
 use Rattle.erm_causes_at_once.proofs.Called.{Kept, kept_same, tried_kept}
 use Rattle.erm_told_limits.proofs.Holds.{Laws}
 use Rattle.erm_told_limits.proofs.Ran.{active_with, same_work}
 use Rattle.erm_limits_at_once.proofs.Looked.{BeganIn, began_in}
 use Rattle.erm_cut_at_once.proofs.Closing.{closed_progress}
 use Rattle.erm_cut_at_once.proofs.Rereading.{HasReadMore, read_itself, tried_reads}
-use Rattle.erm_cut_at_once.proofs.Stands.{StandsFor, stands_itself, stands_reread, stands_unsealed}
+use Rattle.erm_cut_at_once.proofs.Stands.{StandsFor, stands_ended, stands_itself, stands_reread, stands_unsealed, stands_unwatched, watching}
 
 -- A session of the world that is left, for one of the world in which all end, whose transactions are told so: what of it was over and sealed is there,
 -- and it is sealed only where that is.
@@ -52,7 +54,7 @@ told_active seat None (world.sealed w stamp) tells active = absurd tells
 told_active seat (Some t) world.idle tells active = absurd tells
 told_active seat (Some t) (world.active w) tells active = (t, refl, tells.0.unfinished, tells.0.ran)
 told_active seat (Some t) (world.sealed w stamp) tells active = cc
-told_active seat None (world.snapshot s) tells active = absurd tells
+told_active seat None (world.snapshot s) tells active = let no : world.snapshot s ≡ world.active (work_of (world.snapshot s)) = active_with (world.snapshot s) active in cc
 told_active seat (Some t) (world.snapshot s) tells active = absurd tells
 
 -- an active session isn't sealed
@@ -66,39 +68,64 @@ never_sealed (world.snapshot s) w stamp active is = absurd (cc is)
 abbrev ended_with : Session → Work → Session
 ended_with s w = record { over = s.over ++ record { work = w; fate = world.aborts } ∷ []; stand = world.idle }
 
--- what was sealed is there whatever was aborted behind it
-sealed_there : (over : List Finished) (w u : Work) (of : Finished) (stamp succ : ℕ) → of ∈ (over ++ record { work = u; fate = world.aborts } ∷ []) → HasStamps of.fate stamp succ
-    → of ∈ (over ++ record { work = w; fate = world.aborts } ∷ [])
-sealed_there over w u of stamp succ m has =
+-- what was sealed was over before one was aborted
+stamped_before : (over : List Finished) (u : Work) (of : Finished) (stamp succ : ℕ) → of ∈ (over ++ record { work = u; fate = world.aborts } ∷ []) → HasStamps of.fate stamp succ → of ∈ over
+stamped_before over u of stamp succ m has =
     let gone : Finished = record { work = u; fate = world.aborts } in
-    elim (∈-either over (gone ∷ []) of m) as (λ _. of ∈ (over ++ record { work = w; fate = world.aborts } ∷ [])) [
-      | inl old ↦ ∈-first over (record { work = w; fate = world.aborts } ∷ []) of old
-      | inr last ↦ elim (∈-cons of gone [] last) as (λ _. of ∈ (over ++ record { work = w; fate = world.aborts } ∷ [])) [
+    elim (∈-either over (gone ∷ []) of m) as (λ _. of ∈ over) [
+      | inl old ↦ old
+      | inr last ↦ elim (∈-cons of gone [] last) as (λ _. of ∈ over) [
         | inl is ↦ absurd (subst (λ (x : Finished). HasStamps x.fate stamp succ) (sym is) has)
         | inr none ↦ absurd (none_in_nil of none)
       ]
     ]
+
+-- and is there whatever was aborted behind it
+sealed_there : (over : List Finished) (w u : Work) (of : Finished) (stamp succ : ℕ) → of ∈ (over ++ record { work = u; fate = world.aborts } ∷ []) → HasStamps of.fate stamp succ
+    → of ∈ (over ++ record { work = w; fate = world.aborts } ∷ [])
+sealed_there over w u of stamp succ m has = ∈-first over (record { work = w; fate = world.aborts } ∷ []) of (stamped_before over u of stamp succ m has)
 
 module _ (laws : Laws) (f : View) (seat : ℕ) (session : IsSession f seat) (holds : IsSerializable sound_law f) (next : Option ScriptLine) (p : Progress) (last end : View)
     (tells : Tells seat p (last.session seat)) (ends : end.session seat ≡ f.session seat) where
   abbrev here : Session
   here = last.session seat
 
+  -- it stands in the world that is left as its moves leave it, and has drawn no stamp
+  as_here : StandsFor 0 here (f.session seat) → ((of : Finished) (stamp succ : ℕ) → of ∈ (f.session seat).over → HasStamps of.fate stamp succ → of ∈ here.over)
+      → ((w : Work) (stamp : ℕ) → here.stand ≡ world.sealed w stamp → (f.session seat).stand ≡ world.sealed w stamp) → Leaving f seat p
+  as_here stands over sealed = record {
+    told = here;
+    drawn = 0;
+    gone = false;
+    leaves = record { stands = stands; tells = tells; unfinished = λ no. absurd (cc no); over = over; sealed = sealed };
+  }
+
   -- nothing was done
   stood_there : Passes seat last end → Leaving f seat p
   stood_there passes =
-      let same : here ≡ f.session seat = sym passes.own ∙ ends in record {
-        told = here;
-        drawn = 0;
-        gone = false;
-        leaves = record {
-          stands = subst (λ (s : Session). StandsFor 0 here s) same (stands_itself here);
-          tells = tells;
-          unfinished = λ no. absurd (cc no);
-          over = λ of stamp succ m has. subst (λ (s : Session). of ∈ s.over) (sym same) m;
-          sealed = λ w stamp is. sym (ap (λ (s : Session). s.stand) same) ∙ is;
-        };
-      }
+      let same : here ≡ f.session seat = sym passes.own ∙ ends in
+      as_here (subst (λ (s : Session). StandsFor 0 here s) same (stands_itself here)) (λ of stamp succ m has. subst (λ (s : Session). of ∈ s.over) (sym same) m)
+      (λ w stamp is. sym (ap (λ (s : Session). s.stand) same) ∙ is)
+
+  -- it began a snapshot, which no line tells
+  watched_there : (begin : ℕ) → phase_at last seat ≡ Idle → After seat (DidBeginSafeBeside seat begin) last end → Leaving f seat p
+  watched_there begin idle (u, passes, (few, is, did)) =
+      let began : f.session seat ≡ watching here.over begin = sym ends ∙ did.own ∙ ap (λ (s : Session). watching s.over begin) passes.own in
+      let stand = idle_in here.stand idle in
+      let own : here ≡ record { over = here.over; stand = world.idle } = ap (λ (stand : Stand). record { over = here.over; stand = stand }) stand in
+      as_here (subst (λ (s : Session). StandsFor 0 here s) (sym began) (subst (λ (s : Session). StandsFor 0 s (watching here.over begin)) (sym own) (stands_unwatched here.over begin)))
+      (λ of stamp succ m has. subst (λ (s : Session). of ∈ s.over) began m) (λ w stamp at. let no : world.idle ≡ world.sealed w stamp = sym stand ∙ at in absurd (cc no))
+
+  -- its snapshot was ended, behind its last line
+  ended_there : HasSnapshot last seat → After seat (λ u w. DidAbort u seat w) last end → Leaving f seat p
+  ended_there (x, stand) (u, passes, did) =
+      let gone : Work = world.begun x.number x.begin in
+      let over : f.session seat ≡ ended_with here (work_at last seat) = sym ends ∙ did.own ∙ ap (λ (s : Session). ended_with s (work_of s.stand)) passes.own in
+      let ended : f.session seat ≡ ended_with here gone = over ∙ ap (λ (at : Stand). ended_with here (work_of at)) stand in
+      let own : here ≡ record { over = here.over; stand = world.snapshot x } = ap (λ (at : Stand). record { over = here.over; stand = at }) stand in
+      as_here (subst (λ (s : Session). StandsFor 0 here s) (sym ended) (subst (λ (s : Session). StandsFor 0 s (ended_with here gone)) (sym own) (stands_ended here.over x)))
+      (λ of stamp succ m has. stamped_before here.over gone of stamp succ (subst (λ (s : Session). of ∈ s.over) ended m) has)
+      (λ w stamp at. let no : world.snapshot x ≡ world.sealed w stamp = sym stand ∙ at in absurd (cc no))
 
   -- its commit drew a stamp
   drew_there : (stamp : ℕ) → phase_at last seat ≡ Active → After seat (λ u w. DidSeal u seat stamp w) last end → Leaving f seat p
@@ -150,8 +177,10 @@ module _ (laws : Laws) (f : View) (seat : ℕ) (session : IsSession f seat) (hol
         leaves = record {
           stands = subst (λ (s : Session). StandsFor 0 (ended_with here w) s) (sym ended) (stands_reread here.over w y (reads_more next u active waited began));
           tells = record {
-            over = aborted_told seat Aborts p.over p.current here.over w w tt refl refl (λ steps answered. answered) tells.over (now_active seat p here active tells);
+            over = aborted_told seat Aborts p.over p.current p.snapshots p.snapshot here.over w w tt refl refl (λ steps answered. answered) tells.over (now_active seat p here active tells)
+                (none_active seat p here active tells);
             now = tt;
+            watched = tt;
           };
           unfinished = λ is. let (t, current, unfinished, ran) = told_active seat p.current here.stand tells.now active in (t, current, unfinished);
           over = λ of stamp succ m has. sealed_there here.over w y of stamp succ (subst (λ (s : Session). of ∈ s.over) ended m) has;
@@ -163,3 +192,5 @@ module _ (laws : Laws) (f : View) (seat : ℕ) (session : IsSession f seat) (hol
   leaving_by (stood passes) = stood_there passes
   leaving_by (aborted u active waited did) = aborted_there u active waited did
   leaving_by (drew l stamp active is commits did) = drew_there stamp active did
+  leaving_by (watched l begin idle is asks did) = watched_there begin idle did
+  leaving_by (ended has none did) = ended_there has did

@@ -32,7 +32,8 @@ use Rattle.erm_told_at_once.proofs.Runs.{all_say, first_known, knows_own}
 use Rattle.erm_told_limits.proofs.Holds.{Laws}
 use Rattle.erm_cut_at_once.proofs.Alike.{Alike, IsAs, alike_both, alike_flat, alike_itself}
 use Rattle.erm_cut_at_once.proofs.Closing.{closed_progress, gones, progress_with}
-use Rattle.erm_cut_at_once.proofs.World.{is_left, told_world}
+use Rattle.erm_cut_at_once.proofs.Stands.{StandsFor}
+use Rattle.erm_cut_at_once.proofs.World.{is_left, safe_here, same_history, told_world}
 use Rattle.erm_told_log_at_once.specs.Left.{CutRunsLeaveWorlds, HasLogOf, LeavesWorld}
 use Rattle.erm_told_log_at_once.proofs.Leaving.{Leaves, Leaving, leaving_by}
 
@@ -69,7 +70,7 @@ alike_closed : (gone : Bool) (p : Progress) → (gone ≡ true → (t : Transact
 alike_closed false p now = alike_itself (all_in p)
 alike_closed true p now =
     let (t, current, unfinished) = now refl in
-    subst (λ (c : Option Transaction). Alike (p.over ++ option_to_list c) (all_in (ended Aborts (record { over = p.over; current = c })))) (sym current)
+    subst (λ (c : Option Transaction). Alike (p.over ++ option_to_list c) (all_in (ended Aborts (record p { current = c })))) (sym current)
     (subst (λ (us : List Transaction). Alike (p.over ++ t ∷ []) us) (sym (append-nil (p.over ++ with_ending Aborts t ∷ [])))
     (alike_both p.over p.over (t ∷ []) (with_ending Aborts t ∷ []) (alike_itself p.over) (inr (unfinished, refl), tt)))
 
@@ -149,9 +150,12 @@ module _ (v f : View) (script : List ScriptLine) (counts : ℕ → ℕ) (answers
   progress_said : (seat : ℕ) → IsSession v seat → progress_of seat said ≡ closed_progress (gone seat) (progress seat)
   progress_said seat session = progress_with gone seat sessions part answers closed session.0 session.1
 
+  stands : (seat : ℕ) → IsSession f seat → StandsFor (drawn seat) (told seat) (f.session seat)
+  stands seat session = (leaves seat (in_v seat session)).stands
+
   is_told : IsTold g said
   is_told = record {
-    serializable = (is_left f told drawn (λ seat session. (leaves seat (in_v seat session)).stands) ends).serializable;
+    serializable = (is_left f told drawn stands ends).serializable;
     tells = λ seat session.
         let its = in_v seat session in subst (λ (p : Progress). Tells seat p (told seat)) (sym (progress_said seat its)) (leaves seat its).tells;
   }
@@ -180,6 +184,8 @@ module _ (v f : View) (script : List ScriptLine) (counts : ℕ → ℕ) (answers
     said = said;
     told = is_told;
     log = has_log;
+    history = same_history f told drawn stands;
+    safe = safe_here f told drawn stands;
     commits =
         ap (λ (o : world.Opening). history_of (transactions_of o.sessions said)) opening
         ∙ same_commits (transactions_of sessions (places_of part answers closed)) (transactions_of sessions said) alike;

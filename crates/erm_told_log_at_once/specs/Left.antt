@@ -3,6 +3,7 @@ use Rattle.std.specs.Prelude.{◌≡◌, ℕ, List}
 use Rattle.erm_model.specs.Member.{◌∈◌}
 use Rattle.erm_report.specs.declared.answer.Answer.{Answer}
 use Rattle.erm_script.specs.declared.script.ScriptLine.{ScriptLine}
+use Rattle.erm_world.specs.Safe.{IsSafeIn}
 use Rattle.erm_world.specs.Whole.{HasStamps}
 use Rattle.erm_world.specs.World.{Finished, HasStamp, IsSession, View, Work}
 use Rattle.erm_world.specs.World as world
@@ -24,13 +25,15 @@ pub record HasLogOf (f g : View) : Type 0 where
   pub sealed : (seat : ℕ) (w : Work) (stamp : ℕ) → IsSession f seat → (g.session seat).stand ≡ world.sealed w stamp → (f.session seat).stand ≡ world.sealed w stamp
   pub stamped : (seat : ℕ) (w : Work) (stamp : ℕ) → IsSession f seat → HasStamp g seat w stamp → HasStamp f seat w stamp
 
--- A world with the log of that in which all end, of which this is said; the commits that are said are those that the lines answered tell, and each
--- transaction that these tell is said too, with its begin stamp and its replies.
+-- A world with the log of that in which all end, of which this is said; it has the same commits, and each stamp that is safe there is safe in it. The
+-- commits that are said are those that the lines answered tell, and each transaction that these tell is said too, with its begin stamp and its replies.
 pub record LeavesWorld (v f : View) (script : List ScriptLine) (counts : ℕ → ℕ) (answers : List Answer) (closed : List Closed) : Type 0 where
   pub left : View
   pub said : List Said
   pub told : IsTold left said
   pub log : HasLogOf f left
+  pub history : world.history_of left ≡ world.history_of f
+  pub safe : (stamp : ℕ) → IsSafeIn f stamp → IsSafeIn left stamp
   pub commits : history_of (told_in left said) ≡ history_of (transactions_of v.opening.sessions (places_of (answered_of counts script) answers closed))
   pub each : (t : Transaction) → t ∈ transactions_of v.opening.sessions (places_of (answered_of counts script) answers closed)
       → (u : Transaction) × (u ∈ told_in left said) × (u.begin ≡ t.begin) × (steps_of u ≡ steps_of t)
