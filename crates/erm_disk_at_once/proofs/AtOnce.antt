@@ -2,7 +2,7 @@
 use Rattle.std.proofs.Common.{◌≡◌, ◌≢◌, ℕ, ◌+◌, ◌≤◌, List, [], ◌∷◌, ◌++◌, length, Option, Some, None, IfSome, append-nil, refl, sym, ap, ◌∙◌, subst, arith}
 use Rattle.std.specs.FinMap.{from_entries}
 use Rattle.std.specs.List.{AllPairs}
-use Rattle.erm_model.specs.Committed.{Committed, RunsInOrder, rank_of}
+use Rattle.erm_model.specs.Committed.{Committed, rank_of, state_after}
 use Rattle.erm_model.specs.Database.{Database, entries_of}
 use Rattle.erm_model.specs.Member.{◌∈◌}
 use Rattle.erm_model.proofs.Members.{none_in_nil}
@@ -184,14 +184,14 @@ module _ (may : MayOpenAll) (state : State) (o : Start) (blocks tried : List Blo
       (λ a b c opening desk. outlives may told state o blocks tried stand lines answers of tells a b c opening.0 desk.keeps desk.since) opens did
 
   pub left : OrdersAreOne → MetLaws → (told : List Committed) → StandFor told state (state_at (flushed_log o blocks) []) blocks → IsLog sound_law.meets (flushed_log o blocks)
-      → HasCommits (flushed_log o blocks) told → (order : List Committed) (opening end : Database) → opening ≡ map_of_rows state.rows → IsSerialOrder rank_of told order → RunsInOrder order opening end
+      → HasCommits (flushed_log o blocks) told → (order : List Committed) (opening end : Database) → opening ≡ map_of_rows state.rows → IsSerialOrder rank_of told order → end ≡ state_after order opening
       → (slots : Slots) → Tells (MeetsFound state (flushed_log o []) slots) before mid → Tells (MeetsMore sound_law o blocks) mid after → Tells (LeavesAll told state end) before after
-  left one laws told stand is has order opening end same serial run slots met more =
+  left one laws told stand is has order opening end same serial ends slots met more =
       tells_join (λ x y. OpensDisk state x y × MeetsFound state (flushed_log o []) slots x y) (λ x y. DeskDid o blocks tried x y × MeetsMore sound_law o blocks x y) (LeavesAll told state end) before mid after
       (λ a b c opened desk.
       let found = opened.1 in
       let later = desk.1 (found.blocks ++ open_block state.at state.run ∷ []) slots found.tail in
-      leaves_all one laws told state o blocks stand is has order opening end same serial run a c (files a b c opened.0 desk.0) later.0
+      leaves_all one laws told state o blocks stand is has order opening end same serial ends a c (files a b c opened.0 desk.0) later.0
       (record { pair = found.pair; blocks = found.blocks; recovers = found.recovers; at = found.at; tail = later.1 }))
       (tells_both (OpensDisk state) (MeetsFound state (flushed_log o []) slots) before mid opens met)
       (tells_both (DeskDid o blocks tried) (MeetsMore sound_law o blocks) mid after did more)

@@ -1,6 +1,6 @@
 -- What is left where sessions at once have run and all of their log is flushed.
 use Rattle.std.proofs.Common.{◌≡◌, ℕ, ◌+◌, ◌<◌, ◌≤◌, List, [], ◌∷◌, refl, arith}
-use Rattle.erm_model.specs.Committed.{Committed, RunsInOrder, rank_of}
+use Rattle.erm_model.specs.Committed.{Committed, rank_of, state_after}
 use Rattle.erm_model.specs.Database.{Database}
 use Rattle.erm_model.specs.Member.{◌∈◌}
 use Rattle.erm_model.specs.SerialOrder.{IsSerialOrder}
@@ -28,9 +28,9 @@ place_rises at (b ∷ bs) = let rest = place_rises (at + b.size) bs in omega (ar
 -- of a log all of which is flushed, behind the blocks that recovery met before
 module _ (one : OrdersAreOne) (laws : MetLaws) (told : List Committed) (state : State) (o : Start) (blocks : List Block) (stand : StandFor told state (state_at (flushed_log o blocks) []) blocks)
     (is : IsLog sound_law.meets (flushed_log o blocks)) (has : HasCommits (flushed_log o blocks) told) where
-  pub leaves_all : (order : List Committed) (opening end : Database) → opening ≡ map_of_rows state.rows → IsSerialOrder rank_of told order → RunsInOrder order opening end
+  pub leaves_all : (order : List Committed) (opening end : Database) → opening ≡ map_of_rows state.rows → IsSerialOrder rank_of told order → end ≡ state_after order opening
       → (old new : List Step) → KeepsFiles state.at old new → (slots : Slots) → MeetsFound state (flushed_log o blocks) slots old new → LeavesAll told state end old new
-  leaves_all order opening end same serial run old new keeps slots met =
+  leaves_all order opening end same serial ends old new keeps slots met =
       let log = flushed_log o blocks in
       let h = met.tail.holds in
       let found : State = state_at log h.front in
@@ -46,7 +46,7 @@ module _ (one : OrdersAreOne) (laws : MetLaws) (told : List Committed) (state : 
         run = stand.runs h.front h.rest h.split;
         low = omega (arith, behind, rises, to);
         above = all;
-        map = run_state one told order (map_of_rows state.rows) opening end found.at (map_of_rows found.rows) all same (stand.states h.front h.rest h.split) serial run;
+        map = run_state one told order (map_of_rows state.rows) opening end found.at (map_of_rows found.rows) all same (stand.states h.front h.rest h.split) serial ends;
         spared = λ before blocks_met recovers. slots_stay state.at old new keeps h.pair before h.there.blocks blocks_met h.there.recovers recovers;
         segments = keeps.segments;
         logged = λ best blocks_met recovers. audit_from_place laws state log is behind slots old new met best blocks_met recovers told has refl refl;

@@ -1,3 +1,4 @@
+pub mod Alone
 pub mod AtOnce
 pub mod Ends
 pub mod Files

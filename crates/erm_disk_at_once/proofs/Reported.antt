@@ -1,9 +1,10 @@
 -- The reports of sessions that ran at once, with the script's names alone, and what the log tells of their commits.
-use Rattle.std.proofs.Common.{◌≡◌, ℕ, ◌<◌, List, [], ◌++◌, length, Option, refl, sym, ap, ◌∙◌, subst, arith}
+use Rattle.std.proofs.Common.{◌≡◌, ℕ, ◌+◌, ◌<◌, ◌≤◌, List, [], ◌++◌, length, Option, refl, sym, ap, ◌∙◌, subst, arith}
 use Rattle.std.specs.List.{All}
+use Rattle.std.proofs.lemmas.List.{length-append}
 use Rattle.erm_model.specs.Committed.{Committed}
 use Rattle.erm_model.specs.Member.{◌∈◌}
-use Rattle.erm_model.specs.declared.limits.TheConstants.{TABLE_CELLS}
+use Rattle.erm_model.specs.declared.limits.TheConstants.{SESSIONS, TABLE_CELLS}
 use Rattle.erm_block.specs.declared.block.Block.{Block}
 use Rattle.erm_outside.specs.Disk.{Step, Tells}
 use Rattle.std.specs.FinMap.{from_entries}
@@ -23,7 +24,7 @@ use Rattle.erm_world.specs.World.{View}
 use Rattle.erm_good_report.specs.GoodReport.{HaveTightWindows, Report, places_of}
 use Rattle.erm_good_report.specs.Opening.{Opening}
 use Rattle.erm_good_report.specs.Phases.{Closed}
-use Rattle.erm_good_report.specs.Transactions.{Said, Transaction, history_of, transactions_of}
+use Rattle.erm_good_report.specs.Transactions.{Said, Transaction, ended_of, history_of, transactions_of}
 use Rattle.erm_good_at_once.specs.CutReports.{IsCutAtOnce, OwesInPart, answered_of}
 use Rattle.erm_good_at_once.specs.GoodAtOnce.{IsGoodAtOnce}
 use Rattle.erm_invariant.specs.Commits.{EachFrontRuns}
@@ -45,11 +46,13 @@ use Rattle.erm_desk.specs.Known.{flushed_log}
 use Rattle.erm_disk_run.specs.Found.{StartsFrom}
 use Rattle.erm_disk_run.specs.Limits.{in_table}
 use Rattle.erm_disk_run.specs.Runs.{CutFew, HaveManyCells, commits_told}
+use Rattle.erm_log_run.proofs.Good.{OrdersExist}
 use Rattle.erm_disk_run.proofs.Left.{OrdersAreOne}
 use Rattle.erm_disk_run.proofs.Meeting.{MeetsFound, MetLaws}
 use Rattle.erm_disk_run.proofs.Opened.{MayOpenAll}
 use Rattle.erm_disk_at_once.specs.Desks.{AreAcknowledged, HasLogged, OpensTable, StandFor}
 use Rattle.erm_disk_at_once.specs.Runs.{WasCutAtOnce, WasRunAtOnce, WasStarvedAtOnce}
+use Rattle.erm_disk_at_once.proofs.Alone.{own_order_of}
 use Rattle.erm_disk_at_once.proofs.AtOnce.{DeskDid, OpensDisk, left, logged_stand, was_cut, was_run, was_starved}
 
 -- the laws that a whole run rests on: of reports, and of the log
@@ -64,6 +67,7 @@ pub record WholeLaws : Type 0 where
   pub few : RunsAtOnceCutFew
   pub cells : RunsAtOnceFillCells
   pub met : MetLaws
+  pub orders : OrdersExist
 
 -- and those of one that was cut off
 pub record CutLaws : Type 0 where
@@ -100,10 +104,10 @@ told_with : (n m : ℕ) (said : List Said) → transactions_of n said ≡ transa
 told_with n m said same = ap (λ (ts : List Transaction). history_of ts) same
 
 module _ (v f : View) (script : List ScriptLine) (opening : Opening) (names spare : List (List ℕ)) (lines : List Line) (of : IsOpeningOf v opening)
-    (many : v.opening.sessions ≡ length (names ++ spare)) (first : NamesOnlyFirst (length names) script) (fits : All FitsTypes lines) where
+    (many : v.opening.sessions ≡ length (names ++ spare)) (sessions : v.opening.sessions ≤ SESSIONS) (first : NamesOnlyFirst (length names) script) (fits : All FitsTypes lines) where
   pub reported : (laws : WholeLaws) → (was : TellsAtOnce v f opening (names ++ spare) script lines) → IsReported v opening names script was.answers was.closed lines
   reported laws was =
-      let it = laws.well v f script opening (names ++ spare) lines of many was fits in
+      let it = laws.well v f script opening (names ++ spare) lines of many (omega (arith, many, sessions)) was fits in
       let full : IsGoodAtOnce opening (names ++ spare) script lines = record {
         good = it.good;
         rise = it.rise;
@@ -139,8 +143,8 @@ module _ (v f : View) (script : List ScriptLine) (opening : Opening) (names spar
         once = λ i j d less within is. let ascend = was.run.ascend i j d less within in omega (arith, is, ascend);
         unseen = laws.unseen v f script was.counts was.answers was.closed was.run;
         owes =
-            subst (λ (n : ℕ). OwesInPart opening script part was.answers (transactions_of n (places_of part was.answers was.closed))) many
-            (laws.owe v f script was.counts was.answers was.closed opening was.run of);
+            subst (λ (n : ℕ). OwesInPart opening script part was.answers (transactions_of n (places_of part was.answers was.closed)) (ended_of n (places_of part was.answers was.closed))) many
+            (laws.owe v f script was.counts was.answers was.closed opening was.run of sessions);
       } in
       let alone = laws.spare.cut opening names spare script lines first full in
       let cut = alone.0 in
@@ -195,13 +199,13 @@ many_cells v script given answers cells same are drawn m =
 module _ (may : MayOpenAll) (state : State) (o : Start) (blocks tried : List Block) (before mid after : Option (List Step)) (t : OpensTable state o)
     (opens : Tells (OpensDisk state) before mid) (did : Tells (DeskDid o blocks tried) mid after) (v f : View) (script : List ScriptLine) (opening : Opening) (starts : StartsFrom state opening)
     (of : IsOpeningOf v opening) (cuts : v.opening.cuts ≡ TABLE_CELLS) (cells : v.opening.cells ≡ TABLE_CELLS) (names spare : List (List ℕ)) (lines : List Line) (many : v.opening.sessions ≡ length (names ++ spare))
-    (first : NamesOnlyFirst (length names) script) (fits : All FitsTypes lines) (flushed : f.flushed ≡ place_behind o.tail blocks) where
+    (sessions : v.opening.sessions ≤ SESSIONS) (first : NamesOnlyFirst (length names) script) (fits : All FitsTypes lines) (flushed : f.flushed ≡ place_behind o.tail blocks) where
   -- A whole run, of which all is flushed.
   pub run_at_once : OrdersAreOne → WholeLaws → (was : TellsAtOnce v f opening (names ++ spare) script lines) → tried ≡ [] → HasLogged o blocks f → f.flushed ≡ f.tail
       → IsLog sound_law.meets (flushed_log o blocks) → (slots : Slots) → Tells (MeetsFound state (flushed_log o []) slots) before mid → Tells (MeetsMore sound_law o blocks) mid after
       → WasRunAtOnce before after state names script lines
   run_at_once one laws was none has ends is slots met more =
-      let r = reported v f script opening names spare lines of many first fits laws was in
+      let r = reported v f script opening names spare lines of many sessions first fits laws was in
       let told : List Committed = all_told v script was.answers was.closed in
       let commits : HasCommits has.log told = laws.commits v f script was.answers was.closed opening was.run of has.apart has.log has.of_view has.is in
       let stand : StandFor told state (state_at (flushed_log o blocks) []) blocks =
@@ -214,19 +218,23 @@ module _ (may : MayOpenAll) (state : State) (o : Start) (blocks tried : List Blo
       let stands : StandFor (commits_told names script good.report.answers good.report.closed) state (state_at (flushed_log o blocks) []) blocks =
       subst (λ (cs : List Committed). StandFor cs state (state_at (flushed_log o blocks) []) blocks) (sym r.told) stand
       in
+      let many_named : length (names ++ spare) ≡ length names + length spare = length-append names spare in
+      let low = t.low in
+      let at = starts.stamp in
+      let own = own_order_of opening names script lines good (omega (arith, sessions, many, many_named)) was.run.few (omega (arith, low, at)) laws.orders in
       was_run may state o blocks tried before mid after t opens did names script lines opening starts r.good
       (few_cuts v r.good.good.report.answers was.answers cuts r.answers_are (laws.few v f script was.answers was.closed was.run))
       (many_cells v script r.good.good.report.answers was.answers cells r.answers_are (laws.cells v f script was.answers was.closed was.run))
       (subst (λ (cs : List Committed). EachFrontRuns cs opening.map) (sym r.told) (laws.fronts v f script was.answers was.closed opening was.run of)) none
       stands
       (flushed_answers f (place_behind o.tail blocks) r.good.good.report.answers was.answers flushed r.answers_are (laws.flushed v f script was.answers was.closed was.run))
-      (left may state o blocks tried before mid after t opens did one laws.met (commits_told names script good.report.answers good.report.closed) stands is here good.report.order opening.map
-      (from_entries (entries_of good.report.pairs)) starts.map good.order.serial good.order.run slots met more)
+      (left may state o blocks tried before mid after t opens did one laws.met (commits_told names script good.report.answers good.report.closed) stands is here own.0 opening.map
+      (from_entries (entries_of good.report.pairs)) starts.map own.1 own.2 slots met more)
 
   -- One that the disk's fault cut off.
   pub cut_at_once : CutLaws → (was : TellsCutAtOnce v f opening script lines) → HasLogged o (blocks ++ tried) f → WasCutAtOnce before after state names script lines
   cut_at_once laws was has =
-      let r = cut_reported v f script opening names spare lines of many first fits laws was in
+      let r = cut_reported v f script opening names spare lines of many sessions first fits laws was in
       let told : List Committed = all_told v (answered_of was.counts script) was.answers was.closed in
       let stand : StandFor told state (state_at (flushed_log o (blocks ++ tried)) []) (blocks ++ tried) =
       logged_stand told state o (blocks ++ tried) f t has opening.map starts.map

@@ -3,7 +3,7 @@ use Rattle.std.specs.Prelude.{◌≡◌, ℕ, ◌+◌, ◌<◌, ◌≤◌, ◌++
 use Rattle.erm_model.specs.Committed.{Committed, IsStateBelow}
 use Rattle.erm_model.specs.Member.{◌∈◌}
 use Rattle.erm_model.specs.RowTransaction.{SameRows}
-use Rattle.erm_model.specs.declared.limits.TheConstants.{LAST_RUN, LEAST_BLOCK, STOP, TABLE_CELLS}
+use Rattle.erm_model.specs.declared.limits.TheConstants.{LAST_RUN, LEAST_BLOCK, SESSIONS, STOP, TABLE_CELLS}
 use Rattle.erm_block.specs.declared.block.Block.{Block}
 use Rattle.erm_outside.specs.Disk.{Image, Step, Tells}
 use Rattle.erm_ckpt.specs.Recovered.{State, state_behind}
@@ -80,11 +80,12 @@ pub record HasLogged (o : Start) (blocks : List Block) (f : View) : Type 0 where
   pub apart : StandApart f
 
 -- A report of a script starts from a state and from the view of a table that was opened on it. The table has sessions for the script's names and for
--- spare ones behind them, of which no line is.
+-- spare ones behind them, of which no line is, and no more than there may be.
 pub record StartsReport (state : State) (names spare : List (List ℕ)) (script : List ScriptLine) (opening : Opening) (v : View) : Type 0 where
   pub starts : StartsFrom state opening
   pub view : IsOpeningOf v opening
   pub cuts : v.opening.cuts ≡ TABLE_CELLS
   pub cells : v.opening.cells ≡ TABLE_CELLS
   pub sessions : v.opening.sessions ≡ length (names ++ spare)
+  pub few : v.opening.sessions ≤ SESSIONS
   pub first : NamesOnlyFirst (length names) script

@@ -137,5 +137,6 @@ module _ (before mid : Option (List Step)) (state : State) (opened : OpenedLog) 
       cuts = refl;
       cells = refl;
       sessions = all_names names is.few;
+      few = omega arith;
       first = λ l m. (is.each l m).session.1;
     }

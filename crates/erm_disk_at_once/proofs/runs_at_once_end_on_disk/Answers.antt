@@ -13,4 +13,5 @@ returns c = runs_end c.kept_images_may_open.ensures c.serial_order_is_unique.ens
   few = c.runs_at_once_cut_few.ensures;
   cells = c.runs_at_once_refuse_for_room.ensures.cells;
   met = record { meet = c.recovery_meets_the_run.ensures; audit = c.audits_tell_the_commits.ensures; earlier = c.recovery_meets_earlier_blocks.ensures };
+  orders = c.serial_order_is_unique.ensures.exists_for_sessions;
 }
