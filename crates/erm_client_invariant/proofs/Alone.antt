@@ -67,6 +67,9 @@ begins u so t is = let same : u ≡ t = cc in sym (ap (λ (x : Transaction). x.e
 
 unfinished : (q : ℕ) (asked : Option Command) (a : Answer) (p : Progress) → IsUnfinished p.current → IsUnfinished (heard q asked a p).current
 unfinished q asked (answer.Began stamp) p so = begins (begun q stamp p) refl
+unfinished q asked (answer.Safe stamp) p so = so
+unfinished q asked (answer.Unsafe seat stamp) p so = none_now
+unfinished q asked answer.Ended p so = none_now
 unfinished q asked (answer.Sealed stamp) p so = mapped (with_seal stamp) p.current (λ t. refl) so
 unfinished q asked (answer.Committed stamp succ pred) p so = none_now
 unfinished q asked (answer.Excluded stamp succ pred) p so = none_now
@@ -78,6 +81,8 @@ unfinished q asked answer.NotIdle p so = so
 unfinished q asked answer.NoTransaction p so = so
 unfinished q asked answer.IsSealed p so = so
 unfinished q asked answer.NotSealed p so = so
+unfinished q asked answer.ReadOnly p so = so
+unfinished q asked answer.NotSafe p so = so
 unfinished q asked a p so = lined asked a p.current so
 
 hears_unfinished : (q : ℕ) (said : List Said) (p : Progress) → IsUnfinished p.current → IsUnfinished (hears q p said).current

@@ -51,6 +51,8 @@ module _ (t : Transaction) where
   heard_there q asked (answer.ExcludedEarly succ pred) p there = stays (dealt.Excludes None succ pred) p.over (option_map (with_line asked (answer.ExcludedEarly succ pred)) p.current) there
   heard_there q asked (answer.Owned seat number) p there = stays dealt.Aborts p.over (option_map (with_line asked (answer.Owned seat number)) p.current) there
   heard_there q asked (answer.Newer stamp) p there = stays dealt.Aborts p.over (option_map (with_line asked (answer.Newer stamp)) p.current) there
+  heard_there q asked (answer.Unsafe seat stamp) p there = stays dealt.Aborts p.over p.current there
+  heard_there q asked answer.Ended p there = stays dealt.Aborts p.over p.current there
   heard_there q asked answer.Aborted p there = stays dealt.Aborts p.over p.current there
   heard_there q asked a p there = there
 

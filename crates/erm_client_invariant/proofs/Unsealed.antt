@@ -59,6 +59,9 @@ waits_ring c flushed of tells = of
 
 unsealed : (c : Command) (a : Answer) (p : Phase) → IsOfClient c → MayTell c a → (p ≡ Sealed → ⊥) → phase_after (Some c) a p ≡ Sealed → ⊥
 unsealed c (answer.Began stamp) p of tells not is = cc
+unsealed c (answer.Safe stamp) p of tells not is = cc
+unsealed c (answer.Unsafe seat stamp) p of tells not is = cc
+unsealed c answer.Ended p of tells not is = cc
 unsealed c (answer.Sealed stamp) p of tells not is = seals c stamp of tells
 unsealed c (answer.WaitSeat other seen) p of tells not is = waits_seat c other seen of tells
 unsealed c (answer.WaitRing flushed) p of tells not is = waits_ring c flushed of tells

@@ -150,4 +150,5 @@ module _ (f : View) (told : ℕ → Session) (drew : ℕ → ℕ) (stands : (sea
     reach = λ seat w stamp session has.
         let most = ends.reach seat w stamp session (stamp_there seat w stamp session has) in omega (arith, most, sealed_most stamp);
     tail = omega (arith, ends.tail, sealed_most f.tail);
+    within = λ seat w stamp session has. ends.within seat w stamp session (stamp_there seat w stamp session has);
   }

@@ -1,6 +1,7 @@
 -- What the printed report of an execution at once owes: the laws, as statements.
-use Rattle.std.specs.Prelude.{◌≡◌, ℕ, List, length}
+use Rattle.std.specs.Prelude.{◌≡◌, ℕ, ◌≤◌, List, length}
 use Rattle.std.specs.List.{All}
+use Rattle.erm_model.specs.declared.limits.TheConstants.{SESSIONS}
 use Rattle.erm_report.specs.declared.answer.Answer.{Answer}
 use Rattle.erm_report.specs.declared.line.Line.{Line}
 use Rattle.erm_report.specs.Printable.{FitsTypes}
@@ -30,12 +31,13 @@ pub record IsGoodOf (opening : Opening) (names : List (List ℕ)) (script : List
   pub closed_are : good.report.closed ≡ closed
   pub rise : StampsRise AtOnce (transactions_of (length names) (places_of script good.report.answers good.report.closed)) (said_of script good.report.answers)
 
--- Lines that tell of an execution at once, and whose numbers and values fit their types, are a good report of it.
+-- Lines that tell of an execution at once, and whose numbers and values fit their types, are a good report of it, where there are no more sessions than
+-- may be.
 abbrev pub RunsAtOnceReportWell : Type 0
 RunsAtOnceReportWell = (v f : View) (script : List ScriptLine) (opening : Opening) (names : List (List ℕ)) (lines : List Line) → IsOpeningOf v opening → v.opening.sessions ≡ length names
-    → (was : TellsAtOnce v f opening names script lines) → All FitsTypes lines → IsGoodOf opening names script was.answers was.closed lines
+    → length names ≤ SESSIONS → (was : TellsAtOnce v f opening names script lines) → All FitsTypes lines → IsGoodOf opening names script was.answers was.closed lines
 
 -- They are good in full: their windows are tight.
 abbrev pub RunsAtOnceAreGood : Type 0
 RunsAtOnceAreGood = (v f : View) (script : List ScriptLine) (opening : Opening) (names : List (List ℕ)) (lines : List Line) → IsOpeningOf v opening → v.opening.sessions ≡ length names
-    → TellsAtOnce v f opening names script lines → All FitsTypes lines → IsGoodAtOnce opening names script lines
+    → length names ≤ SESSIONS → TellsAtOnce v f opening names script lines → All FitsTypes lines → IsGoodAtOnce opening names script lines

@@ -1,15 +1,15 @@
 -- How a session goes on behind its last answer, to how it stands in the world in which all end.
-use Rattle.std.proofs.Common.{◌≡◌, ℕ, [], ◌∷◌, Option, Some, None, refl, ap, ◌∙◌, inr}
+use Rattle.std.proofs.Common.{◌≡◌, ℕ, [], ◌∷◌, Option, Some, None, append-nil, refl, sym, ap, ◌∙◌, inr}
 use Rattle.erm_model.specs.declared.outcome.Phase.TheVariants.{Active}
 use Rattle.erm_script.specs.declared.script.Command.TheVariants as command
 use Rattle.erm_script.specs.declared.script.ScriptLine.{ScriptLine}
-use Rattle.erm_world.specs.World.{Finished, Session, View, phase_at, phase_of}
+use Rattle.erm_world.specs.World.{Finished, Session, View, phase_at, phase_of, work_at}
 use Rattle.erm_world.specs.World as world
 use Rattle.erm_lines.specs.Told.{Continues}
 use Rattle.erm_lines_at_once.specs.CutRuns.{IsRest, Waited}
 use Rattle.erm_lines_at_once.specs.CutRuns as rest
 use Rattle.erm_told.proofs.Going.{continues_from, continues_itself, continues_then}
-use Rattle.erm_told.proofs.Turns.{turn_aborted, turn_sealed}
+use Rattle.erm_told.proofs.Turns.{idle_in, turn_aborted, turn_sealed}
 use Rattle.erm_told_at_once.proofs.Operated.{Holds, holds_passes, holds_tried}
 use Rattle.erm_worker.specs.Work.{WasGivenUp}
 use Rattle.erm_worker.specs.Work as work
@@ -27,6 +27,15 @@ goes_rest f seat next v t (rest.aborted u active waited did) =
 goes_rest f seat next v t (rest.drew l stamp active is commits (u, passes, did)) =
     continues_then (v.session seat) (u.session seat) (t.session seat) (continues_itself (v.session seat) (u.session seat) passes.own)
     (turn_sealed u seat stamp (Some command.Commit) t (ap (λ (s : Session). phase_of s.stand) passes.own ∙ active) did).goes
+
+goes_rest f seat next v t (rest.watched l begin idle is asks (u, passes, did)) =
+    continues_then (v.session seat) (u.session seat) (t.session seat) (continues_itself (v.session seat) (u.session seat) passes.own)
+    (continues_from (u.session seat) (t.session seat) world.idle (idle_in (u.session seat).stand (ap (λ (s : Session). phase_of s.stand) passes.own ∙ idle)) []
+    (ap (λ (s : Session). s.over) did.2.own ∙ sym (append-nil (u.session seat).over)) tt)
+goes_rest f seat next v t (rest.ended (x, stand) none (u, passes, did)) =
+    continues_then (v.session seat) (u.session seat) (t.session seat) (continues_itself (v.session seat) (u.session seat) passes.own)
+    (continues_from (u.session seat) (t.session seat) (world.snapshot x) (ap (λ (s : Session). s.stand) passes.own ∙ stand)
+    (record { work = work_at u seat; fate = world.aborts } ∷ []) (ap (λ (s : Session). s.over) did.own) tt)
 
 -- a line in which memory ran out
 pub goes_short : (s t : Session) → WasGivenUp s t → Continues s t

@@ -24,7 +24,7 @@ use Rattle.erm_told.proofs.Executed.{still_session}
 use Rattle.erm_told.proofs.Pairs.{pairs_of}
 use Rattle.erm_told.proofs.Runs.{said_lines}
 use Rattle.erm_told.proofs.Sessions.{aborted_told}
-use Rattle.erm_told.proofs.Turns.{now_active}
+use Rattle.erm_told.proofs.Turns.{none_active, now_active}
 use Rattle.erm_told_at_once.proofs.Runs.{close_of, first_known, is_closed, knows_own, own_split}
 use Rattle.erm_told_limits.proofs.Holds.{Laws}
 use Rattle.erm_cut_at_once.proofs.Closing.{closed_progress}
@@ -71,9 +71,10 @@ leaving_short stay f seat p here tells (aborted w u at goes is) =
       leaves = record {
         stands = stands_itself (f.session seat);
         tells = subst (λ (s : Session). Tells seat (closed_progress true p) s) (sym is) (record {
-          over = aborted_told seat Aborts p.over p.current here.over (work_of here.stand) u tt more.number more.begin (λ steps answered. stay (work_of here.stand) u steps more answered) tells.over
-              (now_active seat p here active tells);
+          over = aborted_told seat Aborts p.over p.current p.snapshots p.snapshot here.over (work_of here.stand) u tt more.number more.begin (λ steps answered. stay (work_of here.stand) u steps more answered)
+              tells.over (now_active seat p here active tells) (none_active seat p here active tells);
           now = tt;
+          watched = tt;
         });
         unfinished = λ gone. let (t, current, unfinished, ran) = told_active seat p.current here.stand tells.now active in (t, current, unfinished);
         over = λ of stamp succ m has. m;
@@ -87,7 +88,9 @@ closes_sealed Idle a fits sealed = absurd fits
 closes_sealed Active answer.Aborted fits sealed = absurd sealed
 closes_sealed Active a fits sealed = absurd fits
 closes_sealed Sealed a fits sealed = refl
+closes_sealed Pending answer.Aborted fits sealed = absurd sealed
 closes_sealed Pending a fits sealed = absurd fits
+closes_sealed Safe answer.Aborted fits sealed = absurd sealed
 closes_sealed Safe a fits sealed = absurd fits
 
 -- EACH SESSION has an own run of its moves that are told, was flushed no further there, and went on from there.

@@ -3,7 +3,7 @@ use Rattle.std.proofs.Common.{◌∙◌}
 use Rattle.erm_told_crash.specs.Laws.{ToldTellStates}
 use Rattle.erm_told_crash.specs.Logged.{ToldLogCommits}
 use Rattle.erm_told_fronts.specs.Fronts.{ToldFrontsRun}
-use Rattle.erm_told_order.specs.Told.{ToldHaveSnapshots}
+use Rattle.erm_told_order.specs.Told.{ToldHaveSafeSnapshots, ToldHaveSnapshots}
 use Rattle.erm_told_limits.proofs.Holds.{Laws}
 use Rattle.erm_told_log_at_once.proofs.Logs.{apart_there, commits_here, is_there, log_in, log_there}
 use Rattle.erm_told_log_at_once.proofs.Told.{fronts, logged, states}
@@ -11,8 +11,8 @@ use Rattle.erm_starved_at_once.specs.Laws.{StarvedRunsTell}
 use Rattle.erm_starved_at_once.proofs.Owing.{owes}
 use Rattle.erm_starved_at_once.proofs.Starved.{AnswersStay, BegunAreRuns, closes_unseen, leaves, tells_few, tells_flushed}
 
-pub tell : Laws → BegunAreRuns → AnswersStay → ToldTellStates → ToldLogCommits → ToldFrontsRun → ToldHaveSnapshots → StarvedRunsTell
-tell laws runs stay tell_states log_commits run_fronts have_snapshots = record {
+pub tell : Laws → BegunAreRuns → AnswersStay → ToldTellStates → ToldLogCommits → ToldFrontsRun → ToldHaveSnapshots → ToldHaveSafeSnapshots → StarvedRunsTell
+tell laws runs stay tell_states log_commits run_fronts have_snapshots have_safe = record {
   states = λ v f script counts answers closed opening run of apart log of_log is.
       let left = leaves v f script counts answers closed run runs stay laws in
       states v left.left (left.log.opening ∙ run.opening) left.said left.told _ left.commits (apart_there f left.left left.log apart) (log_in left.left log)
@@ -25,7 +25,7 @@ tell laws runs stay tell_states log_commits run_fronts have_snapshots = record {
   fronts = λ v f script counts answers closed opening run of.
       let left = leaves v f script counts answers closed run runs stay laws in
       fronts v left.left (left.log.opening ∙ run.opening) left.said left.told _ left.commits run_fronts opening of;
-  owes = λ v f script counts answers closed opening run of. owes v f script counts answers closed run laws runs stay have_snapshots opening of;
+  owes = λ v f script counts answers closed opening run of. owes v f script counts answers closed run laws runs stay have_snapshots have_safe opening of;
   flushed = tells_flushed;
   few = tells_few;
   unseen = λ v f script counts answers closed run. closes_unseen v f script counts answers closed run runs stay;

@@ -26,9 +26,9 @@ OfLoggedStarvedRuns Holds = (v f : View) (script : List ScriptLine) (counts : â„
     â†’ Holds opening (history_of (transactions_of v.opening.sessions (places_of (answered_of counts script) answers closed))) log
 
 -- The log tells the states that the lines answered tell, and has their commits; those below any stamp give their replies in the serial order. Each answer is
--- one to its line, and what is told of replies is right on its snapshot. Only answers that a session's last commit is on the disk tell a place below which
--- all is flushed, no tidy cuts off more versions than a call does at most, and a session that was decided behind the last answers had all its lines
--- answered, and they leave it sealed.
+-- one to its line, and what is told of replies is right on its snapshot, also where a snapshot only reads. Only answers that a session's last commit is on
+-- the disk tell a place below which all is flushed, no tidy cuts off more versions than a call does at most, and a session that was decided behind the last
+-- answers had all its lines answered, and they leave it sealed.
 pub record StarvedRunsTell : Type 0 where
   pub states : OfLoggedStarvedRuns TellsStates
   pub commits : OfLoggedStarvedRuns LogsCommits

@@ -6,7 +6,7 @@ ghost use Rattle.erm_starved_at_once.specs.Laws.{StarvedRunsTell};
 
 /// The log has just the commits that the lines answered tell, with the sessions that were decided behind them, and stands for the states that they
 /// make; those below any stamp give their replies in the serial order. Each answer is one to its line, whose replies are those of its transaction's
-/// snapshot. What a line in which memory ran out claimed, or made, was given up.
+/// snapshot, or of its safe one. What a line in which memory ran out claimed, or made, was given up.
 pub fn starved_runs_tell()
     ensures { StarvedRunsTell }
 {
@@ -20,4 +20,5 @@ pub fn starved_runs_tell()
     erm_told_crash::told_logs_tell_states();
     erm_told_fronts::told_fronts_run();
     erm_told_order::told_worlds_have_snapshots();
+    erm_told_order::told_worlds_have_safe_snapshots();
 }
