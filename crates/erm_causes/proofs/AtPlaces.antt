@@ -36,14 +36,14 @@ get_taken (y ∷ ys) i zero x less at = absurd (omega (arith, less))
 get_taken (y ∷ ys) zero (suc j) x less at = at
 get_taken (y ∷ ys) (suc i) (suc j) x less at = get_taken ys i j x (omega (arith, less)) at
 
-get_dropped : {X : Type 0} (xs : List X) (j i d : ℕ) (x : X) → i ≡ j + d + 1 → slice_get xs i ≡ Some x → slice_get (drop (suc j) xs) d ≡ Some x
+pub get_dropped : {X : Type 0} (xs : List X) (j i d : ℕ) (x : X) → i ≡ j + d + 1 → slice_get xs i ≡ Some x → slice_get (drop (suc j) xs) d ≡ Some x
 get_dropped [] j i d x is at = absurd (cc)
 get_dropped (y ∷ ys) j zero d x is at = absurd (omega (arith, is))
 get_dropped {X} (y ∷ ys) zero (suc i) d x is at =
     let same : i ≡ d = omega (arith, is) in subst (λ (k : ℕ). slice_get ys k ≡ Some x) same at
 get_dropped (y ∷ ys) (suc j) (suc i) d x is at = get_dropped ys j i d x (omega (arith, is)) at
 
-taken_apart : {X : Type 0} (xs : List X) (j i d : ℕ) (x : X) → i ≡ j + d + 1 → slice_get xs j ≡ Some x → take i xs ≡ take j xs ++ x ∷ take d (drop (suc j) xs)
+pub taken_apart : {X : Type 0} (xs : List X) (j i d : ℕ) (x : X) → i ≡ j + d + 1 → slice_get xs j ≡ Some x → take i xs ≡ take j xs ++ x ∷ take d (drop (suc j) xs)
 taken_apart [] j i d x is at = absurd (cc)
 taken_apart (y ∷ ys) j zero d x is at = absurd (omega (arith, is))
 taken_apart {X} (y ∷ ys) zero (suc i) d x is at =
@@ -57,13 +57,13 @@ said_none : (script : List ScriptLine) → said_of script [] ≡ []
 said_none [] = refl
 said_none (l ∷ script) = refl
 
-said_dropped : (n : ℕ) (script : List ScriptLine) (answers : List Answer) → said_of (drop n script) (drop n answers) ≡ drop n (said_of script answers)
+pub said_dropped : (n : ℕ) (script : List ScriptLine) (answers : List Answer) → said_of (drop n script) (drop n answers) ≡ drop n (said_of script answers)
 said_dropped zero script answers = refl
 said_dropped (suc n) [] answers = refl
 said_dropped (suc n) (l ∷ script) [] = said_none (drop n script)
 said_dropped (suc n) (l ∷ script) (a ∷ answers) = said_dropped n script answers
 
-said_taken : (j : ℕ) (script : List ScriptLine) (answers : List Answer) → said_of (take j script) (take j answers) ≡ take j (said_of script answers)
+pub said_taken : (j : ℕ) (script : List ScriptLine) (answers : List Answer) → said_of (take j script) (take j answers) ≡ take j (said_of script answers)
 said_taken j script answers = sym (said_lines (take j script) (take j answers)) ∙ said_first j script answers
 
 pub said_before : (script : List ScriptLine) (answers : List Answer) (i j : ℕ) (s : Said) → j < i → slice_get (said_of script answers) j ≡ Some s → s ∈ said_of (take i script) (take i answers)

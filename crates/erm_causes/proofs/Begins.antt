@@ -83,13 +83,13 @@ begins_so v t seat (answer.WaitSeat other seen) of did = did
 begins_so v t seat (answer.Unsafe other stamp) of did = did
 begins_so v t seat a of did = absurd of
 
-no_refusal : (a : Answer) → IsOfSnapshot a → refusal_in a ≡ None
+pub no_refusal : (a : Answer) → IsOfSnapshot a → refusal_in a ≡ None
 no_refusal (answer.Safe begin) of = refl
 no_refusal (answer.WaitSeat other seen) of = refl
 no_refusal (answer.Unsafe other stamp) of = refl
 no_refusal a of = absurd of
 
-own_next : (p : Progress) → p.snapshot ≡ None → (own_snapshot p).number ≡ next_number p
+pub own_next : (p : Progress) → p.snapshot ≡ None → (own_snapshot p).number ≡ next_number p
 own_next p none = ap (λ (o : Option Snapshot). (option_map_or (λ (s : Snapshot). s) o (record { number = next_number p; begin = None; lines = []; placed = false })).number) none
 
 module _ (before after : View) (seat : ℕ) (p : Progress) (a : Answer) (session : IsSession before seat) (tells : Tells seat p (before.session seat)) where

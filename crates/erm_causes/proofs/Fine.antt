@@ -80,7 +80,7 @@ over_later table h g more ts fs fine =
     (λ t f one. record { one = record { touches = one.one.touches; closed = closed_later h g more t.ending f.work one.one.closed }; keeps = one.keeps }) ts fs fine
 
 -- none that was aborted has a stamp
-stampless : (fate : Fate) (stamp : ℕ) (P : Type 0) → fate ≡ world.aborts → stamp_of fate ≡ Some stamp → P
+pub stampless : (fate : Fate) (stamp : ℕ) (P : Type 0) → fate ≡ world.aborts → stamp_of fate ≡ Some stamp → P
 stampless fate stamp P aborts is = let no : None ≡ Some stamp = sym (ap stamp_of aborts) ∙ is in absurd (cc)
 
 pub over_keeps : (table : ℕ → ℕ) (h : History) (p : Progress) (s : Session) → IsFine table h p s → (f : Finished) (stamp : ℕ) → f ∈ s.over → stamp_of f.fate ≡ Some stamp → KeepsTables table f.work

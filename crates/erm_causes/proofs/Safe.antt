@@ -71,7 +71,7 @@ the_current seat (Some u) w (world.sealed x stamp) tells works = (u, refl, subst
 the_current seat current w (world.snapshot x) tells works = absurd works
 
 -- and of one that committed
-told_one : (seat : ℕ) (ts : List Transaction) (ss : List Snapshot) (fs : List Finished) (f : Finished) → TellsOver seat ts ss fs → (f.fate ≡ world.aborts → ⊥) → f ∈ fs
+pub told_one : (seat : ℕ) (ts : List Transaction) (ss : List Snapshot) (fs : List Finished) (f : Finished) → TellsOver seat ts ss fs → (f.fate ≡ world.aborts → ⊥) → f ∈ fs
     → (t : Transaction) × (t ∈ ts) × TellsOne seat t f
 told_one seat ts ss [] f told never m = absurd (none_in_nil f m)
 told_one seat ts ss (g ∷ fs) f (inl (u, us, is, one, rest)) never m =
