@@ -5,7 +5,6 @@ use Rattle.erm_model.specs.declared.outcome.Phase.TheVariants.{Active, Idle, Sea
 use Rattle.erm_report.specs.declared.answer.Answer.{Answer}
 use Rattle.erm_report.specs.declared.answer.Answer.TheVariants as answer
 use Rattle.erm_script.specs.declared.script.Command.{Command}
-use Rattle.erm_script.specs.declared.script.Command.TheVariants as command
 use Rattle.erm_script.specs.declared.script.ScriptLine.{ScriptLine}
 use Rattle.erm_world.specs.declared.stops.SafeStop.{SafeStop}
 use Rattle.erm_world.specs.declared.stops.SafeStop.TheVariants as stop

@@ -1,5 +1,5 @@
 -- Executions at once that a report tells in part: of each session's lines the first ones, in a world that stands as these leave it.
-use Rattle.std.specs.Prelude.{◌≡◌, ℕ, ◌+◌, ◌*◌, ◌≤◌, List, length}
+use Rattle.std.specs.Prelude.{◌≡◌, ℕ, ◌+◌, ◌*◌, ◌<◌, ◌≤◌, List, length}
 use Rattle.erm_model.specs.declared.limits.TheConstants.{GREATEST_BLOCK, LAST_NUMBER, LOG_END, SESSIONS}
 use Rattle.erm_model.specs.Committed.{HasSnapshotReplies}
 use Rattle.erm_model.specs.History.{IsPredecessorStamp, IsSuccessorStamp}
