@@ -24,11 +24,12 @@ pub(crate) enum Call {
     Durable(Stamp),
     BeginSafe,
     Survey,
+    SnapshotBegin,
     SafeRead(Oid),
     EndSafe,
 }
 
-// Its answer: of a begin or a seal, the stamp; of an object made, its number; of a row, the first word, where zeros stand behind it; of a
+// Its answer: of a begin, a snapshot's begin or a seal, the stamp; of an object made, its number; of a row, the first word, where zeros stand behind it; of a
 // tidy, how many versions were cut off; of a commit, its number, stamp, end, successor and predecessor stamp; of an exclusion, the three
 // stamps.
 #[derive(Clone, Copy, PartialEq, Eq)]

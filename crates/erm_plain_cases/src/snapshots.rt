@@ -79,6 +79,8 @@ pub(crate) fn ask_snapshot<W: SafeWorld>(world: &mut W, seat: Seat, call: Call) 
     match (call, world.phase(seat)) {
         (Call::BeginSafe, Phase::Idle) => begin(world, seat),
         (Call::Survey, Phase::Pending) => survey(world, seat),
+        (Call::SnapshotBegin, Phase::Pending) => Reply::At(world.snapshot_begin(seat)),
+        (Call::SnapshotBegin, Phase::Safe) => Reply::At(world.snapshot_begin(seat)),
         (Call::SafeRead(oid), Phase::Safe) if oid < OID_LIMIT => read(world, seat, oid),
         (Call::EndSafe, Phase::Pending) => end(world, seat),
         (Call::EndSafe, Phase::Safe) => end(world, seat),
@@ -87,13 +89,15 @@ pub(crate) fn ask_snapshot<W: SafeWorld>(world: &mut W, seat: Seat, call: Call) 
 }
 
 // A safe snapshot reads what was there when it began, whoever claims, seals and commits behind it, and doesn't become a transaction.
-const READS: [Turn; 21] = [
+const READS: [Turn; 24] = [
     Turn(1, Call::Begin, Reply::At(13)),
     Turn(1, Call::Write(16, 1), Reply::Done),
     Turn(1, Call::Write(17, 2), Reply::Done),
     Turn(1, Call::Seal, Reply::At(13)),
     Turn(1, Call::Settle, Reply::Commits([1, 13, 22, 13, 0])),
+    Turn(3, Call::SnapshotBegin, Reply::OutOfPhase),
     Turn(3, Call::BeginSafe, Reply::At(22)),
+    Turn(3, Call::SnapshotBegin, Reply::At(22)),
     Turn(3, Call::SafeRead(16), Reply::OutOfPhase),
     Turn(3, Call::Survey, Reply::Done),
     Turn(3, Call::SafeRead(16), Reply::First(1)),
@@ -103,6 +107,7 @@ const READS: [Turn; 21] = [
     Turn(1, Call::Seal, Reply::At(22)),
     Turn(3, Call::SafeRead(16), Reply::First(1)),
     Turn(1, Call::Settle, Reply::Commits([2, 22, 29, 22, 13])),
+    Turn(3, Call::SnapshotBegin, Reply::At(22)),
     Turn(3, Call::SafeRead(16), Reply::First(1)),
     Turn(3, Call::SafeRead(17), Reply::First(2)),
     Turn(3, Call::SafeRead(18), Reply::First(0)),
