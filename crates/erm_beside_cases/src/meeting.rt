@@ -1,8 +1,8 @@
 //! Sessions that meet inside a call.
 use crossbeam_utils::Backoff;
-use erm_beside::SharedSession;
+use erm_beside::{SafeSession, SharedSession};
 use erm_model::{Oid, Outcome, Phase, Receipt, Row, RowStop, Stamp};
-use erm_world::{BeginStop, NotFlushed, Wait};
+use erm_world::{BeginStop, NotFlushed, SafeStop, Wait};
 use std::sync::atomic::{AtomicU64, Ordering};
 
 // How often a session that waits for the other one looks again, at most.
@@ -125,4 +125,26 @@ impl<'a, S: SharedSession> SharedSession for Meet<'a, S> {
     ghost some = { λ shared s standing. S.some shared s.session standing };
 
     ghost lasting = { λ s f end. S.lasting s.session f end };
+}
+
+impl<'a, S: SafeSession> SafeSession for Meet<'a, S> {
+    fn begin_safe(&mut self, shared: &S::Shared) -> Result<Stamp, BeginStop> {
+        self.session.begin_safe(shared)
+    }
+
+    fn safe(&mut self, shared: &S::Shared) -> Result<(), SafeStop> {
+        self.session.safe(shared)
+    }
+
+    fn snapshot_begin(&self, shared: &S::Shared) -> Stamp {
+        self.session.snapshot_begin(shared)
+    }
+
+    fn safe_read(&mut self, shared: &S::Shared, oid: Oid) -> Row {
+        self.session.safe_read(shared, oid)
+    }
+
+    fn end_safe(&mut self, shared: &S::Shared) {
+        self.session.end_safe(shared)
+    }
 }

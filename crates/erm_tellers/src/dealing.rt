@@ -11,14 +11,14 @@ ghost use Rattle.erm_tellers.specs.Served.{Commits};
 ghost use Rattle.erm_tellers.specs.Tellers.{account_of, finds};
 
 use crate::Side;
-use erm_beside::SharedSession;
+use erm_beside::SafeSession;
 use erm_client::{Client, Commit, Refusal};
 use erm_model::{Pairs, Stamp, Value};
 use erm_worker::Turns;
 use std::sync::Wait;
 
 /// Begins a transaction.
-pub fn begin<'a, S: SharedSession, T: Turns, R: Wait>(
+pub fn begin<'a, S: SafeSession, T: Turns, R: Wait>(
     rt: &R,
     client: &mut Client<'a, S, T>,
 ) -> Result<Stamp, Refusal>
@@ -33,7 +33,7 @@ pub fn begin<'a, S: SharedSession, T: Turns, R: Wait>(
 }
 
 /// Reads an account.
-pub fn read<'a, S: SharedSession, T: Turns, R: Wait>(
+pub fn read<'a, S: SafeSession, T: Turns, R: Wait>(
     rt: &R,
     client: &mut Client<'a, S, T>,
     side: Side,
@@ -50,7 +50,7 @@ pub fn read<'a, S: SharedSession, T: Turns, R: Wait>(
 }
 
 /// Finds the accounts of customers with numbers from `low` to `high`, these two too, of which something is kept.
-pub fn find<'a, S: SharedSession, T: Turns, R: Wait>(
+pub fn find<'a, S: SafeSession, T: Turns, R: Wait>(
     rt: &R,
     client: &mut Client<'a, S, T>,
     side: Side,
@@ -68,7 +68,7 @@ pub fn find<'a, S: SharedSession, T: Turns, R: Wait>(
 }
 
 /// Writes an account.
-pub fn write<'a, S: SharedSession, T: Turns, R: Wait>(
+pub fn write<'a, S: SafeSession, T: Turns, R: Wait>(
     rt: &R,
     client: &mut Client<'a, S, T>,
     side: Side,
@@ -86,7 +86,7 @@ pub fn write<'a, S: SharedSession, T: Turns, R: Wait>(
 }
 
 /// Commits the transaction.
-pub fn commit<'a, S: SharedSession, T: Turns, R: Wait>(
+pub fn commit<'a, S: SafeSession, T: Turns, R: Wait>(
     rt: &R,
     client: &mut Client<'a, S, T>,
 ) -> Result<Commit, Refusal>
@@ -101,7 +101,7 @@ pub fn commit<'a, S: SharedSession, T: Turns, R: Wait>(
 }
 
 // Aborts the transaction.
-fn end<'a, S: SharedSession, T: Turns, R: Wait>(
+fn end<'a, S: SafeSession, T: Turns, R: Wait>(
     rt: &R,
     client: &mut Client<'a, S, T>,
 ) -> Result<(), Refusal>
@@ -114,7 +114,7 @@ fn end<'a, S: SharedSession, T: Turns, R: Wait>(
 }
 
 /// Gives the transaction up, where one is in progress.
-pub fn give_up<'a, S: SharedSession, T: Turns, R: Wait>(rt: &R, client: &mut Client<'a, S, T>)
+pub fn give_up<'a, S: SafeSession, T: Turns, R: Wait>(rt: &R, client: &mut Client<'a, S, T>)
     requires law { SameLaw S.law sound_law }
     requires client { IsClient S.stands S.seat S.own client.old }
     ensures on { GoesOn S.stands S.seat S.own S.ends T.told client.old client.new }

@@ -12,7 +12,7 @@ ghost use Rattle.erm_tellers.specs.Tellers.{Audits, IsOfTellers, Serves, WasDone
 use crate::Side;
 use crate::dealing::{begin, commit, find, give_up, read, write};
 use crate::side::{added, taken};
-use erm_beside::SharedSession;
+use erm_beside::SafeSession;
 use erm_client::{Client, Refusal};
 use erm_model::{Pairs, Value};
 use erm_worker::Turns;
@@ -74,7 +74,7 @@ fn is_passing(outcome: &Result<Outcome, Refusal>) -> bool
 }
 
 // Lowers an account where both of the customer cover the amount.
-fn take<'a, S: SharedSession, T: Turns, R: Wait>(
+fn take<'a, S: SafeSession, T: Turns, R: Wait>(
     rt: &R,
     client: &mut Client<'a, S, T>,
     holder: Holder,
@@ -97,7 +97,7 @@ fn take<'a, S: SharedSession, T: Turns, R: Wait>(
 }
 
 // Raises an account.
-fn add<'a, S: SharedSession, T: Turns, R: Wait>(
+fn add<'a, S: SafeSession, T: Turns, R: Wait>(
     rt: &R,
     client: &mut Client<'a, S, T>,
     holder: Holder,
@@ -143,7 +143,7 @@ fn moved(
 }
 
 // Lowers an account of the one customer, where both of his cover the amount, and raises one of another.
-fn transfer<'a, S: SharedSession, T: Turns, R: Wait>(
+fn transfer<'a, S: SafeSession, T: Turns, R: Wait>(
     rt: &R,
     client: &mut Client<'a, S, T>,
     payer: Holder,
@@ -170,7 +170,7 @@ fn transfer<'a, S: SharedSession, T: Turns, R: Wait>(
 }
 
 // Does what is asked for, once.
-fn attempt<'a, S: SharedSession, T: Turns, R: Wait>(
+fn attempt<'a, S: SafeSession, T: Turns, R: Wait>(
     rt: &R,
     client: &mut Client<'a, S, T>,
     task: Task,
@@ -192,7 +192,7 @@ fn attempt<'a, S: SharedSession, T: Turns, R: Wait>(
 }
 
 // The same, which leaves no transaction in progress.
-fn try_once<'a, S: SharedSession, T: Turns, R: Wait>(
+fn try_once<'a, S: SafeSession, T: Turns, R: Wait>(
     rt: &R,
     client: &mut Client<'a, S, T>,
     task: Task,
@@ -211,7 +211,7 @@ fn try_once<'a, S: SharedSession, T: Turns, R: Wait>(
 }
 
 /// Does what is asked for. It is tried again while another session is in its way, so often in all, and once at least.
-pub fn serve<'a, S: SharedSession, T: Turns, R: Wait>(
+pub fn serve<'a, S: SafeSession, T: Turns, R: Wait>(
     rt: &R,
     client: &mut Client<'a, S, T>,
     task: Task,
@@ -236,7 +236,7 @@ pub fn serve<'a, S: SharedSession, T: Turns, R: Wait>(
 }
 
 // Finds what is kept of both accounts of customers with numbers from `low` to `high`, and commits.
-fn look<'a, S: SharedSession, T: Turns, R: Wait>(
+fn look<'a, S: SafeSession, T: Turns, R: Wait>(
     rt: &R,
     client: &mut Client<'a, S, T>,
     low: u64,
@@ -256,7 +256,7 @@ fn look<'a, S: SharedSession, T: Turns, R: Wait>(
 
 /// Audits the customers with numbers from `low` to `high`, these two too: what is kept of the current accounts and of the savings, by customer, all as of
 /// one state of the serial order.
-pub fn audit<'a, S: SharedSession, T: Turns, R: Wait>(
+pub fn audit<'a, S: SafeSession, T: Turns, R: Wait>(
     rt: &R,
     client: &mut Client<'a, S, T>,
     low: u64,

@@ -1,7 +1,7 @@
 -- The transaction in progress of a session beside others stays the run of some operations, whatever its line does.
 use Rattle.std.proofs.Common.{◌≡◌, ◌≢◌, ◌≤◌, inl, inr, ℕ, Bool, true, false, IsSome, List, [], ◌∷◌, ◌++◌, Option, Some, None, Result, Ok, Err, IfOk, OnOk, refl, sym, ap, ◌∙◌, subst, arith}
 use Rattle.std.proofs.lemmas.Bool.{cases_eq}
-use Rattle.erm_model.specs.declared.outcome.Phase.TheVariants.{Active, Sealed, Safe}
+use Rattle.erm_model.specs.declared.outcome.Phase.TheVariants.{Active, Sealed}
 use Rattle.erm_model.specs.declared.row_stop.RowStop.{RowStop}
 use Rattle.erm_model.specs.RowTransaction.{Event, Law, ends}
 use Rattle.erm_model.specs.Run.{Step}
@@ -13,22 +13,20 @@ use Rattle.erm_script.specs.declared.script.Command.TheVariants as command
 use Rattle.erm_script.specs.declared.script.ScriptLine.{ScriptLine}
 use Rattle.erm_world.specs.declared.stops.Wait.{Wait}
 use Rattle.erm_world.specs.Calls.{DidSeal, IsDone}
-use Rattle.erm_world.specs.Safe.{IsSafeIn}
 use Rattle.erm_world.specs.World.{Fate, IsSession, Opening, Session, View, Work, begun, phase_at, phase_of, work_at, work_of}
 use Rattle.erm_world.specs.World as world
 use Rattle.erm_world.proofs.Txns.{went}
 use Rattle.erm_safe_world.specs.Moves.{MovesOn}
-use Rattle.erm_safe_world.proofs.Stays.{stays_safe}
 use Rattle.erm_maps.specs.Runs.{IsRunOf}
-use Rattle.erm_good_report.specs.Phases.{Closes, IsOutcome, need_of}
+use Rattle.erm_good_report.specs.Phases.{Closes, IsAnswerTo, IsOutcome, need_of}
 use Rattle.erm_lines.specs.Operations.{AsksOf, FrontOf, Ran}
-use Rattle.erm_lone.specs.Later.{EndsIn, IsLaterWorld, IsSafeNow}
+use Rattle.erm_lone.specs.Later.{EndsIn, IsLaterWorld}
 use Rattle.erm_lines.specs.Whole.{AreRunsNow}
 use Rattle.erm_beside.specs.Calls.{After, NotSettledBeside}
 use Rattle.erm_beside.proofs.Txns.{stopped_after}
 use Rattle.erm_lines_at_once.specs.Answers.{DidCommandBeside, DidDecideBeside}
 use Rattle.erm_lines_at_once.specs.Operations.{DidOnce, DidOperationBeside, TriedOnce, WereCutBeside}
-use Rattle.erm_turn_cases.specs.Turns.{AreSafeNow, HadTurn, IsRunNow, WasRun, WasTried}
+use Rattle.erm_turn_cases.specs.Turns.{HadTurn, IsRunNow, WasRun, WasTried}
 
 -- an answer that closes a sealed session is an outcome
 pub closes_outcome : (a : Answer) → Closes Sealed a → IsOutcome a
@@ -123,12 +121,20 @@ pub on_ok_of : {X E : Type 0} (r : Result X E) (P : X → Type 0) (Q : Type 0) �
 on_ok_of (Ok x) P Q gives is = gives x is
 on_ok_of (Err e) P Q gives is = tt
 
+-- what answers a sealed session answers a commit
+outcome_commits : (a : Answer) → IsOutcome a → IsAnswerTo command.Commit a
+outcome_commits (answer.Committed stamp succ pred) is = tt
+outcome_commits (answer.Excluded stamp succ pred) is = tt
+outcome_commits (answer.WaitSeat other seen) is = tt
+outcome_commits (answer.WaitRing flushed) is = tt
+outcome_commits a is = absurd is
+
 -- sealed, and then decided or not
 pub commit_tried : (f : View) (seat mid stamp : ℕ) (tried : Option Answer) (v u t : View) → mid ≡ seat → After seat (λ x y. DidSeal x seat stamp y) v u → WasTried f mid command.Settle tried u t
     → WasTried f seat command.Commit tried v t
 commit_tried f seat mid stamp None v u t is sealed tried = tt
 commit_tried f seat mid stamp (Some a) v u t is sealed tried = record {
-  fits = tried.fits;
+  fits = outcome_commits a tried.fits;
   did = record { stamp = stamp; between = u; sealed = sealed; decided = subst (λ (n : ℕ). DidDecideBeside n a u t) is tried.did };
 }
 
@@ -160,15 +166,3 @@ pub had_turn : (law : Law) (l : ScriptLine) (tried : Option Answer) (v t : View)
     → MovesOn v t → WasRun (λ f. EndsIn law t l.session f) l tried v t → HadTurn law v l tried t
 had_turn law l None v t session others later moves run = tt
 had_turn law l (Some a) v t session others later moves run = record { session = session; did = run; others = others; later = later; moves = moves }
-
--- a safe snapshot stands on a safe stamp still, where its session wasn't called
-still_safe : (v t : View) (q : ℕ) → t.session q ≡ v.session q → MovesOn v t → IsSafeNow v q → IsSafeNow t q
-still_safe v t q stands moves safe now =
-    let was : phase_at v q ≡ Safe = sym (ap (λ (s : Session). phase_of s.stand) stands) ∙ now in
-    subst (λ (s : Session). IsSafeIn t (work_of s.stand).begin) (sym stands) (stays_safe v t (work_at v q).begin moves (safe was))
-
-pub all_safe : (v t : View) (seat : ℕ) → t.opening ≡ v.opening → ((q : ℕ) → q ≢ seat → t.session q ≡ v.session q) → MovesOn v t → AreSafeNow v → IsSafeNow t seat → AreSafeNow t
-all_safe v t seat opening others moves safe own q session = elim (cases_eq q seat) as (λ _. IsSafeNow t q) [
-  | inl is ↦ subst (λ (n : ℕ). IsSafeNow t n) (sym is) own
-  | inr another ↦ still_safe v t q (others q another) moves (safe q (session.0, subst (λ (o : Opening). q ≤ o.sessions) opening session.1))
-]

@@ -12,7 +12,7 @@ use Rattle.erm_world.specs.World.{IsSession, Session, View, phase_of, work_of}
 use Rattle.erm_safe_world.specs.Moves.{MovesOn}
 use Rattle.erm_maps.specs.Runs.{IsRunOf}
 use Rattle.erm_lines.specs.Executions.{Move, close, flush, line, log}
-use Rattle.erm_lone.specs.Later.{EndsIn, IsLaterWorld, IsSafeNow}
+use Rattle.erm_lone.specs.Later.{EndsIn, IsLaterWorld}
 use Rattle.erm_beside.specs.Calls.{Passes}
 use Rattle.erm_lines_at_once.specs.Answers.{DidLineBeside, WasAnsweredBeside, WasWatchedBeside}
 use Rattle.erm_lines_at_once.specs.Executions.{IsOwnRun}
@@ -20,10 +20,6 @@ use Rattle.erm_lines_at_once.specs.Executions.{IsOwnRun}
 -- a session's transaction in progress is the run of some operations
 abbrev pub IsRunNow : Session → Type 0
 IsRunNow s = phase_of s.stand ≡ Active → (steps : List Step) × IsRunOf (work_of s.stand) steps
-
--- each safe snapshot stands on a safe stamp
-abbrev pub AreSafeNow : View → Type 0
-AreSafeNow v = (seat : ℕ) → IsSession v seat → IsSafeNow v seat
 
 -- the command was answered, or it waits, in a session without a snapshot
 abbrev pub WasTried : View → ℕ → Command → Option Answer → View → View → Type 0

@@ -8,8 +8,8 @@ ghost use Rattle.erm_good_report.specs.Transactions.{table_of};
 ghost use Rattle.erm_world.specs.World.{IsSession};
 ghost use Rattle.erm_safe_world.specs.Moves.{MovesOn};
 ghost use Rattle.erm_lines.specs.Whole.{AreRunsNow};
-ghost use Rattle.erm_lone.specs.Later.{EndsIn, IsLaterWorld, IsSafeNow, OthersStand};
-ghost use Rattle.erm_turn_cases.specs.Turns.{AreSafeNow, HadTurn, IsRunNow, WasRun};
+ghost use Rattle.erm_lone.specs.Later.{EndsIn, IsLaterWorld, OthersStand};
+ghost use Rattle.erm_turn_cases.specs.Turns.{HadTurn, IsRunNow, WasRun};
 
 use crate::try_line;
 use erm_lone::{LoneSession, Others};
@@ -34,12 +34,10 @@ fn turn_beside<W: SafeWorld, O: Others>(
     requires asks { IsSome (need_of line.now.command) }
     requires table { IfSome (table_of line.now.command) (λ table. table < TABLES) }
     requires ran { IsRunNow ((W.view world).session line.now.session) }
-    requires safe { IsSafeNow (W.view world) line.now.session }
     ensures stands { W.stands result.0 }
     ensures others { OthersStand O.standing (W.view result.0) line.now.session }
     ensures later { IsLaterWorld (W.view world) (W.view result.0) }
     ensures moves { MovesOn (W.view world) (W.view result.0) }
-    ensures safe { IsSafeNow (W.view result.0) line.now.session }
     ensures ran { OnOk result.1 (IsRunNow ((W.view result.0).session line.now.session)) }
     ensures did { IfOk result.1 (λ tried. WasRun (λ f. EndsIn W.law (W.view result.0) line.now.session f) line.now tried (W.view world) (W.view result.0)) }
 {
@@ -53,7 +51,7 @@ fn turn_beside<W: SafeWorld, O: Others>(
 }
 
 /// One line of a session: its answer, or `None` where it waits for another session. It says what it did as a line of a session beside others,
-/// whatever world all sessions end in; and it leaves the others as they are. Safe snapshots stand on safe stamps, and stay so.
+/// whatever world all sessions end in; and it leaves the others as they are.
 pub fn turn<W: SafeWorld>(
     alloc: Global,
     world: W,
@@ -66,12 +64,10 @@ pub fn turn<W: SafeWorld>(
     requires asks { IsSome (need_of line.now.command) }
     requires table { IfSome (table_of line.now.command) (λ table. table < TABLES) }
     requires runs { AreRunsNow (W.view world) }
-    requires safe { AreSafeNow (W.view world) }
     ensures stands { W.stands result.0 }
     ensures others { (q : ℕ) → q ≢ line.now.session → (W.view result.0).session q ≡ (W.view world).session q }
     ensures opening { (W.view result.0).opening ≡ (W.view world).opening }
     ensures runs { OnOk result.1 (AreRunsNow (W.view result.0)) }
-    ensures safe { AreSafeNow (W.view result.0) }
     ensures did { IfOk result.1 (λ tried. HadTurn W.law (W.view world) line.now tried (W.view result.0)) }
 {
     turn_beside::<W, Brand>(alloc, world, line, receipt)

@@ -24,6 +24,12 @@ closes_outcome (answer.Committed stamp succ pred) closes = tt
 closes_outcome (answer.Excluded stamp succ pred) closes = tt
 closes_outcome a closes = absurd closes
 
+-- and so one to a commit
+closes_commit : (a : Answer) → Closes Sealed a → IsAnswerTo command.Commit a
+closes_commit (answer.Committed stamp succ pred) closes = tt
+closes_commit (answer.Excluded stamp succ pred) closes = tt
+closes_commit a closes = absurd closes
+
 -- OPERATIONS. Each names a table.
 unnamed : (table : Option ℕ) → table ≡ None → IsSome table → ⊥
 unnamed table is named = cc
@@ -77,7 +83,7 @@ pub committed : (f : View) (seat mid stamp : ℕ) (answered : Option Answer) (v 
     → WasSettled mid answered u t → WasAsked f seat command.Commit answered v t
 committed f seat mid stamp None v u t is active sealed passes = drew stamp u active refl sealed (subst (λ (n : ℕ). Passes n u t) is passes)
 committed f seat mid stamp (Some a) v u t is active sealed settled = record {
-  fits = closes_outcome a settled.0;
+  fits = closes_commit a settled.0;
   did = record { stamp = stamp; between = u; sealed = sealed; decided = subst (λ (n : ℕ). DidDecideBeside n a u t) is settled.1 };
 }
 

@@ -95,8 +95,8 @@ pub ended_closes : (seat : ℕ) (v t : View) → HasSnapshot v seat → After se
 ended_closes seat v t has did = by (phase_at v seat) refl (has_phase v seat has)
   where
     by : (p : Phase) → phase_at v seat ≡ p → is_snapshot p ≡ true → WasClosed seat (Some answer.Aborted) v t
-    by Idle is no = absurd (cc)
-    by Active is no = absurd (cc)
-    by Sealed is no = absurd (cc)
+    by Idle is never = absurd (cc)
+    by Active is never = absurd (cc)
+    by Sealed is never = absurd (cc)
     by Pending is so = record { fits = subst (λ (p : Phase). Closes p answer.Aborted) (sym is) tt; did = subst (λ (p : Phase). DidCloseBeside p seat answer.Aborted v t) (sym is) did }
     by Safe is so = record { fits = subst (λ (p : Phase). Closes p answer.Aborted) (sym is) tt; did = subst (λ (p : Phase). DidCloseBeside p seat answer.Aborted v t) (sym is) did }

@@ -1,10 +1,8 @@
 -- A world that was just opened.
-use Rattle.std.proofs.Common.{◌≡◌, ℕ, [], Result, Ok, Err, IfOk, sym, ap, ◌∙◌}
-use Rattle.erm_model.specs.declared.outcome.Phase.TheVariants.{Idle, Safe}
+use Rattle.std.proofs.Common.{◌≡◌, ℕ, Result, Ok, Err, IfOk}
 use Rattle.erm_model.specs.Rows.{Rows}
-use Rattle.erm_world.specs.World.{Session, View, idle, phase_of}
+use Rattle.erm_world.specs.World.{View}
 use Rattle.erm_lines.specs.Executions.{IsOpened}
-use Rattle.erm_lone.specs.Later.{IsSafeNow}
 use Rattle.erm_start.specs.Recovered.{IsOpenedOn}
 
 module _ {P E : Type 0} (view : P → View) where
@@ -15,7 +13,3 @@ module _ {P E : Type 0} (view : P → View) where
   pub so_many : (r : Result P E) (rows : Rows) (place number many : ℕ) → IfOk r (λ p. IsOpenedOn rows place number many (view p)) → IfOk r (λ p. (view p).opening.sessions ≡ many)
   so_many (Ok p) rows place number many is = is.sessions
   so_many (Err e) rows place number many is = tt
-
--- a new session has no snapshot
-pub new_safe : (v : View) (seat : ℕ) → v.session seat ≡ record { over = []; stand = idle } → IsSafeNow v seat
-new_safe v seat is now = absurd (let no : Idle ≡ Safe = sym (ap (λ (s : Session). phase_of s.stand) is) ∙ now in cc)

@@ -1,6 +1,6 @@
 //! The worker of a session whose world stands while it works.
 ghost use Rattle.std.specs.Prelude.{◌≡◌, ◌≢◌, ℕ, [], IfOk};
-ghost use Rattle.erm_model.specs.declared.outcome.Phase.TheVariants.{Idle, Safe};
+ghost use Rattle.erm_model.specs.declared.outcome.Phase.TheVariants.{Idle};
 ghost use Rattle.erm_model.specs.RowTransaction.{SameLaw};
 ghost use Rattle.erm_node.specs.Sound.{sound_law};
 ghost use Rattle.erm_world.specs.World.{IsSession, View, idle, phase_at};
@@ -70,7 +70,7 @@ pub fn work<W: SafeWorld + Drop, T: Turns, R: Wait>(
     work_beside::<W, Brand, T, R>(rt, alloc, world, seat, lines, turns)
 }
 
-// Closes a session with a transaction, or a snapshot that isn't known to be safe, beside others that stand so.
+// Closes a session with a transaction or a snapshot, beside others that stand so.
 fn close_open<W: SafeWorld + Drop, O: Others, T: Turns, R: Wait>(
     rt: &R,
     world: W,
@@ -81,7 +81,6 @@ fn close_open<W: SafeWorld + Drop, O: Others, T: Turns, R: Wait>(
     requires session { IsSession (W.view world) seat }
     requires others { OthersStand O.standing (W.view world) seat }
     requires open { phase_at (W.view world) seat ≡ Idle → ⊥ }
-    requires not_safe { phase_at (W.view world) seat ≡ Safe → ⊥ }
     ensures stands { W.stands result.0 }
 {
     let mut session = LoneSession::<W, O> {
@@ -96,7 +95,7 @@ fn close_open<W: SafeWorld + Drop, O: Others, T: Turns, R: Wait>(
 // Closes a session where it has a transaction or a snapshot, beside others that stand so.
 fn close_beside<W: SafeWorld + Drop, O: Others, T: Turns, R: Wait>(
     rt: &R,
-    mut world: W,
+    world: W,
     seat: Seat,
     turns: &mut T,
 ) -> (W, Option<Answer>)
@@ -107,10 +106,6 @@ fn close_beside<W: SafeWorld + Drop, O: Others, T: Turns, R: Wait>(
 {
     match world.phase(seat) {
         Phase::Idle => (world, None),
-        Phase::Safe => {
-            world.end_safe(seat);
-            (world, Some(Answer::Aborted))
-        }
         _ => close_open::<W, O, T, R>(rt, world, seat, turns),
     }
 }

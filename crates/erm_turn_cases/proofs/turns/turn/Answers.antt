@@ -3,7 +3,7 @@ use Rattle.std.proofs.lemmas.Result.{IfOk-weaker, on_ok_weaker}
 use Rattle.erm_report.specs.declared.answer.Answer.{Answer}
 use Rattle.erm_lone.specs.Later.{EndsIn}
 use Rattle.erm_turn_cases.specs.Turns.{HadTurn, WasRun}
-use Rattle.erm_turn_cases.proofs.Kept.{all_runs, all_safe, had_turn}
+use Rattle.erm_turn_cases.proofs.Kept.{all_runs, had_turn}
 use Rattle.erm_turn_cases.proofs.turns.turn.Goals as goal
 
 pub returns-clause-opening : goal.returns-clause-opening
@@ -13,11 +13,6 @@ pub returns-clause-runs : goal.returns-clause-runs
 returns-clause-runs g c =
     on_ok_weaker c.turn_beside.result.1 (λ ran. all_runs (g.W.RowWorld.view c.args.world) (g.W.RowWorld.view c.turn_beside.result.0) c.args.line.now.session c.turn_beside.ensures.later.opening (λ q another. (c.turn_beside.ensures.others q another).0)
     c.requires.runs ran) c.turn_beside.ensures.ran
-
-pub returns-clause-safe : goal.returns-clause-safe
-returns-clause-safe g c =
-    all_safe (g.W.RowWorld.view c.args.world) (g.W.RowWorld.view c.turn_beside.result.0) c.args.line.now.session c.turn_beside.ensures.later.opening (λ q another. (c.turn_beside.ensures.others q another).0)
-    c.turn_beside.ensures.moves c.requires.safe c.turn_beside.ensures.safe
 
 pub returns-clause-did : goal.returns-clause-did
 returns-clause-did g c =

@@ -1,9 +1,5 @@
 use Rattle.erm_lone.specs.Within.{ends_itself}
-use Rattle.erm_worker_cases.proofs.Opened.{new_safe}
 use Rattle.erm_worker_cases.proofs.alone.work_beside.Goals as goal
-
-pub run_lines-requires-clause-stands : goal.run_lines-requires-clause-stands
-run_lines-requires-clause-stands g c = (c.requires.stands, c.requires.session, c.requires.others, new_safe (g.W.RowWorld.view c.args.world) c.args.seat c.requires.new)
 
 pub run_lines-requires-clause-seat : goal.run_lines-requires-clause-seat
 run_lines-requires-clause-seat g c = λ l m. (c.requires.lines l m).session
