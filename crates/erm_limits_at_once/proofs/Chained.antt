@@ -1,16 +1,18 @@
 -- How much a session's own part of an execution at once makes and claims: no more than its lines may.
-use Rattle.std.proofs.Common.{◌≡◌, ℕ, zero, suc, ◌+◌, ◌<◌, ◌≤◌, ◌⊎◌, ◌==◌, Bool, true, cond, List, [], ◌∷◌, fold, sum_by, length, Option, Some, None, is_some, inl, inr, refl, sym, ap, ◌∙◌, subst, eq-eqb, ne_eqb, arith}
+use Rattle.std.proofs.Common.{◌≡◌, ℕ, zero, suc, ◌+◌, ◌<◌, ◌≤◌, ◌⊎◌, ◌==◌, Bool, true, false, cond, List, [], ◌∷◌, fold, sum_by, length, Option, Some, None, is_some, inl, inr, refl, sym, ap, ◌∙◌, subst, eq-eqb, ne_eqb, arith}
 use Rattle.std.specs.Option.{option_map}
 use Rattle.std.proofs.lemmas.List.Sums.{sum_by-cons}
 use Rattle.erm_model.specs.declared.limits.TheConstants.{READ_LIMIT}
 use Rattle.erm_model.specs.declared.outcome.Phase.{Phase}
 use Rattle.erm_model.specs.declared.outcome.Phase.TheVariants.{Active}
+use Rattle.erm_model.specs.Lawful.{times_made}
 use Rattle.erm_model.specs.Run.{Step}
 use Rattle.erm_node.specs.Sound.{sound_law}
 use Rattle.erm_report.specs.declared.answer.Answer.{Answer}
 use Rattle.erm_script.specs.declared.script.Command.{Command}
 use Rattle.erm_world.specs.Going.{Extends}
 use Rattle.erm_world.specs.Laws.{IsSerializable}
+use Rattle.erm_world.specs.Snapshots.{snapshot_not_active}
 use Rattle.erm_world.specs.Works.{row_read}
 use Rattle.erm_world.specs.World.{IsSession, Session, Stand, View, Work, claims_in, phase_at, phase_of, work_at, work_of}
 use Rattle.erm_world.specs.World as world
@@ -23,23 +25,51 @@ use Rattle.erm_beside.specs.Calls.{Passes}
 use Rattle.erm_lines_at_once.specs.Executions.{IsOwnRun}
 use Rattle.erm_told.proofs.Executed.{Knows, hears, turns}
 use Rattle.erm_told.proofs.Going.{continues_then}
+use Rattle.erm_told.proofs.Sessions.{sealed_untold}
 use Rattle.erm_told_at_once.proofs.Runs.{knows_own, own_goes}
 use Rattle.erm_causes.proofs.Moves.{work_now}
 use Rattle.erm_causes.proofs.Quiet.{SameNow}
 use Rattle.erm_causes.proofs.Tables.{AreMovesInRange}
 use Rattle.erm_causes_at_once.proofs.Called.{Once, once_of, out, stayed, whole}
-use Rattle.erm_causes_at_once.proofs.Quieted.{Lined, Quieted, begins, done, named, quiet, sealed_first, seals, still}
+use Rattle.erm_causes_at_once.proofs.Quieted.{Lined, Quieted, begins, done, named, quiet, sealed_first, seals, still, watched}
+use Rattle.erm_causes_at_once.proofs.Snapshots.{HasNoWork, Watches}
+use Rattle.erm_causes_at_once.proofs.Snapshots as snapshots
 use Rattle.erm_causes_at_once.proofs.Totals.{count_asked, own_count, own_total}
 use Rattle.erm_causes_at_once.proofs.Walked.{IsAskedInRange, OwnDid, close_did, log_did, move_did}
-use Rattle.erm_told_limits.proofs.Grown.{Apart, nothing_apart}
+use Rattle.erm_told_limits.proofs.Grown.{Apart, Grew, nothing_apart}
 use Rattle.erm_told_limits.proofs.Heard.{may_claim, may_read, was_line}
 use Rattle.erm_told_limits.proofs.Holds.{Laws}
 use Rattle.erm_told_limits.proofs.Limits.{claims_line}
 use Rattle.erm_told_limits.proofs.Lines.{begun_moved, done_moved, same_moved}
 use Rattle.erm_told_limits.proofs.Looks.{Looks, MayHaveRead, reads_line}
-use Rattle.erm_told_limits.proofs.Moved.{Moved, mades_in, moved_nothing, moved_then, moved_within}
+use Rattle.erm_told_limits.proofs.Ran.{active_with}
+use Rattle.erm_told_limits.proofs.Moved.{Moved, mades_in, moved_nothing, moved_on, moved_out, moved_then, moved_within}
 use Rattle.erm_told_limits.proofs.Pigeons.{reads_grow}
 use Rattle.erm_limits_at_once.proofs.Tried.{MayBe, operation_looks, operation_moved}
+
+-- A session without a transaction makes and claims nothing where it has a snapshot then, or where that is over.
+bare_moved : (P : ℕ → Type 0) (s t : Session) (n b m c : ℕ) → work_of s.stand ≡ world.begun n b → t.over ≡ s.over → work_of t.stand ≡ world.begun m c → Moved P 0 0 0 s t
+bare_moved P s t n b m c before over now =
+    moved_on P 0 0 s t over
+    (subst (λ (w : Work). Grew (work_of s.stand) w 0 0) (sym now) (record { made = omega arith; claimed = omega arith; few = λ few. omega arith; apart = λ apart. nothing_apart }))
+    (λ x. omega (arith, ap (λ (y : Work). times_made y.made x) before))
+    (λ x read. let none : is_some (row_read (work_of t.stand).reads x) ≡ false = ap (λ (w : Work). is_some (row_read w.reads x)) now in absurd (cc))
+
+no_work : (stand : Stand) → HasNoWork stand → (n : ℕ) × (b : ℕ) × (work_of stand ≡ world.begun n b)
+no_work world.idle rests = (0, 0, refl)
+no_work (world.active w) rests = absurd rests
+no_work (world.sealed w stamp) rests = absurd rests
+no_work (world.snapshot x) rests = (x.number, x.begin, refl)
+
+watched_moved : (P : ℕ → Type 0) (s t : Session) → HasNoWork s.stand → Watches s t → Moved P 0 0 1 s t
+watched_moved P s t rests (snapshots.looks is) = moved_within P 0 0 0 0 0 1 s t (omega arith) (omega arith) (omega arith) (moved_nothing P s t is)
+watched_moved P s t rests (snapshots.watches x is) =
+    let bare = no_work s.stand rests in
+    moved_within P 0 0 0 0 0 1 s t (omega arith) (omega arith) (omega arith)
+    (bare_moved P s t bare.0 bare.1 x.number x.begin bare.2 (ap (λ (r : Session). r.over) is) (ap (λ (r : Session). work_of r.stand) is))
+watched_moved P s t rests (snapshots.ends number begin is) =
+    let bare = no_work s.stand rests in
+    moved_out P 0 0 s t (world.begun number begin) world.aborts is (omega arith) (omega arith) (λ x. omega (arith, ap (λ (w : Work). times_made w.made x) bare.2))
 
 -- a move that touches no object makes and claims nothing
 quieted_moved : (P : ℕ → Type 0) (asked : Option Command) (a : Answer) (s t : Session) → Quieted asked a s t → Moved P 0 0 1 s t
@@ -51,6 +81,7 @@ quieted_moved P asked a s t (seals stamp active is hears) =
     moved_within P 0 0 0 0 0 1 s t (omega arith) (omega arith) (omega arith)
     (same_moved P s t (ap (λ (r : Session). r.over) is) (ap (λ (r : Session). work_of r.stand) is))
 quieted_moved P asked a s t (done w fate ending has is none hears) = done_moved P s t w fate (sym (work_now s.stand w has)) is
+quieted_moved P asked a s t (watched rests did hears) = watched_moved P s t rests did
 
 -- an active session's transaction is the run of what is told of it
 active_run : (seat : ℕ) (current : Option Transaction) (stand : Stand) → TellsNow seat current stand → phase_of stand ≡ Active → (steps : List Step) × IsRunOf (work_of stand) steps
@@ -60,11 +91,26 @@ active_run seat None (world.sealed w stamp) told active = absurd told
 active_run seat (Some t) world.idle told active = absurd told
 active_run seat (Some t) (world.active w) told active = (steps_of t, told.0.ran)
 active_run seat (Some t) (world.sealed w stamp) told active = cc
-active_run seat None (world.snapshot s) told active = absurd told
+active_run seat None (world.snapshot s) told active = absurd (snapshot_not_active s active)
 active_run seat (Some t) (world.snapshot s) told active = absurd told
+
+-- one without a transaction is told to have none
+none_told : (seat : ℕ) (current : Option Transaction) (stand : Stand) → HasNoWork stand → TellsNow seat current stand → current ≡ None
+none_told seat None stand rests told = refl
+none_told seat (Some t) world.idle rests told = absurd told
+none_told seat (Some t) (world.active w) rests told = absurd rests
+none_told seat (Some t) (world.sealed w stamp) rests told = absurd rests
+none_told seat (Some t) (world.snapshot x) rests told = absurd told
 
 pub knows_run : (seat : ℕ) (p : Progress) (phase : Phase) (v : View) → Knows seat p phase v → phase_at v seat ≡ Active → (steps : List Step) × IsRunOf (work_at v seat) steps
 knows_run seat p phase v knows active = active_run seat p.current (v.session seat).stand knows.tells.now active
+
+-- nor does a seal tell more
+pub sealed_tells : (seat stamp : ℕ) (current : Option Transaction) (s r : Session) → phase_of s.stand ≡ Active → r ≡ record { over = s.over; stand = world.sealed (work_of s.stand) stamp }
+    → TellsNow seat current s.stand → TellsNow seat current r.stand
+sealed_tells seat stamp current s r active is tells =
+    subst (λ (x : Session). TellsNow seat current x.stand) (sym is)
+    (sealed_untold seat stamp current (work_of s.stand) (subst (λ (at : Stand). TellsNow seat current at) (active_with s.stand active) tells))
 
 pub passes_itself : (seat : ℕ) (v : View) → Passes seat v v
 passes_itself seat v = record { own = refl; opening = refl; tail = omega arith; flushed = omega arith; given_up = refl }
@@ -102,16 +148,18 @@ same_claims (Some t) (Some x) n same few u is =
     let lines : may_claim x ≡ may_claim t = ap (λ (es : List Exchange). sum_by (λ (e : Exchange). claims_of e.asked) es) same in
     omega (arith, few t refl, lines, ap may_claim it)
 
-quieted_claims : (seat : ℕ) (asked : Option Command) (a : Answer) (p : Progress) (s t : Session) → Quieted asked a s t → ClaimsFew p s → ClaimsFew (heard seat asked a p) t
-quieted_claims seat asked a p s t (still is hears) few u now =
+quieted_claims : (seat : ℕ) (asked : Option Command) (a : Answer) (p : Progress) (s t : Session) → TellsNow seat p.current s.stand → Quieted asked a s t → ClaimsFew p s → ClaimsFew (heard seat asked a p) t
+quieted_claims seat asked a p s t tells (still is hears) few u now =
     let n = same_claims p.current (heard seat asked a p).current (length (work_of s.stand).claims) (hears seat p).1 few u now in
     omega (arith, n, ap (λ (r : Session). length (work_of r.stand).claims) is)
-quieted_claims seat asked a p s t (begins number begin idle is hears) few u now = omega (arith, ap (λ (r : Session). length (work_of r.stand).claims) is)
-quieted_claims seat asked a p s t (seals stamp active is hears) few u now =
+quieted_claims seat asked a p s t tells (begins number begin idle is hears) few u now = omega (arith, ap (λ (r : Session). length (work_of r.stand).claims) is)
+quieted_claims seat asked a p s t tells (seals stamp active is hears) few u now =
     let n = same_claims p.current (heard seat asked a p).current (length (work_of s.stand).claims) (hears seat p).1 few u now in
     omega (arith, n, ap (λ (r : Session). length (work_of r.stand).claims) is)
-quieted_claims seat asked a p s t (done w fate ending has is none hears) few u now =
+quieted_claims seat asked a p s t tells (done w fate ending has is none hears) few u now =
     let no : None ≡ Some u = sym (ap (λ (q : Progress). q.current) (hears seat p)) ∙ now in cc
+quieted_claims seat asked a p s t tells (watched rests did hears) few u now =
+    let no : None ≡ Some u = sym (hears seat p (none_told seat p.current s.stand rests tells)).1 ∙ now in cc
 
 same_reads : (current other : Option Transaction) (w : Work) → SameNow current other → ((t : Transaction) → current ≡ Some t → MayHaveRead w t) → (u : Transaction) → other ≡ Some u → MayHaveRead w u
 same_reads None None w same few u is = cc
@@ -122,14 +170,16 @@ same_reads (Some t) (Some x) w same few u is =
     let lines : may_read x ≡ may_read t = ap (λ (es : List Exchange). sum_by (λ (e : Exchange). reads_of e.asked) es) same in
     subst (λ (n : ℕ). (length w.reads ≤ n) ⊎ (READ_LIMIT < n)) (sym lines ∙ ap may_read it) (few t refl)
 
-quieted_reads : (seat : ℕ) (asked : Option Command) (a : Answer) (p : Progress) (s t : Session) → Quieted asked a s t → ReadsFew p s → ReadsFew (heard seat asked a p) t
-quieted_reads seat asked a p s t (still is hears) few u now =
+quieted_reads : (seat : ℕ) (asked : Option Command) (a : Answer) (p : Progress) (s t : Session) → TellsNow seat p.current s.stand → Quieted asked a s t → ReadsFew p s → ReadsFew (heard seat asked a p) t
+quieted_reads seat asked a p s t tells (still is hears) few u now =
     subst (λ (r : Session). MayHaveRead (work_of r.stand) u) (sym is) (same_reads p.current (heard seat asked a p).current (work_of s.stand) (hears seat p).1 few u now)
-quieted_reads seat asked a p s t (begins number begin idle is hears) few u now = inl (omega (arith, ap (λ (r : Session). length (work_of r.stand).reads) is))
-quieted_reads seat asked a p s t (seals stamp active is hears) few u now =
+quieted_reads seat asked a p s t tells (begins number begin idle is hears) few u now = inl (omega (arith, ap (λ (r : Session). length (work_of r.stand).reads) is))
+quieted_reads seat asked a p s t tells (seals stamp active is hears) few u now =
     subst (λ (r : Session). MayHaveRead (work_of r.stand) u) (sym is) (same_reads p.current (heard seat asked a p).current (work_of s.stand) (hears seat p).1 few u now)
-quieted_reads seat asked a p s t (done w fate ending has is none hears) few u now =
+quieted_reads seat asked a p s t tells (done w fate ending has is none hears) few u now =
     let no : None ≡ Some u = sym (ap (λ (q : Progress). q.current) (hears seat p)) ∙ now in cc
+quieted_reads seat asked a p s t tells (watched rests did hears) few u now =
+    let no : None ≡ Some u = sym (hears seat p (none_told seat p.current s.stand rests tells)).1 ∙ now in cc
 
 zero_or_more : (n : ℕ) → (n ≡ 0) ⊎ (0 < n)
 zero_or_more zero = inl refl
@@ -207,33 +257,33 @@ module _ (laws : Laws) (begun : (number begin : ℕ) → IsRunOf (world.begun nu
       subst (λ (b : Option Command). Moved (MayBe f) (count_asked makes_of b) (count_asked claims_of b) 1 (v.session seat) (t.session seat)) (sym is)
       (operation_moved laws f seat session holds c (subst IsAskedInRange is range) a v t active did r.0 r.1 goes)
 
-  lined_claims : (asked : Option Command) (a : Answer) (v t : View) (p : Progress) → Lined f seat asked a v t → Moved (MayBe f) (count_asked makes_of asked) (count_asked claims_of asked) 1 (v.session seat) (t.session seat)
+  lined_claims : (asked : Option Command) (a : Answer) (v t : View) (p : Progress) → Lined f seat asked a v t → TellsNow seat p.current (v.session seat).stand → Moved (MayBe f) (count_asked makes_of asked) (count_asked claims_of asked) 1 (v.session seat) (t.session seat)
       → ClaimsFew p (v.session seat) → ClaimsFew (heard seat asked a p) (t.session seat)
-  lined_claims asked a v t p (quiet did) moved few = quieted_claims seat asked a p (v.session seat) (t.session seat) did few
-  lined_claims asked a v t p (sealed_first stamp between active is did) moved few =
-      quieted_claims seat asked a p between (t.session seat) did (λ u now. omega (arith, few u now, ap (λ (r : Session). length (work_of r.stand).claims) is))
-  lined_claims asked a v t p (named c k is names active did) moved few =
+  lined_claims asked a v t p (quiet did) tells moved few = quieted_claims seat asked a p (v.session seat) (t.session seat) tells did few
+  lined_claims asked a v t p (sealed_first stamp between active is did) tells moved few =
+      quieted_claims seat asked a p between (t.session seat) (sealed_tells seat stamp p.current (v.session seat) between active is tells) did (λ u now. omega (arith, few u now, ap (λ (r : Session). length (work_of r.stand).claims) is))
+  lined_claims asked a v t p (named c k is names active did) tells moved few =
       let most = subst (λ (b : Option Command). length (work_at t seat).claims ≤ length (work_at v seat).claims + count_asked claims_of b) is moved.now.claimed in
       subst (λ (b : Option Command). ClaimsFew (heard seat b a p) (t.session seat)) (sym is)
       (once_claims f seat c a p did.at t (length (work_at v seat).claims) (once_of f seat c did.at t a did.once) most few)
 
-  lined_reads : (asked : Option Command) (a : Answer) (v t : View) (p : Progress) → Lined f seat asked a v t → IsAskedInRange asked → (phase_at v seat ≡ Active → (steps : List Step) × IsRunOf (work_at v seat) steps)
+  lined_reads : (asked : Option Command) (a : Answer) (v t : View) (p : Progress) → Lined f seat asked a v t → IsAskedInRange asked → TellsNow seat p.current (v.session seat).stand
       → Continues (t.session seat) (f.session seat) → Apart (work_at t seat).reads → ReadsFew p (v.session seat) → ReadsFew (heard seat asked a p) (t.session seat)
-  lined_reads asked a v t p (quiet did) range run goes apart few = quieted_reads seat asked a p (v.session seat) (t.session seat) did few
-  lined_reads asked a v t p (sealed_first stamp between active is did) range run goes apart few =
-      quieted_reads seat asked a p between (t.session seat) did (λ u now. subst (λ (r : Session). MayHaveRead (work_of r.stand) u) (sym is) (few u now))
-  lined_reads asked a v t p (named c k is names active did) range run goes apart few =
-      let r = run active in
+  lined_reads asked a v t p (quiet did) range tells goes apart few = quieted_reads seat asked a p (v.session seat) (t.session seat) tells did few
+  lined_reads asked a v t p (sealed_first stamp between active is did) range tells goes apart few =
+      quieted_reads seat asked a p between (t.session seat) (sealed_tells seat stamp p.current (v.session seat) between active is tells) did (λ u now. subst (λ (r : Session). MayHaveRead (work_of r.stand) u) (sym is) (few u now))
+  lined_reads asked a v t p (named c k is names active did) range tells goes apart few =
+      let r = active_run seat p.current (v.session seat).stand tells active in
       let looks = operation_looks laws f seat session holds c (subst IsAskedInRange is range) k names a v t active did r.0 r.1 goes in
       subst (λ (b : Option Command). ReadsFew (heard seat b a p) (t.session seat)) (sym is) (once_reads f seat c a p v did.at t (once_of f seat c did.at t a did.once) apart looks few)
 
-  lined_few : (asked : Option Command) (a : Answer) (v t : View) (p : Progress) → Lined f seat asked a v t → IsAskedInRange asked → (phase_at v seat ≡ Active → (steps : List Step) × IsRunOf (work_at v seat) steps)
+  lined_few : (asked : Option Command) (a : Answer) (v t : View) (p : Progress) → Lined f seat asked a v t → IsAskedInRange asked → TellsNow seat p.current (v.session seat).stand
       → Continues (t.session seat) (f.session seat) → Moved (MayBe f) (count_asked makes_of asked) (count_asked claims_of asked) 1 (v.session seat) (t.session seat)
       → Few f p (v.session seat) → Few f (heard seat asked a p) (t.session seat)
-  lined_few asked a v t p did range run goes moved few =
+  lined_few asked a v t p did range tells goes moved few =
       let apart = moved.now.apart few.apart in record {
-        claims = lined_claims asked a v t p did moved few.claims;
-        reads = lined_reads asked a v t p did range run goes apart few.reads;
+        claims = lined_claims asked a v t p did tells moved few.claims;
+        reads = lined_reads asked a v t p did range tells goes apart few.reads;
         apart = apart;
         known = λ x read. elim (moved.reads x read) as (λ _. MayBe f x) [ inl before ↦ few.known x before | inr new ↦ new ];
       }
@@ -244,13 +294,13 @@ module _ (laws : Laws) (begun : (number begin : ℕ) → IsRunOf (world.begun nu
 
   -- a move, of this session or of another
   pub did_counts : (at : ℕ) (asked : Option Command) (a : Answer) (v t : View) (p : Progress) → OwnDid f seat at asked a v t → IsAskedInRange asked
-      → (phase_at v seat ≡ Active → (steps : List Step) × IsRunOf (work_at v seat) steps) → Continues (t.session seat) (f.session seat) → Few f p (v.session seat)
+      → TellsNow seat p.current (v.session seat).stand → Continues (t.session seat) (f.session seat) → Few f p (v.session seat)
       → Counted f (v.session seat) (t.session seat) (cond (at == seat) (count_asked makes_of asked) 0) (cond (at == seat) (count_asked claims_of asked) 0) (cond (at == seat) (heard seat asked a p) p)
-  did_counts at asked a v t p (inl (is, did)) range run goes few =
-      let moved = lined_moved asked a v t did range run goes in
+  did_counts at asked a v t p (inl (is, did)) range tells goes few =
+      let moved = lined_moved asked a v t did range (λ active. active_run seat p.current (v.session seat).stand tells active) goes in
       subst (λ (b : Bool). Counted f (v.session seat) (t.session seat) (cond b (count_asked makes_of asked) 0) (cond b (count_asked claims_of asked) 0) (cond b (heard seat asked a p) p)) (sym (eq-eqb at seat is))
-      (record { mades = moved.mades; claims_are = moved.claims; few = lined_few asked a v t p did range run goes moved few })
-  did_counts at asked a v t p (inr (another, is)) range run goes few =
+      (record { mades = moved.mades; claims_are = moved.claims; few = lined_few asked a v t p did range tells goes moved few })
+  did_counts at asked a v t p (inr (another, is)) range tells goes few =
       subst (λ (b : Bool). Counted f (v.session seat) (t.session seat) (cond b (count_asked makes_of asked) 0) (cond b (count_asked claims_of asked) 0) (cond b (heard seat asked a p) p)) (sym (ne_eqb at seat another))
       (record {
         mades = omega (arith, ap (λ (y : View). mades_in (y.session seat)) is);
@@ -287,22 +337,22 @@ module _ (laws : Laws) (begun : (number begin : ℕ) → IsRunOf (world.begun nu
   run_counts (line l a ∷ moves) p phase v t (u, w, passes, did, rest) range goes knows few =
       let x : Said = record { session = l.session; asked = Some l.command; answer = a } in
       let then = knows_own begun stay f seat (line l a ∷ []) p phase v w (u, w, passes, did, passes_itself seat w) knows in
-      let run = knows_run seat p phase u (know_there p phase v u passes knows) in
-      let one = did_counts l.session (Some l.command) a u w p (move_did f seat l a u w did) range.0 run (goes_from moves w t rest goes) (few_passes p v u passes few) in
+      let tells = (know_there p phase v u passes knows).tells.now in
+      let one = did_counts l.session (Some l.command) a u w p (move_did f seat l a u w did) range.0 tells (goes_from moves w t rest goes) (few_passes p v u passes few) in
       place_then (v.session seat) (w.session seat) (t.session seat) x (said_in moves) (hears seat p x) (fold (hears seat) (hears seat p x) (said_in moves)) (after_passes v u w _ _ _ passes one)
       (run_counts moves (hears seat p x) (turns seat phase x) w t rest range.1 goes then one.few)
   run_counts (log l a ∷ moves) p phase v t (u, w, passes, did, rest) range goes knows few =
       let x : Said = record { session = l.session; asked = Some l.command; answer = a } in
       let then = knows_own begun stay f seat (log l a ∷ []) p phase v w (u, w, passes, did, passes_itself seat w) knows in
-      let run = knows_run seat p phase u (know_there p phase v u passes knows) in
-      let one = did_counts l.session (Some l.command) a u w p (log_did f seat l a u w did) range.0 run (goes_from moves w t rest goes) (few_passes p v u passes few) in
+      let tells = (know_there p phase v u passes knows).tells.now in
+      let one = did_counts l.session (Some l.command) a u w p (log_did f seat l a u w did) range.0 tells (goes_from moves w t rest goes) (few_passes p v u passes few) in
       place_then (v.session seat) (w.session seat) (t.session seat) x (said_in moves) (hears seat p x) (fold (hears seat) (hears seat p x) (said_in moves)) (after_passes v u w _ _ _ passes one)
       (run_counts moves (hears seat p x) (turns seat phase x) w t rest range.1 goes then one.few)
   run_counts (close at a ∷ moves) p phase v t (u, w, passes, did, rest) range goes knows few =
       let x : Said = record { session = at; asked = None; answer = a } in
       let then = knows_own begun stay f seat (close at a ∷ []) p phase v w (u, w, passes, did, passes_itself seat w) knows in
-      let run = knows_run seat p phase u (know_there p phase v u passes knows) in
-      let one = did_counts at None a u w p (close_did f seat at a u w did) tt run (goes_from moves w t rest goes) (few_passes p v u passes few) in
+      let tells = (know_there p phase v u passes knows).tells.now in
+      let one = did_counts at None a u w p (close_did f seat at a u w did) tt tells (goes_from moves w t rest goes) (few_passes p v u passes few) in
       place_then (v.session seat) (w.session seat) (t.session seat) x (said_in moves) (hears seat p x) (fold (hears seat) (hears seat p x) (said_in moves)) (after_passes v u w _ _ _ passes one)
       (run_counts moves (hears seat p x) (turns seat phase x) w t rest range.1 goes then one.few)
   run_counts (flush ∷ moves) p phase v t (u, w, passes, did, rest) range goes knows few =

@@ -82,13 +82,13 @@ module _ (laws : Laws) (begun : (number begin : ℕ) → IsRunOf (world.begun nu
   step : (k : ScriptLine) (b : Answer) (moves : List Move) (p : Progress) (phase : Phase) (v u w t : View) → Passes seat v u → DidOwn (is_own seat (move_of k b)) f seat (move_of k b) u w
       → IsOwnRun f seat w moves t → IsInRange k.command → Continues (t.session seat) (f.session seat) → Knows seat p phase v → Few f p (v.session seat) → StepCounts k b p phase u w
   step k b moves p phase v u w t passes did rest range goes knows few =
-      let run = knows_run seat p phase u (know_there laws begun stay f seat session holds p phase v u passes knows) in
+      let there = know_there laws begun stay f seat session holds p phase v u passes knows in
       let goes_w = goes_from laws begun stay f seat session holds moves w t rest goes in
-      let one = did_counts laws begun stay f seat session holds k.session (Some k.command) b u w p (line_did f seat k b u w did) range run goes_w
+      let one = did_counts laws begun stay f seat session holds k.session (Some k.command) b u w p (line_did f seat k b u w did) range there.tells.now goes_w
       (few_passes laws begun stay f seat session holds p v u passes few) in record {
         knows = subst (λ (list : List Said). Knows seat (fold (hears seat) p list) (fold (turns seat) phase list) w) (says_line k b [])
             (knows_own begun stay f seat (move_of k b ∷ []) p phase v w (u, w, passes, did, passes_itself seat w) knows);
-        run = run;
+        run = knows_run seat p phase u there;
         goes = goes_w;
         few = one.few;
         mades = one.mades;

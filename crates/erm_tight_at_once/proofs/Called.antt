@@ -25,10 +25,13 @@ use Rattle.erm_maps.specs.Runs.{IsRunOf}
 use Rattle.erm_good_report.specs.Transactions.{Exchange, Progress, Transaction, heard, table_of, with_line}
 use Rattle.erm_good_report.specs.Windows.{IsReplied, IsTidied}
 use Rattle.erm_lines.specs.Operations.{AsksOf, DidCalls, FrontOf, Ran, WholeOf}
-use Rattle.erm_lines.specs.Told.{Continues}
+use Rattle.erm_lines.specs.Told.{Continues, TellsNow}
 use Rattle.erm_lines_at_once.specs.Operations.{Beside, DidOnce, DidOperationBeside, WasTried, WereCutBeside, told_at_once}
+use Rattle.erm_causes.proofs.Answered.{last_number}
+use Rattle.erm_causes.proofs.Fine.{number_told}
 use Rattle.erm_causes.proofs.Operated.{GoesOnBy}
 use Rattle.erm_causes.proofs.Own.{no_claims}
+use Rattle.erm_causes.proofs.Quiet.{now_works}
 use Rattle.erm_causes_at_once.proofs.Called.{CutOnce, calls_gone, cut_as, cut_gone, cut_kept, cut_stays, ends_so, kept_gone, kept_then, stays_so, tried_kept}
 use Rattle.erm_causes_at_once.proofs.Line.{extended_made, later_has}
 use Rattle.erm_causes_at_once.proofs.Operation.{called_run, tried_run}
@@ -136,9 +139,14 @@ module _ (keys : KeyLaws) (c : Command) (k : ℕ) (named : table_of c ≡ Some k
 
   -- THE WHOLE LINE.
   module _ (laws : Laws) (f : View) (seat : ℕ) (session : IsSession f seat) (holds : IsSerializable sound_law f) (p : Progress) (v t : View) (active : phase_at v seat ≡ Active)
-      (goes : Continues (t.session seat) (f.session seat)) (marks : AreMarks p (v.session seat)) (n : ℕ) (at : View) (tried : WasTried f seat c n v at) where
+      (goes : Continues (t.session seat) (f.session seat)) (tells : TellsNow seat p.current (v.session seat).stand) (marks : AreMarks p (v.session seat)) (n : ℕ) (at : View) (tried : WasTried f seat c n v at) where
     going : IsGoing p.current (work_at v seat)
     going = now_active p.current (v.session seat).stand marks.now active
+
+    -- its number is told
+    number_now : going.told.number ≡ (work_at v seat).number
+    number_now = number_told seat p.current (v.session seat).stand (work_at v seat) going.told tells
+        (now_works (v.session seat).stand (work_at v seat) (inl (active_with (v.session seat).stand active))) going.is
 
     run_at : IsRunOf (work_at at seat) going.steps
     run_at = tried_run f seat c n v at tried going.steps going.run
@@ -190,7 +198,7 @@ module _ (keys : KeyLaws) (c : Command) (k : ℕ) (named : table_of c ≡ Some k
         (kept_gone cut.events (at.session seat) (cut.at.session seat) gone) in
         subst (λ (s : Session). AreMarks (heard seat (Some c) a p) s)
         (sym (ended ∙ ap (λ (gs : List Finished). record { over = gs ++ g ∷ []; stand = world.idle }) all.over))
-        (out_marks seat c a p (v.session seat) going.told w ending hears going.is marks)
+        (out_marks seat c a p (v.session seat) going.told w ending hears going.is (number_now ∙ sym (last_number cut.asked (work_at cut.at seat) w last ∙ all.number)) marks)
 
     refused_as : (a : Answer) → (IsReplied a → ⊥) → (IsTidied a → ⊥) → (why : RowStop) × (told_at_once why ≡ Some a) × WereCutBeside f seat (FrontOf c) (AsksOf c) why at t
         → AreMarks (heard seat (Some c) a p) (t.session seat)
@@ -211,6 +219,6 @@ module _ (keys : KeyLaws) (c : Command) (k : ℕ) (named : table_of c ≡ Some k
     once_marks a did = refused_as a (λ replied. let never : None ≡ Some replied.0 = replied.1 in cc) (λ tidied. let other = tidied.1 in cc) did
 
   pub operation_marks : Laws → (f : View) (seat : ℕ) → IsSession f seat → IsSerializable sound_law f → (a : Answer) (p : Progress) (v t : View) → phase_at v seat ≡ Active
-      → DidOperationBeside f seat c a v t → Continues (t.session seat) (f.session seat) → AreMarks p (v.session seat) → AreMarks (heard seat (Some c) a p) (t.session seat)
-  operation_marks laws f seat session holds a p v t active did goes marks =
-      once_marks laws f seat session holds p v t active goes marks did.times did.at did.tried a did.once
+      → DidOperationBeside f seat c a v t → Continues (t.session seat) (f.session seat) → TellsNow seat p.current (v.session seat).stand → AreMarks p (v.session seat) → AreMarks (heard seat (Some c) a p) (t.session seat)
+  operation_marks laws f seat session holds a p v t active did goes tells marks =
+      once_marks laws f seat session holds p v t active goes tells marks did.times did.at did.tried a did.once

@@ -1,6 +1,6 @@
 -- The windows of the transactions that the report of an execution at once tells are tight.
-use Rattle.std.proofs.Common.{◌≡◌, ℕ, true, List, [], ◌∷◌, fold, map, sym, ap, ◌∙◌, subst}
-use Rattle.erm_model.specs.declared.outcome.Phase.TheVariants.{Active}
+use Rattle.std.proofs.Common.{◌≡◌, ℕ, true, List, [], ◌∷◌, fold, map, inl, inr, refl, sym, ap, ◌∙◌, subst}
+use Rattle.erm_model.specs.declared.outcome.Phase.TheVariants.{Active, Idle}
 use Rattle.erm_model.specs.History.{Makes}
 use Rattle.erm_model.specs.Member.{◌∈◌}
 use Rattle.erm_model.specs.Run.{Step}
@@ -22,7 +22,7 @@ use Rattle.erm_lines.specs.Executions.{said_in}
 use Rattle.erm_lines.specs.Told.{Continues}
 use Rattle.erm_lines_at_once.specs.Executions.{IsRunAtOnce, all_moves}
 use Rattle.erm_lines_at_once.specs.Laws.{RunsAtOnceTell}
-use Rattle.erm_told.proofs.Executed.{hears, still_session}
+use Rattle.erm_told.proofs.Executed.{hears, knows_start, still_session}
 use Rattle.erm_told.proofs.Going.{continues_itself}
 use Rattle.erm_told_at_once.proofs.Runs.{all_say, close_of}
 use Rattle.erm_causes.proofs.Quiet.{idle_with}
@@ -43,13 +43,10 @@ use Rattle.erm_tight_at_once.proofs.Walked.{run_marks}
 
 -- with their versions bounded
 marked_over : (ts : List Transaction) (gs : List Finished) → MarksOver ts gs → ((g : Finished) → g ∈ gs → IsBounded g.work g.fate) → MarkedOver ts gs
-marked_over [] [] marks bounds = tt
-marked_over [] (g ∷ gs) marks bounds = absurd marks
-marked_over (t ∷ ts) [] marks bounds = absurd marks
-marked_over (t ∷ ts) (g ∷ gs) marks bounds = (
-  record { marks = marks.0; bounded = bounds g (∈-head g gs) },
-  marked_over ts gs marks.1 (λ h m. bounds h (∈-behind g gs h m)),
-)
+marked_over ts [] marks bounds = marks
+marked_over ts (g ∷ gs) (inl (u, us, is, number, one, rest)) bounds =
+    inl (u, us, is, number, record { marks = one; bounded = bounds g (∈-head g gs) }, marked_over us gs rest (λ h m. bounds h (∈-behind g gs h m)))
+marked_over ts (g ∷ gs) (inr (aborts, rest)) bounds = inr (aborts, marked_over ts gs rest (λ h m. bounds h (∈-behind g gs h m)))
 
 never_sealed : (stand : Stand) (w : Work) (stamp : ℕ) → stand ≡ world.idle → stand ≡ world.sealed w stamp → ⊥
 never_sealed stand w stamp idle sealed = let no : world.idle ≡ world.sealed w stamp = sym idle ∙ sealed in cc
@@ -73,7 +70,7 @@ module _ (keys : KeyLaws) (laws : Laws) (histories : HistoryLaws) (begun : (numb
   goes_last seat session = let part = run.own seat session in continues_itself (part.last.session seat) (f.session seat) (sym part.ends)
 
   first_marks : (seat : ℕ) → IsSession v seat → AreMarks nothing (v.session seat)
-  first_marks seat session = subst (λ (s : Session). AreMarks nothing s) (sym (run.opened.idle seat session)) (record { over = tt; now = tt })
+  first_marks seat session = subst (λ (s : Session). AreMarks nothing s) (sym (run.opened.idle seat session)) (record { over = refl; now = tt })
 
   -- each session's transactions, as they are told
   marks : (seat : ℕ) → IsSession f seat → AreMarks (progress_of seat said) (f.session seat)
@@ -81,7 +78,8 @@ module _ (keys : KeyLaws) (laws : Laws) (histories : HistoryLaws) (begun : (numb
       let first = session_first seat session in
       let part = run.own seat first in
       let range = lines_range script answers (map close_of closed) run.ranges (closes_range closed) in
-      let all = run_marks keys laws begun stay f seat session holds (all_moves script answers closed) nothing v part.last part.run range (goes_last seat first) (first_marks seat first) in
+      let all = run_marks keys laws begun stay f seat session holds (all_moves script answers closed) nothing Idle v part.last part.run range (goes_last seat first)
+      (knows_start v seat (run.opened.idle seat first)) (first_marks seat first) in
       subst (λ (list : List Said). AreMarks (progress_of seat list) (f.session seat)) (all_say script answers closed)
       (subst (λ (s : Session). AreMarks (fold (hears seat) nothing (said_in (all_moves script answers closed))) s) part.ends all)
 
