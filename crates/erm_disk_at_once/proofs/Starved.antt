@@ -52,8 +52,10 @@ no_commits names script =
 -- and nothing is owed
 nothing_owed : (opening : Opening) (whole : List ScriptLine) (told : List Transaction) → told ≡ [] → OwesWhenStarved opening whole [] [] told
 nothing_owed opening whole told none = record {
-  phases = record { fits = λ i l a at answered. absurd (cc) };
+  phases = record { fits = λ i l a at answered. absurd (cc); snapshots = λ i l a at answered. absurd (cc) };
   snapshots = λ t m. absurd (none_in_nil t (subst (λ (ts : List Transaction). t ∈ ts) none m));
+  safe = λ session begin s m. absurd (none_in_nil s m);
+  looks = λ session begin s m. absurd (none_in_nil s m);
   refusals = λ i l a at answered own. absurd (cc);
   reads = λ i l at answered t own. absurd (cc);
 }
