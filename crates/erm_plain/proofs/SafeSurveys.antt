@@ -29,7 +29,7 @@ use Rattle.erm_machine.specs.Words.{begin_of, is_session}
 use Rattle.erm_machine.proofs.Backs.{session_from}
 use Rattle.erm_machine.proofs.Guards.{either_way}
 use Rattle.erm_world.specs.declared.stops.SafeStop.TheVariants as safe
-use Rattle.erm_world.specs.Safe.{DidNotSafe, DidSafe, IsBefore, IsSafeIn, WentBack}
+use Rattle.erm_world.specs.Safe.{DidNotSafe, DidSafe, HasSafeStamps, IsBefore, IsSafeIn, WentBack}
 use Rattle.erm_world.specs.World.{IsSession, Session, Snapshot, Work, history_of, phase_at, phase_of, work_at}
 use Rattle.erm_world.specs.World as world
 use Rattle.erm_world.proofs.Commits.{tells_commits}
@@ -48,7 +48,7 @@ use Rattle.erm_core_steps.specs.Steps.{IsTaken}
 use Rattle.erm_core_steps.proofs.Aborts.{abort_done, session_plain}
 use Rattle.erm_core_steps.proofs.Quiet.{session_of_few}
 use Rattle.erm_plain.specs.Snapshots.{IsPendingOrSafe, OnlyLooks, PassesOn, is_late, is_surveying, next_session}
-use Rattle.erm_plain.proofs.SafeLooks.{Looked, looked, looks_active, looks_become, looks_begin, looks_both, looks_quiet, looks_unseen, snapshot_begins, snapshot_cleared, snapshot_shows}
+use Rattle.erm_plain.proofs.SafeLooks.{Looked, looked, looks_active, looks_become, looks_begin, looks_both, looks_quiet, looks_unseen, safe_seat, snapshot_begins, snapshot_cleared, snapshot_shows}
 
 -- THE BEGIN WORD of a session.
 abbrev pub surveyed : Core → (seat next : ℕ) → Task
@@ -221,7 +221,7 @@ working_late (Active tail) u t w b begun working =
 working_late (Sealed tail stamp) u t w b begun working = subst (λ (v : Work). b ≤ v.begin) working (begun tt)
 working_late _ u t w b begun working = absurd working
 
-pub safe_in : (sessions seat : ℕ) (c : Core) → Sound c → IsQuiet sessions c → is_safe (c.seats seat).task ≡ true → IsSafeIn (view_of sessions c) (c.seats seat).current.begin
+safe_in : (sessions seat : ℕ) (c : Core) → Sound c → IsQuiet sessions c → is_safe (c.seats seat).task ≡ true → IsSafeIn (view_of sessions c) (c.seats seat).current.begin
 safe_in sessions seat c sound quiet is =
     let b : ℕ = (c.seats seat).current.begin in
     let passed = safe_passes c seat sound is in
@@ -232,6 +232,13 @@ safe_in sessions seat c sound quiet is =
           let y = c.seats q in
           working_late y.place y.task y.current w b (passed.sessions q (session_of_few sessions q c quiet session.0 session.1)).begun working;
     }
+
+-- so each safe snapshot of a world between two calls stands on a safe stamp
+pub safe_stamps : (sessions : ℕ) (c : Core) → Sound c → IsQuiet sessions c → HasSafeStamps (view_of sessions c)
+safe_stamps sessions c sound quiet seat session shows =
+    let x = c.seats seat in
+    let at = safe_seat sessions seat c quiet session shows in
+    subst (IsSafeIn (view_of sessions c)) (sym (snapshot_begins x.place x.task x.current at.active)) (safe_in sessions seat c sound quiet at.safe)
 
 pub safe_done : (sessions seat next : ℕ) (b c : Core) → Sound c → IsQuiet sessions c → is_session seat ≡ true → is_active (b.seats seat).place ≡ true
     → (b.seats seat).task ≡ task.Surveys next → OnlyLooks seat b c → (c.seats seat).task ≡ task.Safe → DidSafe (view_of sessions b) seat (view_of sessions c)

@@ -3,6 +3,7 @@ use Rattle.erm_model.specs.RowTransaction.{Law}
 use Rattle.erm_sound.specs.Kept.{SoundUnder}
 use Rattle.erm_world.specs.Laws.{IsPossibleIn, IsSerializable}
 use Rattle.erm_world.specs.Log.{IsLog}
+use Rattle.erm_world.specs.Safe.{HasSafeStamps}
 use Rattle.erm_world.specs.Whole.{IsLogOf}
 use Rattle.erm_world.specs.World.{View}
 use Rattle.erm_core.specs.Cores.{core_of}
@@ -24,5 +25,6 @@ pub record IsWorld {L : Type 0} (law : Law) (p : Plain L) : Type 0 where
   pub stands : Stands law p
   pub serializable : IsSerializable law (plain_view p)
   pub possible : IsPossibleIn law (plain_view p)
+  pub safe_stamps : HasSafeStamps (plain_view p)
   pub log : IsLog law.meets (log_of p.sessions (core_of p.state))
   pub log_of_view : IsLogOf (plain_view p) (log_of p.sessions (core_of p.state))

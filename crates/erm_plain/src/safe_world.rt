@@ -28,4 +28,6 @@ impl<L: RowLaw> SafeWorld for Plain<L> {
         standing_worlds_have_laws::<L>();
         self.end_safe(seat)
     }
+
+    ghost safe_stamps = { λ p world. world.safe_stamps };
 }

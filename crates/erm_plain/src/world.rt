@@ -7,8 +7,8 @@ use erm_model::{Oid, Outcome, Phase, Receipt, Row, RowLaw, RowStop, Seat, Stamp}
 use erm_world::{BeginStop, NotFlushed, RowWorld, Wait};
 
 /// A world that stands between two calls has what each world of sessions has: its commits are serializable, each of its
-/// transactions is possible, and its log is a log, that of its view; and the law of its rows looks at objects that there may be
-/// alone.
+/// transactions is possible, each safe snapshot stands on a safe stamp, and its log is a log, that of its view; and the law of its
+/// rows looks at objects that there may be alone.
 pub fn standing_worlds_have_laws<L: RowLaw>()
     ensures { (p : Plain L) → Stands L.law p → IsWorld L.law p }
 {

@@ -2,8 +2,8 @@
 use Rattle.std.proofs.Common.{ℕ, ap}
 use Rattle.erm_world.specs.declared.stops.SafeStop.{SafeStop}
 use Rattle.erm_world.specs.declared.stops.SafeStop.TheVariants as safe
-use Rattle.erm_world.specs.Safe.{DidBeginSafe, DidNotSafe, DidSafe, IsBefore, IsSafeIn, WentBack}
-use Rattle.erm_world.specs.World.{View}
+use Rattle.erm_world.specs.Safe.{DidBeginSafe, DidNotSafe, DidSafe, HasSafeStamps, IsBefore, IsSafeIn, WentBack}
+use Rattle.erm_world.specs.World.{View, work_at}
 use Rattle.erm_table_world.proofs.Cuts.{became, cut}
 
 module _ (n : ℕ) where
@@ -12,6 +12,9 @@ module _ (n : ℕ) where
 
   safe_in : (v : View) (bound : ℕ) → IsSafeIn v bound → IsSafeIn (cut n v) bound
   safe_in v bound is = record { past = is.past; history = is.history; begins = λ q w here working. is.begins q w here working }
+
+  pub has_safe_stamps : (v : View) → HasSafeStamps v → HasSafeStamps (cut n v)
+  has_safe_stamps v has seat session shows = safe_in v (work_at v seat).begin (has seat session shows)
 
   pub did_safe : (v t : View) (seat : ℕ) → DidSafe v seat t → DidSafe (cut n v) seat (cut n t)
   did_safe v t seat did = (did.0, did.1, became n v t seat _ did.2, safe_in t _ did.3)

@@ -1,6 +1,8 @@
 -- A snapshot's look at the other sessions, as the world shows it.
 use Rattle.std.proofs.Common.{◌≡◌, ◌≢◌, ⊎_elim, ℕ, ◌<◌, ◌≤◌, Bool, true, false, ◌||◌, eqb, leb, List, [], refl, sym, ap, ◌∙◌, subst, arith}
+use Rattle.std.specs.Prelude.{if◌then◌else◌}
 use Rattle.std.proofs.lemmas.Bool.{cases_lt, eqb-false, leb-false}
+use Rattle.erm_model.specs.declared.outcome.Phase.TheVariants.{Safe}
 use Rattle.erm_model.specs.History.{History}
 use Rattle.erm_model.specs.Member.{◌∈◌}
 use Rattle.erm_model.specs.RowTransaction.{Law}
@@ -39,8 +41,8 @@ use Rattle.erm_seats.specs.Safe.{sees_late, DidSurvey, TookWaitFor, WaitsFor}
 use Rattle.erm_session.specs.Safe.{TookUnsafeEnd}
 use Rattle.erm_world.specs.Calls.{DidAbort}
 use Rattle.erm_world.specs.declared.stops.SafeStop.TheVariants as safe
-use Rattle.erm_world.specs.Safe.{DidNotSafe, DidSafe, IsSafeIn, with_snapshot}
-use Rattle.erm_world.specs.World.{IsSession, IsWorking, Snapshot, View, Work, work_at}
+use Rattle.erm_world.specs.Safe.{DidNotSafe, DidSafe, HasSafeStamps, IsSafeIn, with_snapshot}
+use Rattle.erm_world.specs.World.{IsSession, IsWorking, Snapshot, View, Work, phase_of, work_at}
 use Rattle.erm_world.specs.World as world
 use Rattle.erm_table_world.specs.Stands.{StandsAt}
 use Rattle.erm_table_world.proofs.Aborting.{aborted}
@@ -131,6 +133,23 @@ active_begins _ u t e = absurd (cc)
 
 pub begin_shown : (sessions seat : ℕ) (c : Core) → is_active (c.seats seat).place ≡ true → (work_at (view_of sessions c) seat).begin ≡ (c.seats seat).current.begin
 begin_shown sessions seat c active = active_begins (c.seats seat).place (c.seats seat).task (c.seats seat).current active
+
+-- A SAFE SNAPSHOT stands on a safe stamp: a session that shows one has one.
+safe_if : (b safe : Bool) (t : Attempt)
+    → phase_of (if b then world.snapshot (record { number = t.number; begin = t.begin; is_safe = safe }) else world.active (work_of t)) ≡ Safe → safe ≡ true
+safe_if true true t e = refl
+safe_if true false t e = absurd (cc)
+safe_if false safe t e = absurd (cc)
+
+safe_there : (pl : Place) (u : Task) (t : Attempt) → phase_of (stand_of pl u t) ≡ Safe → (is_active pl ≡ true) × (is_safe u ≡ true)
+safe_there (Active tail) u t e = (refl, safe_if (is_snapshot u) (is_safe u) t e)
+safe_there _ u t e = absurd (cc)
+
+pub safe_stamps : (sessions : ℕ) (c : Core) → Sound c → IsQuiet sessions c → HasSafeStamps (view_of sessions c)
+safe_stamps sessions c sound quiet seat session shows =
+    let x = c.seats seat in
+    let at = safe_there x.place x.task x.current shows in
+    subst (IsSafeIn (view_of sessions c)) (sym (begin_shown sessions seat c at.0)) (safe_in sessions seat c sound quiet at.1)
 
 module _ (law : Law) (sessions seat : ℕ) (b : Book) (at : StandsAt law sessions b) (one : is_session seat ≡ true) (seated : is_seat seat ≡ true)
     (active : is_active ((core_of b).seats seat).place ≡ true) (next : ℕ) (looks : ((core_of b).seats seat).task ≡ task.Surveys next) where

@@ -20,6 +20,7 @@ use Rattle.erm_table_world.specs.Covered.{IsCovered}
 use Rattle.erm_table_world.specs.Flusher.{pin_in, task_in}
 use Rattle.erm_world.specs.Laws.{IsPossibleIn, IsSerializable}
 use Rattle.erm_world.specs.Log.{IsLog, Log}
+use Rattle.erm_world.specs.Safe.{HasSafeStamps}
 use Rattle.erm_world.specs.Whole.{IsLogOf}
 use Rattle.erm_world.specs.World.{View}
 use Rattle.erm_table_world.specs.declared.table_world.TableWorld.{TableWorld}
@@ -87,5 +88,6 @@ pub record IsTableWorld {L : Type 0} (law : Law) (w : TableWorld L) : Type 0 whe
   pub stands : Stands law w
   pub serializable : IsSerializable law (world_view w)
   pub possible : IsPossibleIn law (world_view w)
+  pub safe_stamps : HasSafeStamps (world_view w)
   pub log : IsLog law.meets (table_log w)
   pub log_of_view : IsLogOf (world_view w) (table_log w)

@@ -28,4 +28,6 @@ impl<L: RowLaw> SafeWorld for TableWorld<L> {
         standing_worlds_have_laws::<L>();
         self.end_safe(seat)
     }
+
+    ghost safe_stamps = { λ w world. world.safe_stamps };
 }

@@ -6,7 +6,7 @@ use erm_model::{Oid, Outcome, Phase, Receipt, Row, RowLaw, RowStop, Seat, Stamp}
 use erm_world::{BeginStop, NotFlushed, RowWorld, Wait};
 
 /// A world that stands between two calls has what each world of sessions has: its commits are serializable, each of its
-/// transactions is possible, and its log is a log, that of its view.
+/// transactions is possible, each safe snapshot stands on a safe stamp, and its log is a log, that of its view.
 pub fn standing_worlds_have_laws<L: RowLaw>()
     ensures { (w : TableWorld L) → Stands L.law w → IsTableWorld L.law w }
 {

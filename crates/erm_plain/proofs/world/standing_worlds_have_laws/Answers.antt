@@ -1,6 +1,7 @@
 use Rattle.erm_plain.proofs.world.standing_worlds_have_laws.Goals as goal
 use Rattle.erm_core.specs.Cores.{core_of}
 use Rattle.erm_plain.specs.Stands.{plain_view}
+use Rattle.erm_plain.proofs.SafeSurveys.{safe_stamps}
 
 pub returns : goal.returns
 returns g c = λ p standing.
@@ -9,6 +10,7 @@ returns g c = λ p standing.
       stands = standing;
       serializable = serializable;
       possible = c.works_are_possible.ensures (plain_view p) serializable;
+      safe_stamps = safe_stamps p.sessions (core_of p.state) standing.sound.sound standing.quiet;
       log = c.states_have_logs.ensures.is p.sessions (core_of p.state) standing.sound standing.quiet;
       log_of_view = c.states_have_logs.ensures.of_view p.sessions (core_of p.state) standing.sound standing.quiet;
     }
