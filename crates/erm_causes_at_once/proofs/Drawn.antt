@@ -111,7 +111,7 @@ module _ (runs : (number begin : ℕ) → IsRunOf (world.begun number begin) [])
     seat_few : (seat bound : ℕ) → IsSession v seat → sealed_in bound (f.session seat) ≤ own_total draws_of seat (places_of script answers closed)
     seat_few seat bound session =
         let few = told_few seat session in
-        let over = over_few bound seat (progress_of seat (places_of script answers closed)).over (f.session seat).over (tells runs stay v f whole script answers closed run seat session).over in
+        let over = over_few bound seat (progress_of seat (places_of script answers closed)).over (progress_of seat (places_of script answers closed)).snapshots (f.session seat).over (tells runs stay v f whole script answers closed run seat session).over in
         omega (arith, few, over, now_few bound (f.session seat).stand)
 
     upto_few : (bound n : ℕ) → n ≤ v.opening.sessions → sealed_upto n f.session bound ≤ counted_upto draws_of n (places_of script answers closed)
@@ -140,11 +140,11 @@ module _ (runs : (number begin : ℕ) → IsRunOf (world.begun number begin) [])
     seat_fewer : (seat stamp : ℕ) → IsSession v seat → HasDrawn (f.session seat) stamp → sealed_in stamp (f.session seat) + 1 ≤ own_total draws_of seat (places_of script answers closed)
     seat_fewer seat stamp session (inl (g, m, is)) =
         let few = told_few seat session in
-        let over = over_fewer seat stamp (progress_of seat (places_of script answers closed)).over (f.session seat).over g (tells runs stay v f whole script answers closed run seat session).over m is in
+        let over = over_fewer seat stamp (progress_of seat (places_of script answers closed)).over (progress_of seat (places_of script answers closed)).snapshots (f.session seat).over g (tells runs stay v f whole script answers closed run seat session).over m is in
         omega (arith, few, over, now_few stamp (f.session seat).stand)
     seat_fewer seat stamp session (inr (w, sealed)) =
         let few = told_few seat session in
-        let over = over_few stamp seat (progress_of seat (places_of script answers closed)).over (f.session seat).over (tells runs stay v f whole script answers closed run seat session).over in
+        let over = over_few stamp seat (progress_of seat (places_of script answers closed)).over (progress_of seat (places_of script answers closed)).snapshots (f.session seat).over (tells runs stay v f whole script answers closed run seat session).over in
         omega (arith, few, over, none_below w stamp (f.session seat).stand sealed)
 
     upto_fewer : (seat stamp : ℕ) → 0 < seat → HasDrawn (f.session seat) stamp → (n : ℕ) → n ≤ v.opening.sessions → seat ≤ n

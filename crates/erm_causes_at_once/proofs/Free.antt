@@ -7,15 +7,19 @@ use Rattle.erm_report.specs.declared.answer.Answer.{Answer}
 use Rattle.erm_script.specs.declared.script.Command.{Command}
 use Rattle.erm_world.specs.World.{Fate, Finished, Session, Stand, View, Work, history_of, phase_of, stamp_of, work_of}
 use Rattle.erm_world.specs.World as world
+use Rattle.erm_world.specs.Snapshots.{snapshot_not_active}
 use Rattle.erm_maps.specs.Runs.{IsRunOf}
 use Rattle.erm_good_report.specs.Transactions.{Ending, Excludes, Progress, Transaction, ended, heard, with_ending, with_line}
-use Rattle.erm_causes.specs.Touched.{IsClosedBy, Touches}
+use Rattle.erm_causes.specs.Touched.{IsClosedBy, Together, Touches}
 use Rattle.erm_causes.proofs.Begun.{KeepBelow}
 use Rattle.erm_causes.proofs.Coloured.{KeepsTables}
 use Rattle.erm_causes.proofs.Fine.{touches_nothing, touches_same}
 use Rattle.erm_causes.proofs.Moves.{work_now}
 use Rattle.erm_causes.proofs.Operated.{EndsBy, GoesOnBy}
 use Rattle.erm_causes.proofs.Quiet.{HasNow, SameLines, SameNow}
+use Rattle.erm_causes.proofs.Snapshots.{LeavesNone}
+use Rattle.erm_causes.proofs.Together.{together_one_more, together_untold}
+use Rattle.erm_causes_at_once.proofs.Snapshots.{HasNoWork, Watches, ends, looks, watches}
 
 module _ (table : ℕ → ℕ) (f : View) where
   -- a work touches so and keeps to its tables
@@ -29,14 +33,12 @@ module _ (table : ℕ → ℕ) (f : View) where
     pub early : (succ pred : ℕ) → t.ending ≡ Excludes None succ pred → IsClosedBy (history_of f) g.work None succ pred
 
   abbrev pub FreeOver : List Transaction → List Finished → Type 0
-  FreeOver [] [] = Unit {0}
-  FreeOver [] (g ∷ gs) = ⊥
-  FreeOver (t ∷ ts) [] = ⊥
-  FreeOver (t ∷ ts) (g ∷ gs) = FreeOne t g × FreeOver ts gs
+  FreeOver ts gs = Together FreeOne ts gs
 
   -- the one in progress
   abbrev pub FreeNow : Option Transaction → Stand → Type 0
   FreeNow None world.idle = Unit {0}
+  FreeNow None (world.snapshot x) = Unit {0}
   FreeNow (Some t) (world.active w) = Stays t w × ((steps : List Step) × IsRunOf w steps)
   FreeNow (Some t) (world.sealed w stamp) = Stays t w
   FreeNow current stand = ⊥
@@ -44,12 +46,6 @@ module _ (table : ℕ → ℕ) (f : View) where
   pub record IsFree (p : Progress) (s : Session) : Type 0 where
     pub over : FreeOver p.over s.over
     pub now : FreeNow p.current s.stand
-
-  pub free_push : (ts : List Transaction) (gs : List Finished) (t : Transaction) (g : Finished) → FreeOver ts gs → FreeOne t g → FreeOver (ts ++ t ∷ []) (gs ++ g ∷ [])
-  free_push [] [] t g free one = (one, tt)
-  free_push [] (h ∷ gs) t g free one = absurd free
-  free_push (u ∷ ts) [] t g free one = absurd free
-  free_push (u ∷ ts) (h ∷ gs) t g free one = (free.0, free_push ts gs t g free.1 one)
 
   -- where no line changed
   stays_same : (t u : Transaction) (w : Work) → u.lines ≡ t.lines → Stays t w → Stays u w
@@ -86,7 +82,8 @@ module _ (table : ℕ → ℕ) (f : View) where
       record { told = t; is = refl; stays = subst (λ (x : Work). Stays t x) (work_now (world.active u) w has) now.0 }
   now_has (Some t) (world.sealed u stamp) w now has =
       record { told = t; is = refl; stays = subst (λ (x : Work). Stays t x) (work_now (world.sealed u stamp) w has) now }
-  now_has None (world.snapshot s) w now has = absurd now
+  now_has None (world.snapshot s) w now (inl active) = cc
+  now_has None (world.snapshot s) w now (inr (stamp, sealed)) = cc
   now_has (Some t) (world.snapshot s) w now has = absurd now
 
   -- one that is active
@@ -104,7 +101,7 @@ module _ (table : ℕ → ℕ) (f : View) where
   active_free (Some t) world.idle now active = absurd now
   active_free (Some t) (world.active w) now active = record { told = t; is = refl; stays = now.0; steps = now.1.0; run = now.1.1 }
   active_free (Some t) (world.sealed w stamp) now active = cc
-  active_free None (world.snapshot s) now active = absurd now
+  active_free None (world.snapshot s) now active = absurd (snapshot_not_active s active)
   active_free (Some t) (world.snapshot s) now active = absurd now
 
   -- an idle session has none
@@ -115,9 +112,17 @@ module _ (table : ℕ → ℕ) (f : View) where
   none_now (Some t) (world.sealed w stamp) now idle = cc
   none_now (Some t) (world.snapshot s) now idle = absurd now
 
+  -- nor has one without a transaction
+  pub none_free : (current : Option Transaction) (stand : Stand) → HasNoWork stand → FreeNow current stand → current ≡ None
+  none_free None stand rests now = refl
+  none_free (Some t) world.idle rests now = absurd now
+  none_free (Some t) (world.active w) rests now = absurd rests
+  none_free (Some t) (world.sealed w stamp) rests now = absurd rests
+  none_free (Some t) (world.snapshot s) rests now = absurd now
+
   -- QUIET MOVES, and what they leave of the session.
   pub begun_free : (p : Progress) (s : Session) (t : Transaction) (number begin : ℕ) → IsRunOf (world.begun number begin) [] → IsFree p s
-      → IsFree (record { over = p.over; current = Some t }) (record { over = s.over; stand = world.active (world.begun number begin) })
+      → IsFree (record p { current = Some t }) (record { over = s.over; stand = world.active (world.begun number begin) })
   begun_free p s t number begin run free = record { over = free.over; now = (λ keep. (touches_nothing table t number begin, λ rows sound fits are. are), ([], run)) }
 
   pub sealed_free : (p : Progress) (s : Session) (stamp : ℕ) → phase_of s.stand ≡ Active → IsFree p s → IsFree p (record { over = s.over; stand = world.sealed (work_of s.stand) stamp })
@@ -127,9 +132,9 @@ module _ (table : ℕ → ℕ) (f : View) where
         now = subst (λ (r : Option Transaction). FreeNow r (world.sealed (work_of s.stand) stamp)) (sym at.is) at.stays;
       }
 
-  pub done_free : (p : Progress) (s : Session) (w : Work) (fate : Fate) (ending : Ending) → HasNow s.stand w → ((succ pred : ℕ) → ending ≡ Excludes None succ pred → ⊥) → IsFree p s
-      → IsFree (ended ending p) (record { over = s.over ++ record { work = w; fate = fate } ∷ []; stand = world.idle })
-  done_free p s w fate ending has none free =
+  pub done_free : (p : Progress) (s : Session) (w : Work) (fate : Fate) (ending : Ending) → HasNow s.stand w → ((succ pred : ℕ) → ending ≡ Excludes None succ pred → ⊥)
+      → ((told : Transaction) → p.current ≡ Some told → told.number ≡ w.number) → IsFree p s → IsFree (ended ending p) (record { over = s.over ++ record { work = w; fate = fate } ∷ []; stand = world.idle })
+  done_free p s w fate ending has none number free =
       let now = now_has p.current s.stand w free.now has in
       let one : FreeOne (with_ending ending now.told) (record { work = w; fate = fate }) = record {
         touches = λ keep. touches_same table now.told (with_ending ending now.told) w refl (now.stays keep).0;
@@ -138,9 +143,36 @@ module _ (table : ℕ → ℕ) (f : View) where
       } in
       record {
         over = subst (λ (r : Option Transaction). FreeOver (p.over ++ option_to_list (option_map (with_ending ending) r)) (s.over ++ record { work = w; fate = fate } ∷ []))
-            (sym now.is) (free_push p.over s.over (with_ending ending now.told) (record { work = w; fate = fate }) free.over one);
+            (sym now.is)
+            (together_one_more FreeOne p.over s.over (with_ending ending now.told) (record { work = w; fate = fate }) free.over (number now.told now.is) one);
         now = tt;
       }
+
+  -- a session without a transaction
+  none_left : (p q : Progress) (over : List Finished) (stand : Stand) → q.over ≡ p.over → q.current ≡ None → HasNoWork stand → FreeOver p.over over → IsFree q (record { over = over; stand = stand })
+  none_left p q over stand same none rests free = record {
+    over = subst (λ (ts : List Transaction). FreeOver ts over) (sym same) free;
+    now = subst (λ (o : Option Transaction). FreeNow o stand) (sym none) (there stand rests);
+  }
+    where
+      there : (at : Stand) → HasNoWork at → FreeNow None at
+      there world.idle rests = tt
+      there (world.active w) rests = absurd rests
+      there (world.sealed w stamp) rests = absurd rests
+      there (world.snapshot x) rests = tt
+
+  pub watched_free : (seat : ℕ) (asked : Option Command) (a : Answer) (p : Progress) (s t : Session) → HasNoWork s.stand → Watches s t → LeavesNone asked a → IsFree p s → IsFree (heard seat asked a p) t
+  watched_free seat asked a p s t rests (looks is) hears free =
+      let heard_is = hears seat p (none_free p.current s.stand rests free.now) in
+      subst (λ (r : Session). IsFree (heard seat asked a p) r) (sym is) (none_left p (heard seat asked a p) s.over s.stand heard_is.0 heard_is.1 rests free.over)
+  watched_free seat asked a p s t rests (watches x is) hears free =
+      let heard_is = hears seat p (none_free p.current s.stand rests free.now) in
+      subst (λ (r : Session). IsFree (heard seat asked a p) r) (sym is) (none_left p (heard seat asked a p) s.over (world.snapshot x) heard_is.0 heard_is.1 tt free.over)
+  watched_free seat asked a p s t rests (ends number begin is) hears free =
+      let heard_is = hears seat p (none_free p.current s.stand rests free.now) in
+      let g : Finished = record { work = world.begun number begin; fate = world.aborts } in
+      subst (λ (r : Session). IsFree (heard seat asked a p) r) (sym is)
+      (none_left p (heard seat asked a p) (s.over ++ g ∷ []) world.idle heard_is.0 heard_is.1 tt (together_untold FreeOne p.over s.over g free.over refl))
 
   -- LINES that name a table: the transaction goes on, or ends.
   pub went_free : (seat : ℕ) (c : Command) (a : Answer) (p : Progress) (s t : Session) (told : Transaction) → GoesOnBy a → p.current ≡ Some told → t.over ≡ s.over
@@ -154,8 +186,8 @@ module _ (table : ℕ → ℕ) (f : View) where
 
   pub out_free : (seat : ℕ) (c : Command) (a : Answer) (p : Progress) (s : Session) (told : Transaction) (w : Work) (ending : Ending) → EndsBy a ending → p.current ≡ Some told
       → (KeepBelow table f w.begin → Touches table (with_line (Some c) a told) w) → ((succ pred : ℕ) → ending ≡ Excludes None succ pred → IsClosedBy (history_of f) w None succ pred)
-      → IsFree p s → IsFree (heard seat (Some c) a p) (record { over = s.over ++ record { work = w; fate = world.aborts } ∷ []; stand = world.idle })
-  out_free seat c a p s told w ending hears is touches early free =
+      → told.number ≡ w.number → IsFree p s → IsFree (heard seat (Some c) a p) (record { over = s.over ++ record { work = w; fate = world.aborts } ∷ []; stand = world.idle })
+  out_free seat c a p s told w ending hears is touches early number free =
       let t = with_line (Some c) a told in
       let g : Finished = record { work = w; fate = world.aborts } in
       let one : FreeOne (with_ending ending t) g = record {
@@ -165,6 +197,6 @@ module _ (table : ℕ → ℕ) (f : View) where
       } in
       subst (λ (q : Progress). IsFree q (record { over = s.over ++ g ∷ []; stand = world.idle })) (sym (hears seat (Some c) p)) (record {
         over = subst (λ (r : Option Transaction). FreeOver (p.over ++ option_to_list (option_map (with_ending ending) (option_map (with_line (Some c) a) r))) (s.over ++ g ∷ []))
-            (sym is) (free_push p.over s.over (with_ending ending t) g free.over one);
+            (sym is) (together_one_more FreeOne p.over s.over (with_ending ending t) g free.over number one);
         now = tt;
       })

@@ -12,14 +12,15 @@ use Rattle.erm_script.specs.declared.script.Command.{Command}
 use Rattle.erm_script.specs.declared.script.Command.TheVariants as command
 use Rattle.erm_script.specs.declared.script.ScriptLine.{ScriptLine}
 use Rattle.erm_world.specs.World.{GivenUp, Session, View, phase_at, work_of}
-use Rattle.erm_good_report.specs.Phases.{refusal_of}
+use Rattle.erm_good_report.specs.Phases.{HasNoSnapshot, refusal_of}
 use Rattle.erm_good_report.specs.Transactions.{table_of}
 use Rattle.erm_lines.specs.Operations.{AsksOf, FrontOf}
 use Rattle.erm_beside.specs.Calls.{After, RefusedBeside}
-use Rattle.erm_lines_at_once.specs.Answers.{DidAskedBeside, DidCloseBeside, DidCommandBeside, DidCommitBeside, DidDecideBeside, DidEndBeside, DidLineBeside}
+use Rattle.erm_lines_at_once.specs.Answers.{DidAskSafeBeside, DidAskedBeside, DidCloseBeside, DidCommandBeside, DidCommitBeside, DidDecideBeside, DidEndBeside, DidLineBeside, DidOfSnapshotBeside}
 use Rattle.erm_lines_at_once.specs.Operations.{DidOnce, DidOperationBeside, WasTried, WereCutBeside, told_at_once}
+use Rattle.erm_lines_at_once.proofs.Watched.{in_phase}
 use Rattle.erm_causes.proofs.Operated.{GoesOnBy}
-use Rattle.erm_causes.proofs.Quiet.{wants_active}
+use Rattle.erm_causes.proofs.Waits.{named_active}
 
 -- the claims given up stay
 abbrev pub SameGiven : ℕ → View → View → Type 0
@@ -117,6 +118,12 @@ module _ (f : View) (seat : ℕ) where
   decided_same (answer.Excluded stamp succ pred) v t (u, passes, (w, own, stand, settled)) = at_seat seat u t settled.0.given_up ∙ passes.given_up
   decided_same a v t did = absurd did
 
+  -- a snapshot that was asked whether it is safe
+  asked_same : (a : Answer) (v t : View) → DidAskSafeBeside f seat a v t → SameGiven seat v t
+  asked_same (answer.Safe stamp) v t ((u, passes, (y, at, now)), same, safe) = at_seat seat u t now.given_up ∙ passes.given_up
+  asked_same (answer.Unsafe other stamp) v t ((u, passes, did), met) = at_seat seat u t did.given_up ∙ passes.given_up
+  asked_same a v t did = absurd did
+
   module _ (v t : View) where
     begun_same : (a : Answer) → DidCommandBeside f seat command.Begin a v t → SameGiven seat v t
     begun_same (answer.Began begin) (u, passes, did) = at_seat seat u t did.2.given_up ∙ passes.given_up
@@ -146,32 +153,52 @@ module _ (f : View) (seat : ℕ) where
       | inr gave ↦ gives c k refl names active did gave
     ]
 
-    commanded : (c : Command) (a : Answer) → refusal_of (phase_at v seat) c ≡ None → DidCommandBeside f seat c a v t → LeavesGiven f seat (Some c) a v t
-    commanded command.Begin a free did = leaves (begun_same a did)
-    commanded command.Seal a free did = leaves (sealed_same a did)
-    commanded command.Settle a free did = leaves (decided_same a v t did)
-    commanded command.Commit a free did = leaves (commit_same a did)
-    commanded command.Abort a free did = leaves (aborted_same a did)
-    commanded command.Durable a free did = leaves (durable_same a did)
-    commanded command.Flush a free did = absurd did
-    commanded command.Checkpoint a free did = absurd did
-    commanded (command.Get k key) a free did = named_given (command.Get k key) a k refl (wants_active (phase_at v seat) free) did
-    commanded (command.Put k key value) a free did = named_given (command.Put k key value) a k refl (wants_active (phase_at v seat) free) did
-    commanded (command.Del k key) a free did = named_given (command.Del k key) a k refl (wants_active (phase_at v seat) free) did
-    commanded (command.Next k from) a free did = named_given (command.Next k from) a k refl (wants_active (phase_at v seat) free) did
-    commanded (command.Scan k low high) a free did = named_given (command.Scan k low high) a k refl (wants_active (phase_at v seat) free) did
-    commanded (command.Tidy k key) a free did = named_given (command.Tidy k key) a k refl (wants_active (phase_at v seat) free) did
+    safe_same : (a : Answer) → DidCommandBeside f seat command.Safe a v t → SameGiven seat v t
+    safe_same (answer.LogEnd tail) (u, passes, did) = at_view seat u t did.0 ∙ passes.given_up
+    safe_same answer.NumbersEnd (u, passes, did) = at_view seat u t did.0 ∙ passes.given_up
+    safe_same a did =
+        let (u, passes, began) = did.began in
+        asked_same a did.between t did.asked ∙ at_seat seat u did.between began.2.given_up ∙ passes.given_up
+
+    commanded : (c : Command) (a : Answer) → refusal_of (phase_at v seat) c ≡ None → HasNoSnapshot (phase_at v seat) → DidCommandBeside f seat c a v t → LeavesGiven f seat (Some c) a v t
+    commanded command.Begin a free plain did = leaves (begun_same a did)
+    commanded command.Safe a free plain did = leaves (safe_same a did)
+    commanded command.Seal a free plain did = leaves (sealed_same a did)
+    commanded command.Settle a free plain did = leaves (decided_same a v t did)
+    commanded command.Commit a free plain did = leaves (commit_same a did)
+    commanded command.Abort a free plain did = leaves (aborted_same a did)
+    commanded command.Durable a free plain did = leaves (durable_same a did)
+    commanded command.Flush a free plain did = absurd did
+    commanded command.Checkpoint a free plain did = absurd did
+    commanded (command.Get k key) a free plain did = named_given (command.Get k key) a k refl (named_active (phase_at v seat) (command.Get k key) k refl plain free) did
+    commanded (command.Put k key value) a free plain did = named_given (command.Put k key value) a k refl (named_active (phase_at v seat) (command.Put k key value) k refl plain free) did
+    commanded (command.Del k key) a free plain did = named_given (command.Del k key) a k refl (named_active (phase_at v seat) (command.Del k key) k refl plain free) did
+    commanded (command.Next k from) a free plain did = named_given (command.Next k from) a k refl (named_active (phase_at v seat) (command.Next k from) k refl plain free) did
+    commanded (command.Scan k low high) a free plain did = named_given (command.Scan k low high) a k refl (named_active (phase_at v seat) (command.Scan k low high) k refl plain free) did
+    commanded (command.Tidy k key) a free plain did = named_given (command.Tidy k key) a k refl (named_active (phase_at v seat) (command.Tidy k key) k refl plain free) did
+
+    watched_same : (c : Command) (a : Answer) → DidOfSnapshotBeside f seat c a v t → SameGiven seat v t
+    watched_same command.Safe a did = asked_same a v t did
+    watched_same (command.Get table key) (answer.Replied r) did = did.passes.given_up
+    watched_same (command.Next table from) (answer.Replied r) did = did.passes.given_up
+    watched_same (command.Scan table low high) (answer.Replied r) did = did.passes.given_up
+    watched_same command.Commit answer.Ended (u, passes, did) = at_seat seat u t did.given_up ∙ passes.given_up
+    watched_same command.Abort answer.Aborted (u, passes, did) = at_seat seat u t did.given_up ∙ passes.given_up
+    watched_same command.Durable (answer.Durable stamp) (u, passes, did) = at_view seat u t did.0 ∙ passes.given_up
+    watched_same command.Durable answer.NoReceipt (u, passes, did) = at_view seat u t did.0 ∙ passes.given_up
+    watched_same c a did = absurd did
 
     asked_given : (c : Command) (a : Answer) (r : Option Answer) → refusal_of (phase_at v seat) c ≡ r → DidAskedBeside r f seat c a v t → LeavesGiven f seat (Some c) a v t
-    asked_given c a None is did = commanded c a is did
+    asked_given c a None is did =
+        in_phase (LeavesGiven f seat (Some c) a v t) f seat c a v t (λ plain done. commanded c a is plain done) (λ has done. leaves (watched_same c a done)) did
     asked_given c a (Some refusal) is passes = leaves passes.given_up
 
     closed_same : (a : Answer) (phase : Phase) → DidCloseBeside phase seat a v t → SameGiven seat v t
     closed_same a Idle did = absurd did
     closed_same a Active (u, passes, did) = at_seat seat u t did.given_up ∙ passes.given_up
     closed_same a Sealed did = decided_same a v t did
-    closed_same a Pending did = absurd did
-    closed_same a Safe did = absurd did
+    closed_same a Pending (u, passes, did) = at_seat seat u t did.given_up ∙ passes.given_up
+    closed_same a Safe (u, passes, did) = at_seat seat u t did.given_up ∙ passes.given_up
 
 pub line_given : (f : View) (l : ScriptLine) (a : Answer) (v t : View) → DidLineBeside f l a v t → LeavesGiven f l.session (Some l.command) a v t
 line_given f l a v t did = asked_given f l.session v t l.command a (refusal_of (phase_at v l.session) l.command) refl did.did

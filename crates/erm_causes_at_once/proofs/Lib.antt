@@ -3,12 +3,14 @@ pub mod Drawn
 pub mod Free
 pub mod GivenUp
 pub mod Line
+pub mod Numbers
 pub mod Operation
 pub mod Own
 pub mod Quieted
 pub mod Reach
 pub mod Refused
 pub mod Sealed
+pub mod Snapshots
 pub mod Still
 pub mod Tabled
 pub mod Totals

@@ -1,5 +1,5 @@
 -- What a line of a session that names a table leaves of it, and what a refusal of it asked for.
-use Rattle.std.proofs.Common.{◌≡◌, ℕ, zero, suc, ◌<◌, false, List, [], ◌∷◌, ◌++◌, Some, sum_by, refl, sym, ap, ◌∙◌, subst, arith}
+use Rattle.std.proofs.Common.{◌≡◌, ℕ, zero, suc, ◌<◌, false, List, [], ◌∷◌, ◌++◌, Some, inl, sum_by, refl, sym, ap, ◌∙◌, subst, arith}
 use Rattle.erm_model.specs.declared.outcome.Phase.TheVariants.{Active}
 use Rattle.erm_model.specs.declared.row_stop.RowStop.{RowStop}
 use Rattle.erm_model.specs.Lawful.{times_made}
@@ -16,18 +16,19 @@ use Rattle.erm_maps.specs.Runs.{IsRunOf}
 use Rattle.erm_good_report.specs.Causes.{WritesTable}
 use Rattle.erm_good_report.specs.Transactions.{Ending, Progress, Transaction, heard, table_of, with_line}
 use Rattle.erm_lines.specs.Operations.{AsksOf, DidCalls, FrontOf, WholeOf}
-use Rattle.erm_lines.specs.Told.{Continues}
+use Rattle.erm_lines.specs.Told.{Continues, TellsNow}
 use Rattle.erm_lines_at_once.specs.Operations.{Beside, DidOperationBeside, WasTried, WereCutBeside}
 use Rattle.erm_told.proofs.Going.{extends_itself}
 use Rattle.erm_causes.specs.Touched.{AreOfTables, Touches, WasClosed}
-use Rattle.erm_causes.proofs.Answered.{last_touches, shut_closed}
+use Rattle.erm_causes.proofs.Answered.{last_number, last_touches, shut_closed}
 use Rattle.erm_causes.proofs.Begun.{KeepBelow}
 use Rattle.erm_causes.proofs.Coloured.{AskedOf}
-use Rattle.erm_causes.proofs.Fine.{touches_more}
+use Rattle.erm_causes.proofs.Fine.{number_told, touches_more}
 use Rattle.erm_causes.proofs.Lines.{CutFine, lines_before, writes_line}
 use Rattle.erm_causes.proofs.Made.{made_over}
 use Rattle.erm_causes.proofs.Operated.{EndsBy, GoesOnBy, Last, ShutAs}
 use Rattle.erm_causes.proofs.Own.{TreeLaws}
+use Rattle.erm_causes.proofs.Quiet.{now_works}
 use Rattle.erm_told_limits.proofs.Ran.{active_with}
 use Rattle.erm_told_limits.proofs.Given.{HistoryLaws}
 use Rattle.erm_causes_at_once.proofs.Called.{IsOut, Kept, Once, calls_gone, cut_gone, cut_kept, cut_stays, kept_gone, kept_then, once_of, out, stayed, tried_kept, whole}
@@ -147,14 +148,17 @@ module _ (tree : TreeLaws) (laws : HistoryLaws) (table : ℕ → ℕ) (f : View)
         (behind.touches, behind.keeps))
         now.steps (cut.run stays now.steps run_at) free
 
-    ended_free : (w : Work) (ending : Ending) → Last cut.asked (work_at cut.at seat) w → IsOut (cut.at.session seat) w (u.session seat) → ShutAs ending f seat w → EndsBy a ending
+    ended_free : TellsNow seat p.current (v.session seat).stand → (w : Work) (ending : Ending) → Last cut.asked (work_at cut.at seat) w → IsOut (cut.at.session seat) w (u.session seat) → ShutAs ending f seat w → EndsBy a ending
         → IsFree table f (heard seat (Some c) a p) (u.session seat)
-    ended_free w ending last ended shut hears =
+    ended_free tells w ending last ended shut hears =
         let g : Finished = record { work = w; fate = world.aborts } in
+        let number : now.told.number ≡ w.number =
+        number_told seat p.current (v.session seat).stand first now.told tells (now_works (v.session seat).stand first (inl (active_with (v.session seat).stand active))) now.is
+        ∙ sym kept_cut.number ∙ sym (last_number cut.asked (work_at cut.at seat) w last) in
         subst (λ (s : Session). IsFree table f (heard seat (Some c) a p) s)
         (sym (ended ∙ ap (λ (gs : List Finished). record { over = gs ++ g ∷ []; stand = world.idle }) kept_cut.over))
         (out_free table f seat c a p (v.session seat) now.told w ending hears now.is (out_touches w last ended)
-        (λ succ pred is. subst (λ (e : Ending). WasClosed (history_of f) e w) is (shut_closed f f seat w ending (λ r m. m) shut)) free)
+        (λ succ pred is. subst (λ (e : Ending). WasClosed (history_of f) e w) is (shut_closed f f seat w ending (λ r m. m) shut)) number free)
 
   whole_free : (steps : List Step) → Beside seat (λ x y. DidCalls x seat steps (WholeOf c a) y) did.at u → GoesOnBy a → IsFree table f (heard seat (Some c) a p) (u.session seat)
   whole_free steps beside hears =
@@ -167,10 +171,10 @@ module _ (tree : TreeLaws) (laws : HistoryLaws) (table : ℕ → ℕ) (f : View)
       whole_on tree table f seat c a k named range now.told first steps did.at u kept.phase beside behind ahead)
       (now.steps ++ steps) (called_run seat c a steps did.at u beside now.steps run_at) free
 
-  once_free : Once f seat c a did.at u → IsFree table f (heard seat (Some c) a p) (u.session seat)
-  once_free (whole steps beside hears) = whole_free steps beside hears
-  once_free (stayed why cut stays hears) = stayed_free why cut stays hears
-  once_free (out why cut w ending told last ended shut hears) = ended_free why cut w ending last ended shut hears
+  once_free : TellsNow seat p.current (v.session seat).stand → Once f seat c a did.at u → IsFree table f (heard seat (Some c) a p) (u.session seat)
+  once_free tells (whole steps beside hears) = whole_free steps beside hears
+  once_free tells (stayed why cut stays hears) = stayed_free why cut stays hears
+  once_free tells (out why cut w ending told last ended shut hears) = ended_free why cut tells w ending last ended shut hears
 
-  pub operation_free : IsFree table f (heard seat (Some c) a p) (u.session seat)
-  operation_free = once_free (once_of f seat c did.at u a did.once)
+  pub operation_free : TellsNow seat p.current (v.session seat).stand → IsFree table f (heard seat (Some c) a p) (u.session seat)
+  operation_free tells = once_free tells (once_of f seat c did.at u a did.once)

@@ -8,24 +8,34 @@ use Rattle.erm_report.specs.declared.answer.Answer.TheVariants as answer
 use Rattle.erm_script.specs.declared.script.Command.{Command}
 use Rattle.erm_script.specs.declared.script.Command.TheVariants as command
 use Rattle.erm_script.specs.declared.script.ScriptLine.{ScriptLine}
+use Rattle.erm_world.specs.Calls.{DidAbort}
+use Rattle.erm_world.specs.Safe.{HasSnapshot}
 use Rattle.erm_world.specs.World.{Fate, Finished, Session, Stand, View, Work, made_in, phase_at, phase_of, work_at, work_of}
 use Rattle.erm_world.specs.World as world
 use Rattle.erm_maps.specs.Runs.{IsRunOf}
-use Rattle.erm_good_report.specs.Phases.{Closes, FitsRefusal, phase_asked, refusal_of}
+use Rattle.erm_good_report.specs.Phases.{Closes, FitsRefusal, HasNoSnapshot, NeedsAny, NeedsReader, NeedsWriter, need_of, refusal_of}
 use Rattle.erm_good_report.specs.Transactions.{Aborts, Commits, Ending, Excludes, Progress, Transaction, begun, ended, heard, nothing, table_of}
+use Rattle.erm_lines.specs.Told.{TellsNow}
+use Rattle.erm_lines.specs.Whole.{is_snapshot}
+use Rattle.erm_lines.proofs.Moved.{active_where}
+use Rattle.erm_lines.proofs.Watched.{idle_where, snapshot_there, start_where}
 use Rattle.erm_beside.specs.Calls.{Passes}
-use Rattle.erm_lines_at_once.specs.Answers.{DidAskedBeside, DidCloseBeside, DidCommandBeside, DidCommitBeside, DidDecideBeside, DidEndBeside, DidLineBeside}
+use Rattle.erm_lines_at_once.specs.Answers.{DidAskSnapshotBeside, DidAskedBeside, DidCloseBeside, DidCommandBeside, DidCommitBeside, DidDecideBeside, DidEndBeside, DidLineBeside}
 use Rattle.erm_lines_at_once.specs.Operations.{DidOperationBeside}
+use Rattle.erm_lines_at_once.proofs.Watched.{in_phase}
+use Rattle.erm_causes.proofs.Fine.{number_told}
 use Rattle.erm_causes.proofs.Made.{made_over}
 use Rattle.erm_causes.proofs.Moves.{work_now}
-use Rattle.erm_causes.proofs.Quiet.{DoneBy, HasNow, StillBy, idle_with, refusal_still, same_goes_on, seal_heard, wants_active, wants_idle}
+use Rattle.erm_causes.proofs.Quiet.{DoneBy, HasNow, StillBy, idle_with, now_works, refusal_still, same_goes_on, seal_heard}
+use Rattle.erm_causes.proofs.Snapshots.{LeavesNone, leaves_none}
 use Rattle.erm_told_limits.proofs.Ran.{active_with}
 use Rattle.erm_causes_at_once.proofs.Called.{Once, once_of, out, stayed, whole}
-use Rattle.erm_causes_at_once.proofs.Free.{IsFree, begun_free, done_free, same_free, sealed_free}
+use Rattle.erm_causes_at_once.proofs.Free.{IsFree, begun_free, done_free, same_free, sealed_free, watched_free}
+use Rattle.erm_causes_at_once.proofs.Snapshots.{HasNoWork, Watches, ended_bare, ends, idle_rests, line_none, line_watches, looks, snapshot_rests, starts_none, starts_watches, watches}
 
 -- an answer is heard as one that begins a transaction without lines
 abbrev pub FreshBy : Option Command → Answer → Type 0
-FreshBy asked a = (seat : ℕ) (p : Progress) → (t : Transaction) × (heard seat asked a p ≡ record { over = p.over; current = Some t }) × (t.lines ≡ [])
+FreshBy asked a = (seat : ℕ) (p : Progress) → (t : Transaction) × (heard seat asked a p ≡ record p { current = Some t }) × (t.lines ≡ [])
 
 pub data Quieted (asked : Option Command) (a : Answer) (s t : Session) : Type 0 where
   still : t ≡ s → StillBy asked a → Quieted asked a s t
@@ -33,8 +43,15 @@ pub data Quieted (asked : Option Command) (a : Answer) (s t : Session) : Type 0 
   seals : (stamp : ℕ) → phase_of s.stand ≡ Active → t ≡ record { over = s.over; stand = world.sealed (work_of s.stand) stamp } → StillBy asked a → Quieted asked a s t
   done : (w : Work) (fate : Fate) (ending : Ending) → HasNow s.stand w → t ≡ record { over = s.over ++ record { work = w; fate = fate } ∷ []; stand = world.idle }
       → ((succ pred : ℕ) → ending ≡ Excludes None succ pred → ⊥) → DoneBy asked a ending → Quieted asked a s t
+  watched : HasNoWork s.stand → Watches s t → LeavesNone asked a → Quieted asked a s t
 
 -- nothing is made by them
+none_made : (stand : Stand) (x : ℕ) → HasNoWork stand → times_made (work_of stand).made x ≡ 0
+none_made world.idle x rests = refl
+none_made (world.active w) x rests = absurd rests
+none_made (world.sealed w stamp) x rests = absurd rests
+none_made (world.snapshot y) x rests = refl
+
 pub quieted_made : (asked : Option Command) (a : Answer) (s t : Session) → Quieted asked a s t → (x : ℕ) → made_in t x ≡ made_in s x
 quieted_made asked a s t (still is hears) x = ap (λ (r : Session). made_in r x) is
 quieted_made asked a s t (begins number begin idle is hears) x =
@@ -44,22 +61,28 @@ quieted_made asked a s t (seals stamp active is hears) x = ap (λ (r : Session).
 quieted_made asked a s t (done w fate ending has is none hears) x =
     let same : times_made (work_of s.stand).made x ≡ times_made w.made x = ap (λ (y : Work). times_made y.made x) (work_now s.stand w has) in
     omega (arith, ap (λ (r : Session). made_in r x) is, made_over s.over w fate x, same)
+quieted_made asked a s t (watched rests (looks is) hears) x = ap (λ (r : Session). made_in r x) is
+quieted_made asked a s t (watched rests (watches y is) hears) x = omega (arith, ap (λ (r : Session). made_in r x) is, none_made s.stand x rests)
+quieted_made asked a s t (watched rests (ends number begin is) hears) x =
+    omega (arith, ap (λ (r : Session). made_in r x) is, made_over s.over (world.begun number begin) world.aborts x, none_made s.stand x rests)
 
 -- and what was touched stays so
 pub quieted_free : ((number begin : ℕ) → IsRunOf (world.begun number begin) []) → (table : ℕ → ℕ) (f : View) (seat : ℕ) (asked : Option Command) (a : Answer) (p : Progress) (s t : Session)
-    → Quieted asked a s t → IsFree table f p s → IsFree table f (heard seat asked a p) t
-quieted_free run table f seat asked a p s t (still is hears) free =
+    → TellsNow seat p.current s.stand → Quieted asked a s t → IsFree table f p s → IsFree table f (heard seat asked a p) t
+quieted_free run table f seat asked a p s t tells (still is hears) free =
     subst (λ (r : Session). IsFree table f (heard seat asked a p) r) (sym is) (same_free table f p (heard seat asked a p) s (hears seat p) free)
-quieted_free run table f seat asked a p s t (begins number begin idle is hears) free =
+quieted_free run table f seat asked a p s t tells (begins number begin idle is hears) free =
     let heard_is = hears seat p in
     subst (λ (q : Progress). IsFree table f q t) (sym heard_is.1)
-    (subst (λ (r : Session). IsFree table f (record { over = p.over; current = Some heard_is.0 }) r) (sym is)
+    (subst (λ (r : Session). IsFree table f (record p { current = Some heard_is.0 }) r) (sym is)
     (begun_free table f p s heard_is.0 number begin (run number begin) free))
-quieted_free run table f seat asked a p s t (seals stamp active is hears) free =
+quieted_free run table f seat asked a p s t tells (seals stamp active is hears) free =
     same_free table f p (heard seat asked a p) t (hears seat p) (subst (λ (r : Session). IsFree table f p r) (sym is) (sealed_free table f p s stamp active free))
-quieted_free run table f seat asked a p s t (done w fate ending has is none hears) free =
+quieted_free run table f seat asked a p s t tells (done w fate ending has is none hears) free =
     subst (λ (q : Progress). IsFree table f q t) (sym (hears seat p))
-    (subst (λ (r : Session). IsFree table f (ended ending p) r) (sym is) (done_free table f p s w fate ending has none free))
+    (subst (λ (r : Session). IsFree table f (ended ending p) r) (sym is)
+    (done_free table f p s w fate ending has none (λ told at. number_told seat p.current s.stand w told tells (now_works s.stand w has) at) free))
+quieted_free run table f seat asked a p s t tells (watched rests did hears) free = watched_free table f seat asked a p s t rests did hears free
 
 -- after others went on
 after_passes : (seat : ℕ) (asked : Option Command) (a : Answer) (v u t : View) → Passes seat v u → Quieted asked a (u.session seat) (t.session seat) → Quieted asked a (v.session seat) (t.session seat)
@@ -89,20 +112,27 @@ module _ (f : View) (seat : ℕ) (v t : View) where
   nothing_done : (c : Command) (a : Answer) (u : View) → Passes seat v u → t ≡ u → StillBy (Some c) a → Lined f seat (Some c) a v t
   nothing_done c a u passes is hears = quiet (still (ap (λ (x : View). x.session seat) is ∙ passes.own) hears)
 
-  begun_line : (a : Answer) → refusal_of (phase_at v seat) command.Begin ≡ None → DidCommandBeside f seat command.Begin a v t → Lined f seat (Some command.Begin) a v t
-  begun_line (answer.Began begin) free (u, passes, did) =
+  begun_line : (a : Answer) → phase_at v seat ≡ Idle → DidCommandBeside f seat command.Begin a v t → Lined f seat (Some command.Begin) a v t
+  begun_line (answer.Began begin) idle (u, passes, did) =
       quiet (after_passes seat (Some command.Begin) (answer.Began begin) v u t passes
-      (begins (length (u.session seat).over + 1) begin (idle_with (u.session seat).stand (phase_passed u passes ∙ wants_idle (phase_at v seat) free)) did.2.own (λ q p. (begun q begin p, refl, refl))))
-  begun_line (answer.LogEnd tail) free (u, passes, did) =
+      (begins (length (u.session seat).over + 1) begin (idle_with (u.session seat).stand (phase_passed u passes ∙ idle)) did.2.own (λ q p. (begun q begin p, refl, refl))))
+  begun_line (answer.LogEnd tail) idle (u, passes, did) =
       nothing_done command.Begin (answer.LogEnd tail) u passes did.0 (λ q p. same_goes_on (Some command.Begin) (answer.LogEnd tail) p refl)
-  begun_line answer.NumbersEnd free (u, passes, did) = nothing_done command.Begin answer.NumbersEnd u passes did.0 (λ q p. same_goes_on (Some command.Begin) answer.NumbersEnd p refl)
-  begun_line a free did = absurd did
+  begun_line answer.NumbersEnd idle (u, passes, did) = nothing_done command.Begin answer.NumbersEnd u passes did.0 (λ q p. same_goes_on (Some command.Begin) answer.NumbersEnd p refl)
+  begun_line a idle did = absurd did
 
-  sealed_line : (a : Answer) → refusal_of (phase_at v seat) command.Seal ≡ None → DidCommandBeside f seat command.Seal a v t → Lined f seat (Some command.Seal) a v t
-  sealed_line (answer.Sealed stamp) free (u, passes, did) =
+  safe_line : (a : Answer) → phase_at v seat ≡ Idle → DidAskSnapshotBeside f seat a v t → Lined f seat (Some command.Safe) a v t
+  safe_line (answer.LogEnd tail) idle (u, passes, did) =
+      nothing_done command.Safe (answer.LogEnd tail) u passes did.0 (λ q p. same_goes_on (Some command.Safe) (answer.LogEnd tail) p refl)
+  safe_line answer.NumbersEnd idle (u, passes, did) = nothing_done command.Safe answer.NumbersEnd u passes did.0 (λ q p. same_goes_on (Some command.Safe) answer.NumbersEnd p refl)
+  safe_line a idle did =
+      quiet (watched (idle_rests (v.session seat).stand (idle_with (v.session seat).stand idle)) (starts_watches f seat a v t did) (leaves_none (Some command.Safe) a (starts_none f seat a v t did)))
+
+  sealed_line : (a : Answer) → phase_at v seat ≡ Active → DidCommandBeside f seat command.Seal a v t → Lined f seat (Some command.Seal) a v t
+  sealed_line (answer.Sealed stamp) active (u, passes, did) =
       quiet (after_passes seat (Some command.Seal) (answer.Sealed stamp) v u t passes
-      (seals stamp (phase_passed u passes ∙ wants_active (phase_at v seat) free) did.own (λ q p. (refl, seal_heard p.current stamp))))
-  sealed_line a free did = absurd did
+      (seals stamp (phase_passed u passes ∙ active) did.own (λ q p. (refl, seal_heard p.current stamp))))
+  sealed_line a active did = absurd did
 
   aborts_now : (asked : Option Command) → phase_at v seat ≡ Active → (u : View) → Passes seat v u
       → t.session seat ≡ record { over = (u.session seat).over ++ record { work = work_at u seat; fate = world.aborts } ∷ []; stand = world.idle } → Quieted asked answer.Aborted (v.session seat) (t.session seat)
@@ -110,15 +140,15 @@ module _ (f : View) (seat : ℕ) (v t : View) where
       after_passes seat asked answer.Aborted v u t passes
       (done (work_at u seat) world.aborts Aborts (inl (active_with (u.session seat).stand (phase_passed u passes ∙ active))) own (λ s p is. cc) (λ q p. refl))
 
-  aborted_line : (a : Answer) → refusal_of (phase_at v seat) command.Abort ≡ None → DidCommandBeside f seat command.Abort a v t → Lined f seat (Some command.Abort) a v t
-  aborted_line answer.Aborted free (u, passes, did) = quiet (aborts_now (Some command.Abort) (wants_active (phase_at v seat) free) u passes did.own)
-  aborted_line a free did = absurd did
+  aborted_line : (a : Answer) → phase_at v seat ≡ Active → DidCommandBeside f seat command.Abort a v t → Lined f seat (Some command.Abort) a v t
+  aborted_line answer.Aborted active (u, passes, did) = quiet (aborts_now (Some command.Abort) active u passes did.own)
+  aborted_line a active did = absurd did
 
-  commit_line : (a : Answer) → refusal_of (phase_at v seat) command.Commit ≡ None → DidCommitBeside seat a v t → Lined f seat (Some command.Commit) a v t
-  commit_line a free did =
+  commit_line : (a : Answer) → phase_at v seat ≡ Active → DidCommitBeside seat a v t → Lined f seat (Some command.Commit) a v t
+  commit_line a active did =
       let (u, passes, sealed) = did.sealed in
       let own = subst (λ (s : Session). did.between.session seat ≡ record { over = s.over; stand = world.sealed (work_of s.stand) did.stamp }) passes.own sealed.own in
-      sealed_first did.stamp (did.between.session seat) (wants_active (phase_at v seat) free) own (decided seat (Some command.Commit) a did.between t did.decided)
+      sealed_first did.stamp (did.between.session seat) active own (decided seat (Some command.Commit) a did.between t did.decided)
 
   durable_line : (a : Answer) → DidCommandBeside f seat command.Durable a v t → Lined f seat (Some command.Durable) a v t
   durable_line (answer.Durable stamp) (u, passes, did) =
@@ -126,34 +156,44 @@ module _ (f : View) (seat : ℕ) (v t : View) where
   durable_line answer.NoReceipt (u, passes, did) = nothing_done command.Durable answer.NoReceipt u passes did.0 (λ q p. same_goes_on (Some command.Durable) answer.NoReceipt p refl)
   durable_line a did = absurd did
 
-  commanded : (c : Command) (a : Answer) → refusal_of (phase_at v seat) c ≡ None → DidCommandBeside f seat c a v t → Lined f seat (Some c) a v t
-  commanded command.Begin a free did = begun_line a free did
-  commanded command.Seal a free did = sealed_line a free did
-  commanded command.Settle a free did = quiet (decided seat (Some command.Settle) a v t did)
-  commanded command.Commit a free did = commit_line a free did
-  commanded command.Abort a free did = aborted_line a free did
-  commanded (command.Get k key) a free did = named (command.Get k key) k refl refl (wants_active (phase_at v seat) free) did
-  commanded (command.Put k key value) a free did = named (command.Put k key value) k refl refl (wants_active (phase_at v seat) free) did
-  commanded (command.Del k key) a free did = named (command.Del k key) k refl refl (wants_active (phase_at v seat) free) did
-  commanded (command.Next k from) a free did = named (command.Next k from) k refl refl (wants_active (phase_at v seat) free) did
-  commanded (command.Scan k low high) a free did = named (command.Scan k low high) k refl refl (wants_active (phase_at v seat) free) did
-  commanded (command.Tidy k key) a free did = named (command.Tidy k key) k refl refl (wants_active (phase_at v seat) free) did
-  commanded command.Durable a free did = durable_line a did
-  commanded command.Flush a free did = absurd did
-  commanded command.Checkpoint a free did = absurd did
+  commanded : (c : Command) (a : Answer) → refusal_of (phase_at v seat) c ≡ None → HasNoSnapshot (phase_at v seat) → DidCommandBeside f seat c a v t → Lined f seat (Some c) a v t
+  commanded command.Begin a free plain did = begun_line a (idle_where (phase_at v seat) command.Begin free refl) did
+  commanded command.Safe a free plain did = safe_line a (start_where (phase_at v seat) command.Safe free refl plain) did
+  commanded command.Seal a free plain did = sealed_line a (active_where NeedsWriter (phase_at v seat) tt plain free) did
+  commanded command.Settle a free plain did = quiet (decided seat (Some command.Settle) a v t did)
+  commanded command.Commit a free plain did = commit_line a (active_where NeedsReader (phase_at v seat) tt plain free) did
+  commanded command.Abort a free plain did = aborted_line a (active_where NeedsAny (phase_at v seat) tt plain free) did
+  commanded (command.Get k key) a free plain did = named (command.Get k key) k refl refl (active_where NeedsReader (phase_at v seat) tt plain free) did
+  commanded (command.Put k key value) a free plain did = named (command.Put k key value) k refl refl (active_where NeedsWriter (phase_at v seat) tt plain free) did
+  commanded (command.Del k key) a free plain did = named (command.Del k key) k refl refl (active_where NeedsWriter (phase_at v seat) tt plain free) did
+  commanded (command.Next k from) a free plain did = named (command.Next k from) k refl refl (active_where NeedsReader (phase_at v seat) tt plain free) did
+  commanded (command.Scan k low high) a free plain did = named (command.Scan k low high) k refl refl (active_where NeedsReader (phase_at v seat) tt plain free) did
+  commanded (command.Tidy k key) a free plain did = named (command.Tidy k key) k refl refl (active_where NeedsWriter (phase_at v seat) tt plain free) did
+  commanded command.Durable a free plain did = durable_line a did
+  commanded command.Flush a free plain did = absurd did
+  commanded command.Checkpoint a free plain did = absurd did
 
   asked_line : (c : Command) (a : Answer) (r : Option Answer) → refusal_of (phase_at v seat) c ≡ r → FitsRefusal r c a → DidAskedBeside r f seat c a v t → Lined f seat (Some c) a v t
-  asked_line c a None is fits did = commanded c a is did
+  asked_line c a None is fits did =
+      in_phase (Lined f seat (Some c) a v t) f seat c a v t (λ plain done. commanded c a is plain done)
+      (λ is_there done.
+      let has = snapshot_there v seat is_there in
+      quiet (watched (snapshot_rests v seat has) (line_watches f seat c a v t has done) (leaves_none (Some c) a (line_none f seat c a v t done)))) did
   asked_line c a (Some refusal) is fits passes =
-      quiet (still passes.own (subst (StillBy (Some c)) (sym fits) (refusal_still (phase_asked c) (phase_at v seat) refusal is (Some c))))
+      quiet (still passes.own (subst (StillBy (Some c)) (sym fits) (refusal_still (need_of c) (phase_at v seat) refusal is (Some c))))
+
+  snapshot_ended : (u : View) → Passes seat v u → DidAbort u seat t → HasSnapshot v seat → Quieted None answer.Aborted (v.session seat) (t.session seat)
+  snapshot_ended u passes did has = watched (snapshot_rests v seat has) (ended_bare v u t seat has passes did) (leaves_none None answer.Aborted refl)
 
   closed_as : (a : Answer) (phase : Phase) → phase_at v seat ≡ phase → Closes phase a → DidCloseBeside phase seat a v t → Quieted None a (v.session seat) (t.session seat)
   closed_as a Idle is closes did = absurd did
   closed_as answer.Aborted Active is closes (u, passes, did) = aborts_now None is u passes did.own
   closed_as a Active is closes did = absurd closes
   closed_as a Sealed is closes did = decided seat None a v t did
-  closed_as a Pending is closes did = absurd did
-  closed_as a Safe is closes did = absurd did
+  closed_as answer.Aborted Pending is closes (u, passes, did) = snapshot_ended u passes did (snapshot_there v seat (ap is_snapshot is))
+  closed_as a Pending is closes did = absurd closes
+  closed_as answer.Aborted Safe is closes (u, passes, did) = snapshot_ended u passes did (snapshot_there v seat (ap is_snapshot is))
+  closed_as a Safe is closes did = absurd closes
 
 pub lined : (f : View) (l : ScriptLine) (a : Answer) (v t : View) → DidLineBeside f l a v t → Lined f l.session (Some l.command) a v t
 lined f l a v t did = asked_line f l.session v t l.command a (refusal_of (phase_at v l.session) l.command) refl did.fits did.did
@@ -167,6 +207,8 @@ quieted_idle asked begin s t (still is hears) = absurd (hears 0 nothing).1
 quieted_idle asked begin s t (begins number at idle is hears) = idle
 quieted_idle asked begin s t (seals stamp active is hears) = absurd (hears 0 nothing).1
 quieted_idle asked begin s t (done w fate ending has is none hears) = let no : Some (begun 0 begin nothing) ≡ None = ap (λ (p : Progress). p.current) (hears 0 nothing) in cc
+quieted_idle asked begin s t (watched rests did hears) =
+    let no : Some (begun 0 begin nothing) ≡ None = (hears 0 nothing refl).1 in cc
 
 once_idle : (f : View) (seat : ℕ) (c : Command) (begin : ℕ) (v t : View) (stand : Stand) → Once f seat c (answer.Began begin) v t → stand ≡ world.idle
 once_idle f seat c begin v t stand (whole steps beside hears) = let no : Some (begun 0 begin nothing) ≡ None = ap (λ (p : Progress). p.current) (hears 0 None nothing) in cc

@@ -11,7 +11,7 @@ use Rattle.erm_script.specs.declared.script.Command.{Command}
 use Rattle.erm_script.specs.declared.script.Command.TheVariants as command
 use Rattle.erm_script.specs.declared.script.ScriptLine.{ScriptLine}
 use Rattle.erm_world.specs.Going.{Extends}
-use Rattle.erm_world.specs.World.{Finished, IsSession, Session, Stand, View, Work, phase_of, work_at}
+use Rattle.erm_world.specs.World.{Finished, IsSession, Session, Stand, View, Work, phase_at, phase_of, work_at}
 use Rattle.erm_world.specs.World as world
 use Rattle.erm_world.proofs.Lists.{∈-last}
 use Rattle.erm_maps.specs.Runs.{IsAnswered, IsRunOf}
@@ -21,13 +21,15 @@ use Rattle.erm_good_report.specs.Stamps.{begin_told, stamp_drawn}
 use Rattle.erm_lines.specs.Told.{Continues}
 use Rattle.erm_told.proofs.Drawing.{the_number}
 use Rattle.erm_told.proofs.Endings.{if_told}
-use Rattle.erm_lines_at_once.specs.Answers.{DidCommandBeside, DidDecideBeside}
+use Rattle.erm_lines_at_once.specs.Answers.{DidCommandBeside, DidDecideBeside, DidInBeside, DidOfSnapshotBeside}
+use Rattle.erm_lines_at_once.proofs.Watched.{in_phase}
 use Rattle.erm_lines_at_once.specs.Parts.{IsRunInPart}
 use Rattle.erm_told_at_once.proofs.Drawing.{HasDrawn}
 use Rattle.erm_told_at_once.proofs.Runs.{LineThere, line_there}
 use Rattle.erm_causes_at_once.specs.Laws.{RunsInPartAreInReach}
 use Rattle.erm_causes_at_once.proofs.Drawn.{stamp_few, tail_few}
 use Rattle.erm_causes_at_once.proofs.Own.{allowed}
+use Rattle.erm_causes_at_once.proofs.Snapshots.{line_none}
 
 -- what tells a begin or draws a stamp is no refusal by a phase
 begin_free : (a : Answer) (begin : ℕ) → begin_told a ≡ Some begin → refusal_in a ≡ None
@@ -43,13 +45,20 @@ drawn_free asked answer.NotIdle stamp e = absurd (none_decided (asks_commit aske
 drawn_free asked answer.NoTransaction stamp e = absurd (none_decided (asks_commit asked) None stamp refl e)
 drawn_free asked answer.IsSealed stamp e = absurd (none_decided (asks_commit asked) None stamp refl e)
 drawn_free asked answer.NotSealed stamp e = absurd (none_decided (asks_commit asked) None stamp refl e)
+drawn_free asked answer.ReadOnly stamp e = absurd (none_decided (asks_commit asked) None stamp refl e)
+drawn_free asked answer.NotSafe stamp e = absurd (none_decided (asks_commit asked) None stamp refl e)
 drawn_free asked a stamp e = refl
 
 -- a begin is where the log ended, as the session knows it after the line
-begin_at : (f : View) (seat : ℕ) (c : Command) (a : Answer) (v t : View) (begin : ℕ) → IsAnswerTo c a → DidCommandBeside f seat c a v t → begin_told a ≡ Some begin → begin ≤ t.tail
-begin_at f seat command.Begin (answer.Began own) v t begin fits (u, passes, (few, is, works)) e = omega (arith, the_number own begin e, is, works.tail)
-begin_at f seat c (answer.Began own) v t begin fits did e = absurd fits
-begin_at f seat c a v t begin fits did e = cc
+begun_at : (f : View) (seat : ℕ) (c : Command) (a : Answer) (v t : View) (begin : ℕ) → IsAnswerTo c a → DidCommandBeside f seat c a v t → begin_told a ≡ Some begin → begin ≤ t.tail
+begun_at f seat command.Begin (answer.Began own) v t begin fits (u, passes, (few, is, works)) e = omega (arith, the_number own begin e, is, works.tail)
+begun_at f seat c (answer.Began own) v t begin fits did e = absurd fits
+begun_at f seat c a v t begin fits did e = cc
+
+begin_at : (f : View) (seat : ℕ) (c : Command) (a : Answer) (v t : View) (begin : ℕ) → IsAnswerTo c a → DidInBeside (phase_at v seat) f seat c a v t → begin_told a ≡ Some begin → begin ≤ t.tail
+begin_at f seat c a v t begin fits did e =
+    in_phase (begin ≤ t.tail) f seat c a v t (λ plain done. begun_at f seat c a v t begin fits done e)
+    (λ has done. let no : None ≡ Some begin = sym (line_none f seat c a v t done) ∙ e in absurd (cc)) did
 
 -- THE STAMP that a line draws is one that the session has.
 decided_drawn : (seat : ℕ) (a : Answer) (v t : View) (stamp : ℕ) → DidDecideBeside seat a v t → stamp_drawn (Some command.Commit) a ≡ Some stamp → HasDrawn (t.session seat) stamp
@@ -63,13 +72,33 @@ decided_drawn seat (answer.Excluded at succ pred) v t stamp (u, passes, (w, own,
     inl (g, subst (λ (fs : List Finished). g ∈ fs) (sym (ap (λ (s : Session). s.over) settled.0.own)) (∈-last (u.session seat).over g), ap (λ (n : ℕ). Some n) is)
 decided_drawn seat a v t stamp did e = absurd did
 
-drawn_at : (f : View) (seat : ℕ) (c : Command) (a : Answer) (v t : View) (stamp : ℕ) → IsAnswerTo c a → DidCommandBeside f seat c a v t → stamp_drawn (Some c) a ≡ Some stamp
+command_drawn : (f : View) (seat : ℕ) (c : Command) (a : Answer) (v t : View) (stamp : ℕ) → IsAnswerTo c a → DidCommandBeside f seat c a v t → stamp_drawn (Some c) a ≡ Some stamp
     → HasDrawn (t.session seat) stamp
-drawn_at f seat command.Seal (answer.Sealed own) v t stamp fits (u, passes, did) e =
+command_drawn f seat command.Seal (answer.Sealed own) v t stamp fits (u, passes, did) e =
     inr (work_at u seat, ap (λ (s : Session). s.stand) did.own ∙ ap (λ (n : ℕ). world.sealed (work_at u seat) n) (the_number own stamp e))
-drawn_at f seat command.Commit a v t stamp fits did e = decided_drawn seat a did.between t stamp did.decided e
-drawn_at f seat c (answer.Sealed own) v t stamp fits did e = absurd fits
-drawn_at f seat c a v t stamp fits did e = cc
+command_drawn f seat command.Commit a v t stamp fits did e = decided_drawn seat a did.between t stamp did.decided e
+command_drawn f seat c (answer.Sealed own) v t stamp fits did e = absurd fits
+command_drawn f seat c a v t stamp fits did e = cc
+
+-- no line of a snapshot draws one
+watched_draws : (f : View) (seat : ℕ) (c : Command) (a : Answer) (v t : View) → DidOfSnapshotBeside f seat c a v t → stamp_drawn (Some c) a ≡ None
+watched_draws f seat command.Safe (answer.Safe stamp) v t did = refl
+watched_draws f seat command.Safe (answer.Unsafe other stamp) v t did = refl
+watched_draws f seat command.Safe a v t did = absurd did
+watched_draws f seat (command.Get table key) (answer.Replied r) v t did = refl
+watched_draws f seat (command.Next table from) (answer.Replied r) v t did = refl
+watched_draws f seat (command.Scan table low high) (answer.Replied r) v t did = refl
+watched_draws f seat command.Commit answer.Ended v t did = refl
+watched_draws f seat command.Abort answer.Aborted v t did = refl
+watched_draws f seat command.Durable (answer.Durable stamp) v t did = refl
+watched_draws f seat command.Durable answer.NoReceipt v t did = refl
+watched_draws f seat c a v t did = absurd did
+
+drawn_at : (f : View) (seat : ℕ) (c : Command) (a : Answer) (v t : View) (stamp : ℕ) → IsAnswerTo c a → DidInBeside (phase_at v seat) f seat c a v t → stamp_drawn (Some c) a ≡ Some stamp
+    → HasDrawn (t.session seat) stamp
+drawn_at f seat c a v t stamp fits did e =
+    in_phase (HasDrawn (t.session seat) stamp) f seat c a v t (λ plain done. command_drawn f seat c a v t stamp fits done e)
+    (λ has done. let no : None ≡ Some stamp = sym (watched_draws f seat c a v t done) ∙ e in absurd (cc)) did
 
 -- and has still, later
 continues_drawn : (s t : Session) (stamp : ℕ) → Continues s t → HasDrawn s stamp → HasDrawn t stamp

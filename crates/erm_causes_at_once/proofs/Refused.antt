@@ -1,5 +1,5 @@
 -- A line of an execution at once that was refused for what another session owns, committed or decided shows the cause.
-use Rattle.std.proofs.Common.{◌≡◌, ◌≢◌, ℕ, zero, suc, ◌<◌, ◌≤◌, ◌⊎◌, List, [], ◌∷◌, ◌++◌, take, slice_get, Option, Some, None, flat_map, option_to_list, inl, inr, refl, sym, ap, ◌∙◌, subst, true, arith}
+use Rattle.std.proofs.Common.{◌≡◌, ◌≢◌, ℕ, zero, suc, ◌<◌, ◌≤◌, ◌⊎◌, List, [], ◌∷◌, ◌++◌, take, slice_get, Option, Some, None, flat_map, option_to_list, inl, inr, refl, sym, ap, ◌∙◌, subst, true, false, ⊎_elim, arith}
 use Rattle.std.specs.List.{range_with_len}
 use Rattle.erm_model.specs.declared.outcome.Phase.TheVariants.{Active, Idle}
 use Rattle.erm_model.specs.declared.row_stop.RowStop.{RowStop}
@@ -7,46 +7,49 @@ use Rattle.erm_model.specs.declared.row_stop.RowStop.TheVariants as stop
 use Rattle.erm_model.specs.Member.{◌∈◌}
 use Rattle.erm_model.specs.RowTransaction.{Asked, asked_claim, asked_make, asked_read}
 use Rattle.erm_model.specs.Run.{Step}
-use Rattle.erm_machine.proofs.Listed.{∈-first, ∈-head, ∈-second}
+use Rattle.erm_model.proofs.Members.{none_in_nil, ∈-behind}
+use Rattle.erm_machine.proofs.Listed.{∈-cons, ∈-first, ∈-head, ∈-second}
 use Rattle.erm_report.specs.declared.answer.Answer.{Answer}
 use Rattle.erm_report.specs.declared.answer.Answer.TheVariants as answer
 use Rattle.erm_script.specs.declared.script.Command.{Command}
 use Rattle.erm_script.specs.declared.script.Command.TheVariants as command
 use Rattle.erm_script.specs.declared.script.ScriptLine.{ScriptLine}
 use Rattle.erm_world.specs.Going.{Extends}
-use Rattle.erm_world.specs.World.{IsCurrent, IsSession, Stand, View, Work, history_of, phase_at, phase_of, work_at}
+use Rattle.erm_world.specs.World.{Finished, IsCurrent, IsSession, Stand, View, Work, history_of, phase_at, phase_of, work_at}
 use Rattle.erm_world.specs.World as world
 use Rattle.erm_world.specs.Works.{is_claimed}
 use Rattle.erm_maps.specs.Runs.{IsAnswered, IsRunOf}
 use Rattle.erm_good_report.specs.Causes.{CommitsBeside, HasWindow, OverwritesBeside, WritesTable}
 use Rattle.erm_good_report.specs.GoodReport.{places_of}
 use Rattle.erm_good_report.specs.Opening.{AtOnce, InTurn, Mode, Opening}
-use Rattle.erm_good_report.specs.Phases.{Closed, FitsRefusal, IsAnswerTo, phase_asked, refusal_in, refusal_of}
+use Rattle.erm_good_report.specs.Phases.{Closed, FitsRefusal, IsAnswerTo, need_of, refusal_in, refusal_of}
+use Rattle.erm_good_report.proofs.Phases.{phase_refuses}
 use Rattle.erm_good_report.specs.Phases as report
 use Rattle.erm_good_report.specs.Refusals.{HasNoWindowBefore, HasRefusalCause, HasWindowBefore, IsInProgress, IsNewerBy, IsOwn, IsOwnedBy, Moment, WasOver}
 use Rattle.erm_good_report.specs.Stamps.{IsWait}
-use Rattle.erm_good_report.specs.Transactions.{Commits, Excludes, Progress, Said, Transaction, nothing, progress_of, said_of, table_of, transactions_of, with_line}
+use Rattle.erm_good_report.specs.Transactions.{Commits, Excludes, Progress, Said, Snapshot, Transaction, nothing, progress_of, said_of, table_of, transactions_of, with_line}
 use Rattle.erm_good_at_once.specs.CutReports.{moment_in}
 use Rattle.erm_lines.specs.Executions.{line_moves}
 use Rattle.erm_lines.specs.Operations.{AsksOf, FrontOf}
-use Rattle.erm_lines.specs.Told.{TellsNow, TellsWork}
+use Rattle.erm_lines.specs.Told.{TellsEnded, TellsNow, TellsOne, TellsOver, TellsWork}
 use Rattle.erm_beside.specs.Calls.{After, RefusedBeside}
 use Rattle.erm_beside.specs.Ends.{MetBeside, WasNewer, WasOwned}
-use Rattle.erm_lines_at_once.specs.Answers.{DidAskedBeside, DidCommandBeside, DidLineBeside}
+use Rattle.erm_lines_at_once.specs.Answers.{DidAskedBeside, DidCommandBeside, DidLineBeside, DidOfSnapshotBeside}
 use Rattle.erm_lines_at_once.specs.Operations.{DidOnce, DidOperationBeside, WereCutBeside, told_at_once}
 use Rattle.erm_lines_at_once.specs.Parts.{IsRunInPart}
+use Rattle.erm_lines_at_once.proofs.Watched.{in_phase}
 use Rattle.erm_told.proofs.Executed.{Knows}
-use Rattle.erm_told.proofs.Lines.{phase_refuses}
 use Rattle.erm_told.proofs.Ranges.{in_range_from}
+use Rattle.erm_told.proofs.Reported.{Numbered}
 use Rattle.erm_told.proofs.Runs.{said_first}
 use Rattle.erm_told_at_once.proofs.Runs.{at_first, knows_own, runs_tell}
 use Rattle.erm_told_at_once.proofs.Stamping.{no_wait}
 use Rattle.erm_causes.specs.Laws.{IsForOthers}
-use Rattle.erm_causes.specs.Touched.{AreOfTables, Touches, TouchesNow, TouchesOne}
+use Rattle.erm_causes.specs.Touched.{AreOfTables, Together, Touches, TouchesNow, TouchesOne}
 use Rattle.erm_causes.proofs.Answered.{shut_closed}
 use Rattle.erm_causes.proofs.Beside.{claimed_at, shows_closed_by}
 use Rattle.erm_causes.proofs.Causes.{over_told}
-use Rattle.erm_causes.proofs.Together.{both_over}
+use Rattle.erm_causes.proofs.Together.{Both, both_told}
 use Rattle.erm_causes.proofs.Coloured.{AskedOf}
 use Rattle.erm_causes.proofs.Lines.{CutFine}
 use Rattle.erm_causes.proofs.Moments.{the_told}
@@ -98,6 +101,20 @@ operates f seat (command.Scan n low high) a k v t named did = did
 operates f seat (command.Tidy n key) a k v t named did = did
 operates f seat c a k v t named did = let no : None ≡ Some k = named in cc
 
+-- no call of a snapshot is refused
+never_stopped : (f : View) (seat : ℕ) (c : Command) (a : Answer) (v t : View) → IsStop a → DidOfSnapshotBeside f seat c a v t → ⊥
+never_stopped f seat command.Safe (answer.Safe stamp) v t stopping did = absurd stopping
+never_stopped f seat command.Safe (answer.Unsafe other stamp) v t stopping did = absurd stopping
+never_stopped f seat command.Safe a v t stopping did = absurd did
+never_stopped f seat (command.Get table key) (answer.Replied r) v t stopping did = absurd stopping
+never_stopped f seat (command.Next table from) (answer.Replied r) v t stopping did = absurd stopping
+never_stopped f seat (command.Scan table low high) (answer.Replied r) v t stopping did = absurd stopping
+never_stopped f seat command.Commit answer.Ended v t stopping did = absurd stopping
+never_stopped f seat command.Abort answer.Aborted v t stopping did = absurd stopping
+never_stopped f seat command.Durable (answer.Durable stamp) v t stopping did = absurd stopping
+never_stopped f seat command.Durable answer.NoReceipt v t stopping did = absurd stopping
+never_stopped f seat c a v t stopping did = absurd did
+
 no_refusal : (a : Answer) → IsStop a → refusal_in a ≡ None
 no_refusal (answer.Owned seat number) told = refl
 no_refusal (answer.Newer stamp) told = refl
@@ -120,10 +137,13 @@ stopped f l a v t told did = by (refusal_of (phase_at v l.session) l.command) re
   where
     by : (r : Option Answer) → refusal_of (phase_at v l.session) l.command ≡ r → FitsRefusal r l.command a → DidAskedBeside r f l.session l.command a v t → Stopped f l.session l.command a v t
     by None is fits did =
+        in_phase (Stopped f l.session l.command a v t) f l.session l.command a v t
+        (λ plain done.
         let (k, names) = names_of l.command a told fits in
-        record { table = k; names = names; active = named_active (phase_at v l.session) l.command k names is; did = operates f l.session l.command a k v t names did }
+        record { table = k; names = names; active = named_active (phase_at v l.session) l.command k names plain is; did = operates f l.session l.command a k v t names done })
+        (λ has done. absurd (never_stopped f l.session l.command a v t told done)) did
     by (Some r) is fits did =
-        let no : None ≡ Some r = sym (no_refusal a told) ∙ ap refusal_in fits ∙ phase_refuses (phase_asked l.command) (phase_at v l.session) r is in cc
+        let no : None ≡ Some r = sym (no_refusal a told) ∙ ap refusal_in fits ∙ phase_refuses (need_of l.command) (phase_at v l.session) r is in cc
 
 -- the refusal that an answer tells
 abbrev pub stop_in : Answer → Option RowStop
@@ -158,23 +178,59 @@ pub cut_by : (f : View) (seat : ℕ) (c : Command) (a : Answer) (why : RowStop) 
 cut_by f seat c a why v t is (x, told, cut) =
     subst (λ (y : RowStop). WereCutBeside f seat (FrontOf c) (AsksOf c) y v t) (the_stop x why (sym (stop_is x a told) ∙ is)) cut
 
+-- One that is over is told as a transaction of which this is so, or as a snapshot.
+told_ended : (seat : ℕ) (ts : List Transaction) (ss : List Snapshot) (fs : List Finished) (f : Finished) → TellsOver seat ts ss fs → f ∈ fs
+    → ((t : Transaction) × (t ∈ ts) × TellsOne seat t f) ⊎ ((s : Snapshot) × TellsEnded s f)
+told_ended seat ts ss [] f tells m = absurd (none_in_nil f m)
+told_ended seat ts ss (g ∷ fs) f (inl (u, us, is, one, rest)) m =
+    ⊎_elim (λ (here : g ≡ f). inl (u, subst (λ (list : List Transaction). u ∈ list) (sym is) (∈-head u us), subst (λ (x : Finished). TellsOne seat u x) here one))
+    (λ (later : f ∈ fs).
+    ⊎_elim
+    (λ (found : (t : Transaction) × (t ∈ us) × TellsOne seat t f). inl (found.0, subst (λ (list : List Transaction). found.0 ∈ list) (sym is) (∈-behind u us found.0 found.1), found.2))
+    (λ (found : (s : Snapshot) × TellsEnded s f). inr found)
+    (told_ended seat us ss fs f rest later))
+    (∈-cons f g fs m)
+told_ended seat ts ss (g ∷ fs) f (inr (s, more, is, one, rest)) m =
+    ⊎_elim (λ (here : g ≡ f). inr (s, subst (λ (x : Finished). TellsEnded s x) here one)) (λ (later : f ∈ fs). told_ended seat ts more fs f rest later) (∈-cons f g fs m)
+
+told_or_ended : (seat : ℕ) (so : Transaction → Finished → Type 0) (ts : List Transaction) (ss : List Snapshot) (fs : List Finished) (f : Finished) → TellsOver seat ts ss fs → Together so ts fs
+    → Numbered 1 fs → f ∈ fs → ((t : Transaction) × (t ∈ ts) × Both seat so t f) ⊎ ((s : Snapshot) × TellsEnded s f)
+told_or_ended seat so ts ss fs f told each numbered m =
+    ⊎_elim
+    (λ (one : (t : Transaction) × (t ∈ ts) × TellsOne seat t f).
+    let both = both_told seat so ts ss fs one.0 told each numbered one.1 in
+    let first = numbered both.1.0 both.0 both.1.1 in
+    let second = numbered m.0 f m.1 in
+    let place : both.1.0 ≡ m.0 = omega (arith, first, second, both.2.tells.work.number, one.2.work.number) in
+    let same : both.0 ≡ f = the_one both.0 f (sym both.1.1 ∙ ap (λ (n : ℕ). slice_get fs n) place ∙ m.1) in
+    inl (one.0, one.1, subst (λ (x : Finished). Both seat so one.0 x) same both.2))
+    (λ (bare : (s : Snapshot) × TellsEnded s f). inr bare)
+    (told_ended seat ts ss fs f told m)
+  where
+    the_one : (a b : Finished) → Some a ≡ Some b → a ≡ b
+    the_one a b is = cc
+
 -- at once nothing is asked to have been over
 never_over : (m : Moment) (t : Transaction) → m.mode ≡ AtOnce → WasOver m t
 never_over m t mode in_turn = let no : AtOnce ≡ InTurn = sym mode ∙ in_turn in cc
 
--- what is told of the transaction in progress
-now_told : (seat : ℕ) (colour : ℕ → ℕ) (current : Option Transaction) (stand : Stand) (w : Work) → TellsNow seat current stand → TouchesNow colour current stand → IsCurrent stand w
-    → (t : Transaction) × (current ≡ Some t) × TellsWork seat t w × Touches colour t w
-now_told seat colour None world.idle w tells touched at = absurd at
-now_told seat colour None (world.active u) w tells touched at = absurd tells
-now_told seat colour None (world.sealed u stamp) w tells touched at = absurd tells
-now_told seat colour (Some t) world.idle w tells touched at = absurd tells
-now_told seat colour (Some t) (world.active u) w tells touched at =
+-- what is told of the transaction in progress, which has claimed an object
+bare_claims : (number begin oid : ℕ) (w : Work) (P : Type 0) → world.begun number begin ≡ w → is_claimed w.claims oid ≡ true → P
+bare_claims number begin oid w P is claimed = let no : false ≡ true = ap (λ (x : Work). is_claimed x.claims oid) is ∙ claimed in absurd (cc)
+
+now_told : (seat : ℕ) (colour : ℕ → ℕ) (current : Option Transaction) (stand : Stand) (w : Work) (oid : ℕ) → TellsNow seat current stand → TouchesNow colour current stand → IsCurrent stand w
+    → is_claimed w.claims oid ≡ true → (t : Transaction) × (current ≡ Some t) × TellsWork seat t w × Touches colour t w
+now_told seat colour None world.idle w oid tells touched at claimed = absurd at
+now_told seat colour None (world.active u) w oid tells touched at claimed = absurd tells
+now_told seat colour None (world.sealed u stamp) w oid tells touched at claimed = absurd tells
+now_told seat colour (Some t) world.idle w oid tells touched at claimed = absurd tells
+now_told seat colour (Some t) (world.active u) w oid tells touched at claimed =
     (t, refl, subst (λ (x : Work). TellsWork seat t x) at tells.0.work, subst (λ (x : Work). Touches colour t x) at touched)
-now_told seat colour (Some t) (world.sealed u stamp) w tells touched at =
+now_told seat colour (Some t) (world.sealed u stamp) w oid tells touched at claimed =
     (t, refl, subst (λ (x : Work). TellsWork seat t x) at tells.0.work, subst (λ (x : Work). Touches colour t x) at touched)
-now_told seat colour None (world.snapshot s) w tells touched at = absurd tells
-now_told seat colour (Some t) (world.snapshot s) w tells touched at = absurd tells
+now_told seat colour None (world.snapshot s) w oid tells touched at claimed =
+    bare_claims s.number s.begin oid w ((t : Transaction) × (None ≡ Some t) × TellsWork seat t w × Touches colour t w) at claimed
+now_told seat colour (Some t) (world.snapshot s) w oid tells touched at claimed = absurd tells
 
 -- one of a session's own is one of all
 of_all : (lists : ℕ → List Transaction) (ns : List ℕ) (n : ℕ) (t : Transaction) (k : ℕ) → slice_get ns k ≡ Some n → t ∈ lists n → t ∈ flat_map lists ns
@@ -274,14 +330,21 @@ module _ (tree : TreeLaws) (laws : HistoryLaws) (begun : (number begin : ℕ) �
 
     claimed_told : is_claimed owned.work.claims oid ≡ true → world.Has f other owned.work → IsOwnedBy m c other number
     claimed_told claimed (inl (g, within, work_is)) =
-        let found = both_over other (TouchesOne colour (history_of f)) theirs.over (f.session other).over within.0 g
-        (told_there tree laws begun stay v f whole script answers closed run other owned.session).over (touches_all tree laws begun stay v f whole script answers closed run other owned.session).over within.1 in
+        let over = (told_there tree laws begun stay v f whole script answers closed run other owned.session).over in
+        let touched = (touches_all tree laws begun stay v f whole script answers closed run other owned.session).over in
+        let numbered = (run.ends.serializable.numbered other owned.session).over in
+        ⊎_elim
+        (λ (found : (t : Transaction) × (t ∈ theirs.over) × Both other (TouchesOne colour (history_of f)) t g).
         let tells = subst (λ (w : Work). TellsWork other found.0 w) work_is found.2.tells.work in
-        owner_is m c k oid other number mode same named is owned.another found.0 (over_in found.0 (within.0, found.1)) tells.session (tells.number ∙ owned.number_is)
-        ((subst (λ (w : Work). Touches colour found.0 w) work_is found.2.so_is.touches).claims oid claimed)
+        owner_is m c k oid other number mode same named is owned.another found.0 (over_in found.0 found.1) tells.session (tells.number ∙ owned.number_is)
+        ((subst (λ (w : Work). Touches colour found.0 w) work_is found.2.so_is.touches).claims oid claimed))
+        (λ (bare : (s : Snapshot) × TellsEnded s g).
+        bare_claims g.work.number g.work.begin oid owned.work (IsOwnedBy m c other number) (sym bare.1.bare ∙ work_is) claimed)
+        (told_or_ended other (TouchesOne colour (history_of f)) theirs.over theirs.snapshots (f.session other).over g over touched numbered within)
     claimed_told claimed (inr now_is) =
-        let (t, current, tells, touches) = now_told other colour theirs.current (f.session other).stand owned.work
-        (told_there tree laws begun stay v f whole script answers closed run other owned.session).now (touches_all tree laws begun stay v f whole script answers closed run other owned.session).now now_is in
+        let (t, current, tells, touches) = now_told other colour theirs.current (f.session other).stand owned.work oid
+        (told_there tree laws begun stay v f whole script answers closed run other owned.session).now (touches_all tree laws begun stay v f whole script answers closed run other owned.session).now now_is
+        claimed in
         owner_is m c k oid other number mode same named is owned.another t (now_in t current) tells.session (tells.number ∙ owned.number_is) (touches.claims oid claimed)
 
     gave_told : TellsGiven colour f other theirs (record { number = number; oid = oid }) → IsOwnedBy m c other number

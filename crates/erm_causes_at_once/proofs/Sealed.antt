@@ -1,5 +1,5 @@
 -- How many of a session's transactions were sealed: no more than its places of the report may have drawn ranges of the log.
-use Rattle.std.proofs.Common.{◌≡◌, ℕ, ◌+◌, ◌<◌, ◌≤◌, ⊎_elim, Bool, true, false, List, [], ◌∷◌, ◌++◌, sum_by, Option, Some, None, refl, sym, ap, ◌∙◌, arith}
+use Rattle.std.proofs.Common.{◌≡◌, ℕ, ◌+◌, ◌<◌, ◌≤◌, inl, inr, ⊎_elim, Bool, true, false, List, [], ◌∷◌, ◌++◌, sum_by, Option, Some, None, refl, sym, ap, ◌∙◌, arith}
 use Rattle.std.specs.Prelude.{if◌then◌else◌, nat_lt}
 use Rattle.std.specs.Option.{option_map, option_to_list}
 use Rattle.std.proofs.lemmas.Bool.Decides.{nat_tests}
@@ -15,11 +15,11 @@ use Rattle.erm_script.specs.declared.script.Command.{Command}
 use Rattle.erm_script.specs.declared.script.Command.TheVariants as command
 use Rattle.erm_world.specs.World.{Fate, Finished}
 use Rattle.erm_world.specs.World as world
-use Rattle.erm_good_report.specs.Phases.{Closes, FitsPhase, FitsRefusal, IsAnswerTo, phase_after, phase_after_wait, phase_asked, refusal_in, refusal_of}
+use Rattle.erm_good_report.specs.Phases.{Closes, FitsPhase, FitsRefusal, IsAnswerTo, phase_after, phase_after_wait, need_of, refusal_in, refusal_of}
+use Rattle.erm_good_report.proofs.Phases.{phase_refuses}
 use Rattle.erm_good_report.specs.Refusals.{draws_of}
-use Rattle.erm_good_report.specs.Transactions.{Aborts, Commits, Ending, Excludes, Progress, Transaction, heard, with_ending, with_line}
+use Rattle.erm_good_report.specs.Transactions.{Aborts, Commits, Ending, Excludes, Progress, Snapshot, Transaction, heard, with_ending, with_line}
 use Rattle.erm_lines.specs.Told.{EndsAs, TellsOver}
-use Rattle.erm_told.proofs.Lines.{phase_refuses}
 use Rattle.erm_lines_at_once.specs.Ends.{one_below}
 
 -- those that are told to have a stamp
@@ -54,18 +54,21 @@ ends_one bound ending world.aborts ends = omega arith
 ends_one bound ending (world.commits stamp succ pred) ends = absurd ends
 ends_one bound ending (world.excluded stamp succ pred) ends = absurd ends
 
-pub over_few : (bound seat : ℕ) (ts : List Transaction) (fs : List Finished) → TellsOver seat ts fs → sum_by (λ f. one_below bound (world.stamp_of f.fate)) fs ≤ count_sealed ts
-over_few bound seat [] [] tells = omega arith
-over_few bound seat [] (f ∷ fs) tells = absurd tells
-over_few bound seat (t ∷ ts) [] tells = absurd tells
-over_few bound seat (t ∷ ts) (f ∷ fs) tells =
+pub over_few : (bound seat : ℕ) (ts : List Transaction) (ss : List Snapshot) (fs : List Finished) → TellsOver seat ts ss fs
+    → sum_by (λ f. one_below bound (world.stamp_of f.fate)) fs ≤ count_sealed ts
+over_few bound seat ts ss [] tells = omega arith
+over_few bound seat ts ss (f ∷ fs) (inl (t, us, is, one, rest)) =
     omega (
       arith,
-      ends_one bound t.ending f.fate tells.0.ends,
-      over_few bound seat ts fs tells.1,
+      ends_one bound t.ending f.fate one.ends,
+      over_few bound seat us ss fs rest,
       sum_by-cons (λ (g : Finished). one_below bound (world.stamp_of g.fate)) f fs,
-      sum_by-cons (λ (u : Transaction). one_sealed u.ending) t ts,
+      sum_by-cons (λ (u : Transaction). one_sealed u.ending) t us,
+      ap count_sealed is,
     )
+over_few bound seat ts ss (f ∷ fs) (inr (s, more, is, one, rest)) =
+    let none : one_below bound (world.stamp_of f.fate) ≡ 0 = ap (λ (fate : Fate). one_below bound (world.stamp_of fate)) one.aborted in
+    omega (arith, none, over_few bound seat ts more fs rest, sum_by-cons (λ (g : Finished). one_below bound (world.stamp_of g.fate)) f fs)
 
 -- one with this stamp isn't below it
 pub not_below : (stamp : ℕ) (o : Option ℕ) → o ≡ Some stamp → one_below stamp o ≡ 0
@@ -82,20 +85,26 @@ ends_stamped ending world.aborts stamp ends is = cc
 ends_stamped ending (world.commits own succ pred) stamp ends is = absurd ends
 ends_stamped ending (world.excluded own succ pred) stamp ends is = absurd ends
 
-pub over_fewer : (seat stamp : ℕ) (ts : List Transaction) (fs : List Finished) (g : Finished) → TellsOver seat ts fs → g ∈ fs → world.stamp_of g.fate ≡ Some stamp
+pub over_fewer : (seat stamp : ℕ) (ts : List Transaction) (ss : List Snapshot) (fs : List Finished) (g : Finished) → TellsOver seat ts ss fs → g ∈ fs → world.stamp_of g.fate ≡ Some stamp
     → sum_by (λ f. one_below stamp (world.stamp_of f.fate)) fs + 1 ≤ count_sealed ts
-over_fewer seat stamp [] [] g tells m is = absurd (none_in_nil g m)
-over_fewer seat stamp [] (f ∷ fs) g tells m is = absurd tells
-over_fewer seat stamp (t ∷ ts) [] g tells m is = absurd tells
-over_fewer seat stamp (t ∷ ts) (f ∷ fs) g tells m is =
+over_fewer seat stamp ts ss [] g tells m is = absurd (none_in_nil g m)
+over_fewer seat stamp ts ss (f ∷ fs) g (inl (t, us, told, one, rest)) m is =
     let first = sum_by-cons (λ (x : Finished). one_below stamp (world.stamp_of x.fate)) f fs in
-    let second = sum_by-cons (λ (u : Transaction). one_sealed u.ending) t ts in
+    let second = sum_by-cons (λ (u : Transaction). one_sealed u.ending) t us in
+    let whole = ap count_sealed told in
     ⊎_elim
     (λ (here : f ≡ g).
     let stamped : world.stamp_of f.fate ≡ Some stamp = ap (λ (x : Finished). world.stamp_of x.fate) here ∙ is in
-    omega (arith, not_below stamp (world.stamp_of f.fate) stamped, ends_stamped t.ending f.fate stamp tells.0.ends stamped, over_few stamp seat ts fs tells.1, first, second))
-    (λ (later : g ∈ fs). omega (arith, ends_one stamp t.ending f.fate tells.0.ends, over_fewer seat stamp ts fs g tells.1 later is, first, second))
+    omega (arith, not_below stamp (world.stamp_of f.fate) stamped, ends_stamped t.ending f.fate stamp one.ends stamped, over_few stamp seat us ss fs rest, first, second, whole))
+    (λ (later : g ∈ fs). omega (arith, ends_one stamp t.ending f.fate one.ends, over_fewer seat stamp us ss fs g rest later is, first, second, whole))
     (∈-cons g f fs m)
+over_fewer seat stamp ts ss (f ∷ fs) g (inr (s, more, told, one, rest)) m is =
+    let first = sum_by-cons (λ (x : Finished). one_below stamp (world.stamp_of x.fate)) f fs in
+    let none : one_below stamp (world.stamp_of f.fate) ≡ 0 = ap (λ (fate : Fate). one_below stamp (world.stamp_of fate)) one.aborted in
+    ⊎_elim
+    (λ (here : f ≡ g).
+    let no : None ≡ Some stamp = sym (ap world.stamp_of one.aborted) ∙ ap (λ (x : Finished). world.stamp_of x.fate) here ∙ is in absurd (cc))
+    (λ (later : g ∈ fs). omega (arith, none, over_fewer seat stamp ts more fs g rest later is, first)) (∈-cons g f fs m)
 
 -- A PLACE of a report: what it tells is sealed was drawn by it, or before.
 count_ended : (e : Ending) (ts : List Transaction) (current : Option Transaction) → count_sealed (ts ++ option_to_list (option_map (with_ending e) current)) ≤ count_sealed ts + one_sealed e
@@ -109,7 +118,7 @@ fits_free phase c a none fits = by (refusal_of phase c) refl fits
   where
     by : (r : Option Answer) → refusal_of phase c ≡ r → FitsRefusal r c a → (refusal_of phase c ≡ None) × IsAnswerTo c a
     by None is fits = (is, fits)
-    by (Some r) is fits = let no : None ≡ Some r = sym none ∙ ap refusal_in fits ∙ phase_refuses (phase_asked c) phase r is in cc
+    by (Some r) is fits = let no : None ≡ Some r = sym none ∙ ap refusal_in fits ∙ phase_refuses (need_of c) phase r is in cc
 
 settle_sealed : (phase : Phase) → refusal_of phase command.Settle ≡ None → 1 ≤ one_phase phase
 settle_sealed Idle is = absurd (cc)
@@ -151,6 +160,8 @@ line_counts seat phase c (answer.ExcludedEarly succ pred) p fits = omega (arith,
 line_counts seat phase c (answer.Owned other number) p fits = omega (arith, count_ended Aborts p.over (option_map (with_line (Some c) (answer.Owned other number)) p.current))
 line_counts seat phase c (answer.Newer stamp) p fits = omega (arith, count_ended Aborts p.over (option_map (with_line (Some c) (answer.Newer stamp)) p.current))
 line_counts seat phase c answer.Aborted p fits = omega (arith, count_ended Aborts p.over p.current)
+line_counts seat phase c (answer.Unsafe other stamp) p fits = omega (arith, count_ended Aborts p.over p.current)
+line_counts seat phase c answer.Ended p fits = omega (arith, count_ended Aborts p.over p.current)
 line_counts seat phase c (answer.WaitSeat other seen) p fits = omega (arith, wait_drawn c phase)
 line_counts seat phase c (answer.WaitRing flushed) p fits = omega (arith, wait_drawn c phase)
 line_counts seat phase c (answer.Began begin) p fits = omega arith
@@ -161,4 +172,6 @@ pub close_counts : (seat : ℕ) (phase : Phase) (a : Answer) (p : Progress) → 
 close_counts seat Active answer.Aborted p fits = omega (arith, count_ended Aborts p.over p.current)
 close_counts seat Sealed (answer.Committed stamp succ pred) p fits = omega (arith, count_ended (Commits stamp succ pred) p.over p.current)
 close_counts seat Sealed (answer.Excluded stamp succ pred) p fits = omega (arith, count_ended (Excludes (Some stamp) succ pred) p.over p.current)
+close_counts seat Pending answer.Aborted p fits = omega (arith, count_ended Aborts p.over p.current)
+close_counts seat Safe answer.Aborted p fits = omega (arith, count_ended Aborts p.over p.current)
 close_counts seat phase a p fits = absurd fits

@@ -1,5 +1,5 @@
 -- The transactions of an execution at once touch objects of their lines' tables alone, and so what is told of them shows the causes of their ends.
-use Rattle.std.proofs.Common.{◌≡◌, ℕ, zero, suc, List, [], ◌∷◌, map, slice_get, Option, Some, None, inl, refl, sym, ap, ◌∙◌, subst, arith}
+use Rattle.std.proofs.Common.{◌≡◌, ℕ, zero, suc, List, [], ◌∷◌, map, slice_get, Option, Some, None, inl, inr, ⊎_elim, refl, sym, ap, ◌∙◌, subst, arith}
 use Rattle.erm_model.specs.declared.history.TransactionRecord.{TransactionRecord}
 use Rattle.erm_model.specs.Member.{◌∈◌}
 use Rattle.erm_model.specs.Run.{Step}
@@ -17,13 +17,13 @@ use Rattle.erm_good_report.specs.Causes.{HasCauseOf}
 use Rattle.erm_good_report.specs.GoodReport.{places_of}
 use Rattle.erm_good_report.specs.Phases.{Closed}
 use Rattle.erm_good_report.specs.Transactions.{Aborts, Commits, Ending, Excludes, Unfinished, Said, Transaction, nothing, progress_of, transactions_of}
-use Rattle.erm_lines.specs.Told.{Continues, EndsAs, Tells, TellsOver}
+use Rattle.erm_lines.specs.Told.{Continues, EndsAs, Tells}
 use Rattle.erm_lines_at_once.specs.Executions.{all_moves}
 use Rattle.erm_lines_at_once.specs.Parts.{IsRunInPart}
 use Rattle.erm_told.proofs.Executed.{still_session}
 use Rattle.erm_told.proofs.Going.{continues_itself}
 use Rattle.erm_told_at_once.proofs.Runs.{all_say, at_first, close_of, tells}
-use Rattle.erm_causes.specs.Touched.{IsClosedBy, TouchesAll, TouchesNow, TouchesOver, WasClosed}
+use Rattle.erm_causes.specs.Touched.{IsClosedBy, Together, TouchesAll, TouchesNow, TouchesOver, WasClosed}
 use Rattle.erm_causes.proofs.Begun.{KeepBelow}
 use Rattle.erm_causes.proofs.Causes.{causes_of, commit_told}
 use Rattle.erm_causes.proofs.Beside.{ToldCommit}
@@ -32,7 +32,8 @@ use Rattle.erm_causes.proofs.Own.{TreeLaws}
 use Rattle.erm_causes.proofs.Quiet.{closed_by_numbers}
 use Rattle.erm_causes.proofs.Runs.{lines_range}
 use Rattle.erm_causes.proofs.Tables.{AreMovesInRange}
-use Rattle.erm_causes_at_once.proofs.Free.{FreeNow, FreeOver, IsFree}
+use Rattle.erm_causes.proofs.Together.{Both, together_over, together_told}
+use Rattle.erm_causes_at_once.proofs.Free.{FreeNow, FreeOne, FreeOver, IsFree}
 use Rattle.erm_causes_at_once.proofs.Tabled.{PartRight, TableAtOnce, table_at_once}
 use Rattle.erm_causes_at_once.proofs.Walked.{FreeAt, Stands, TellsGiven, free_at, run_stands}
 use Rattle.erm_told_limits.proofs.Given.{HistoryLaws}
@@ -42,16 +43,12 @@ closes_range [] = tt
 closes_range (c ∷ closed) = (tt, closes_range closed)
 
 -- of those that are over each keeps so
-over_keeps : (table : ℕ → ℕ) (f : View) (ts : List Transaction) (gs : List Finished) (i : ℕ) (g : Finished) (stamp : ℕ) → FreeOver table f ts gs → slice_get gs i ≡ Some g → stamp_of g.fate ≡ Some stamp
+over_keeps : (table : ℕ → ℕ) (f : View) (ts : List Transaction) (gs : List Finished) (g : Finished) (stamp : ℕ) → FreeOver table f ts gs → g ∈ gs → stamp_of g.fate ≡ Some stamp
     → KeepBelow table f g.work.begin → KeepsTables table g.work
-over_keeps table f [] [] i g stamp free at is keep = cc
-over_keeps table f [] (h ∷ gs) i g stamp free at is keep = absurd free
-over_keeps table f (t ∷ ts) [] i g stamp free at is keep = absurd free
-over_keeps table f (t ∷ ts) (h ∷ gs) zero g stamp free at is keep =
-    let same : h ≡ g = cc in
-    subst (λ (e : Finished). KeepsTables table e.work) same
-    (free.0.keeps stamp (ap (λ (e : Finished). stamp_of e.fate) same ∙ is) (subst (λ (e : Finished). KeepBelow table f e.work.begin) (sym same) keep))
-over_keeps table f (t ∷ ts) (h ∷ gs) (suc i) g stamp free at is keep = over_keeps table f ts gs i g stamp free.1 at is keep
+over_keeps table f ts gs g stamp free within is keep =
+    ⊎_elim (λ (found : (t : Transaction) × (t ∈ ts) × FreeOne table f t g). found.2.keeps stamp is keep)
+    (λ (aborts : g.fate ≡ world.aborts). let no : None ≡ Some stamp = sym (ap stamp_of aborts) ∙ is in absurd (cc))
+    (together_over (FreeOne table f) ts gs g free within)
 
 module _ (tree : TreeLaws) (laws : HistoryLaws) (begun : (number begin : ℕ) → IsRunOf (world.begun number begin) [])
     (stay : (w u : Work) (steps : List Step) → Extends w u → IsAnswered w steps → IsAnswered u steps)
@@ -83,7 +80,7 @@ module _ (tree : TreeLaws) (laws : HistoryLaws) (begun : (number begin : ℕ) �
   first_stands : (seat : ℕ) → IsSession f seat → Stands table f seat nothing v
   first_stands seat session =
       let first = session_first seat session in record {
-        free = subst (λ (s : Session). IsFree table f nothing s) (sym (run.opened.idle seat first)) (record { over = tt; now = tt });
+        free = subst (λ (s : Session). IsFree table f nothing s) (sym (run.opened.idle seat first)) (record { over = refl; now = tt });
         tells = (at_first begun stay v f whole script answers closed run seat first).tells;
         given = λ x m. absurd (none_in_nil x (subst (λ (xs : List GivenUp). x ∈ xs) (run.opened.given_up seat) m));
       }
@@ -105,7 +102,7 @@ module _ (tree : TreeLaws) (laws : HistoryLaws) (begun : (number begin : ℕ) �
   keep_all zero seat g stamp session within is less = absurd (omega (arith, less))
   keep_all (suc n) seat g stamp session within is less =
       let begin = (holds.stamps seat g.work stamp session (inl (g, within, refl, is))).0 in
-      over_keeps table f (progress_of seat said).over (f.session seat).over within.0 g stamp (free seat session).over within.1 is
+      over_keeps table f (progress_of seat said).over (f.session seat).over g stamp (free seat session).over within is
       (λ q h at in_f there stamped below. keep_all n q h at in_f there stamped (omega (arith, below, begin, less)))
 
   -- and those that were excluded had their windows closed
@@ -130,15 +127,18 @@ module _ (tree : TreeLaws) (laws : HistoryLaws) (begun : (number begin : ℕ) �
   closed_as seat session g within (Excludes (Some stamp) succ pred) ends early = closed_fate seat session g within stamp succ pred g.fate refl ends
   closed_as seat session g within Aborts ends early = tt
 
-  touches_over : (seat : ℕ) → IsSession f seat → (ts : List Transaction) (gs : List Finished) → ((g : Finished) → g ∈ gs → g ∈ (f.session seat).over) → TellsOver seat ts gs → FreeOver table f ts gs
-      → TouchesOver table (history_of f) ts gs
-  touches_over seat session [] [] all told free_so = tt
-  touches_over seat session [] (g ∷ gs) all told free_so = absurd told
-  touches_over seat session (t ∷ ts) [] all told free_so = absurd told
-  touches_over seat session (t ∷ ts) (g ∷ gs) all told free_so = (
-    record { touches = free_so.0.touches (keep_all g.work.begin); closed = closed_as seat session g (all g (∈-head g gs)) t.ending told.0.ends free_so.0.early },
-    touches_over seat session ts gs (λ h m. all h (∈-behind g gs h m)) told.1 free_so.1,
+  touches_over : (seat : ℕ) → IsSession f seat → (ts : List Transaction) (gs : List Finished) → ((g : Finished) → g ∈ gs → g ∈ (f.session seat).over)
+      → Together (Both seat (FreeOne table f)) ts gs → TouchesOver table (history_of f) ts gs
+  touches_over seat session ts [] all each = each
+  touches_over seat session ts (g ∷ gs) all (inl (t, us, is, number, both, rest)) = inl (
+    t,
+    us,
+    is,
+    number,
+    record { touches = both.so_is.touches (keep_all g.work.begin); closed = closed_as seat session g (all g (∈-head g gs)) t.ending both.tells.ends both.so_is.early },
+    touches_over seat session us gs (λ h m. all h (∈-behind g gs h m)) rest,
   )
+  touches_over seat session ts (g ∷ gs) all (inr (aborts, rest)) = inr (aborts, touches_over seat session ts gs (λ h m. all h (∈-behind g gs h m)) rest)
 
   touches_now : (current : Option Transaction) (stand : Stand) → FreeNow table f current stand → TouchesNow table current stand
   touches_now None world.idle now = tt
@@ -147,7 +147,7 @@ module _ (tree : TreeLaws) (laws : HistoryLaws) (begun : (number begin : ℕ) �
   touches_now (Some t) world.idle now = absurd now
   touches_now (Some t) (world.active w) now = (now.0 (keep_all w.begin)).0
   touches_now (Some t) (world.sealed w stamp) now = (now (keep_all w.begin)).0
-  touches_now None (world.snapshot s) now = absurd now
+  touches_now None (world.snapshot s) now = tt
   touches_now (Some t) (world.snapshot s) now = absurd now
 
   pub told_there : (seat : ℕ) → IsSession f seat → Tells seat (progress_of seat said) (f.session seat)
@@ -155,7 +155,9 @@ module _ (tree : TreeLaws) (laws : HistoryLaws) (begun : (number begin : ℕ) �
 
   pub touches_all : (seat : ℕ) → IsSession f seat → TouchesAll table (history_of f) (progress_of seat said) (f.session seat)
   touches_all seat session = record {
-    over = touches_over seat session (progress_of seat said).over (f.session seat).over (λ g m. m) (told_there seat session).over (free seat session).over;
+    over = touches_over seat session (progress_of seat said).over (f.session seat).over (λ g m. m)
+        (together_told seat (FreeOne table f) (progress_of seat said).over (progress_of seat said).snapshots (f.session seat).over 1 (told_there seat session).over (free seat session).over
+        (holds.numbered seat session).over);
     now = touches_now (progress_of seat said).current (f.session seat).stand (free seat session).now;
   }
 

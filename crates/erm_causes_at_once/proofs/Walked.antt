@@ -27,6 +27,7 @@ use Rattle.erm_lines_at_once.specs.Executions.{DidOwn, IsOwnRun, is_own}
 use Rattle.erm_lines_at_once.specs.Operations.{DidOperationBeside}
 use Rattle.erm_told.proofs.Executed.{hears}
 use Rattle.erm_told.proofs.Going.{continues_then}
+use Rattle.erm_told.proofs.Sessions.{sealed_untold}
 use Rattle.erm_told_at_once.proofs.Lines.{turns_end, turns_line}
 use Rattle.erm_told_at_once.proofs.Runs.{other_line, own_goes, own_line}
 use Rattle.erm_causes.specs.Touched.{AreOfTables}
@@ -42,6 +43,7 @@ use Rattle.erm_causes_at_once.proofs.Operation.{claim_writes, kept_cut, now, ope
 use Rattle.erm_causes_at_once.proofs.Quieted.{Lined, began_idle, closed_quiet, lined, named, quiet, quieted_free, quieted_made, sealed_first}
 use Rattle.erm_causes_at_once.proofs.Still.{IsToldIn, StillTold, heard_still}
 use Rattle.erm_told_limits.proofs.Given.{HistoryLaws}
+use Rattle.erm_told_limits.proofs.Ran.{active_with}
 
 -- a move of the session did this, and one of another nothing
 abbrev pub OwnDid : View → ℕ → ℕ → Option Command → Answer → View → View → Type 0
@@ -145,16 +147,18 @@ told_work seat (Some u) (world.snapshot s) t tells active is = absurd tells
 module _ (tree : TreeLaws) (laws : HistoryLaws) (begun : (number begin : ℕ) → IsRunOf (world.begun number begin) [])
     (stay : (w u : Work) (steps : List Step) → Extends w u → IsAnswered w steps → IsAnswered u steps) (table : ℕ → ℕ) (f : View) (seat : ℕ) (session : IsSession f seat)
     (holds : IsSerializable sound_law f) (opened : AreOfTables table f.opening.rows) where
-  lined_free : (asked : Option Command) (a : Answer) (v t : View) (p : Progress) → Lined f seat asked a v t → IsAskedInRange asked
+  lined_free : (asked : Option Command) (a : Answer) (v t : View) (p : Progress) → TellsNow seat p.current (v.session seat).stand → Lined f seat asked a v t → IsAskedInRange asked
       → ((k : ℕ) → table_asked asked ≡ Some k → (x : ℕ) → made_in (v.session seat) x < made_in (t.session seat) x → table x ≡ k) → Continues (t.session seat) (f.session seat)
       → IsFree table f p (v.session seat) → IsFree table f (heard seat asked a p) (t.session seat)
-  lined_free asked a v t p (quiet did) range right goes free = quieted_free begun table f seat asked a p (v.session seat) (t.session seat) did free
-  lined_free asked a v t p (sealed_first stamp between active is did) range right goes free =
-      quieted_free begun table f seat asked a p between (t.session seat) did
+  lined_free asked a v t p tells (quiet did) range right goes free = quieted_free begun table f seat asked a p (v.session seat) (t.session seat) tells did free
+  lined_free asked a v t p tells (sealed_first stamp between active is did) range right goes free =
+      let stand = active_with (v.session seat).stand active in
+      let sealed = sealed_untold seat stamp p.current (work_at v seat) (subst (λ (at : Stand). TellsNow seat p.current at) stand tells) in
+      quieted_free begun table f seat asked a p between (t.session seat) (subst (λ (s : Session). TellsNow seat p.current s.stand) (sym is) sealed) did
       (subst (λ (s : Session). IsFree table f p s) (sym is) (sealed_free table f p (v.session seat) stamp active free))
-  lined_free asked a v t p (named c k is names active did) range right goes free =
+  lined_free asked a v t p tells (named c k is names active did) range right goes free =
       subst (λ (b : Option Command). IsFree table f (heard seat b a p) (t.session seat)) (sym is)
-      (operation_free tree laws table f seat session holds opened c a k names (subst IsAskedInRange is range) v t active did goes (right k (ap table_asked is ∙ names)) p free)
+      (operation_free tree laws table f seat session holds opened c a k names (subst IsAskedInRange is range) v t active did goes (right k (ap table_asked is ∙ names)) p free tells)
 
   given_later : (p q : Progress) (x : GivenUp) → ((t : Transaction) → IsToldIn p t → StillTold t q) → TellsGiven table f seat p x → TellsGiven table f seat q x
   given_later p q x still tells =
@@ -209,7 +213,7 @@ module _ (tree : TreeLaws) (laws : HistoryLaws) (begun : (number begin : ℕ) �
       → Stands table f seat p v → Stands table f seat (cond (at == seat) (heard seat asked a p) p) t
   own_stands at asked a v t p (inl (is, did)) moved range right goes stands =
       subst (λ (b : Bool). Stands table f seat (cond b (heard seat asked a p) p) t) (sym (eq-eqb at seat is)) (record {
-        free = lined_free asked a v t p did range right goes stands.free;
+        free = lined_free asked a v t p stands.tells.now did range right goes stands.free;
         tells = (moved is).tells p stands.tells;
         given = lined_given asked a v t p did (moved is).given range right goes stands;
       })
