@@ -1,6 +1,6 @@
 -- The stamps that an own line tells lie between the ends of the log that the session knows before and after it, and what it met of others below the
 -- latter.
-use Rattle.std.proofs.Common.{◌≡◌, ◌⊎◌, ℕ, zero, suc, ◌+◌, ◌<◌, ◌≤◌, List, [], ◌∷◌, ◌++◌, length, Option, Some, None, refl, sym, ap, ◌∙◌, subst, inl, inr, ⊎_elim, arith, le_trans}
+use Rattle.std.proofs.Common.{◌≡◌, ◌⊎◌, ℕ, zero, suc, ◌+◌, ◌<◌, ◌≤◌, true, false, List, [], ◌∷◌, ◌++◌, length, Option, Some, None, refl, sym, ap, ◌∙◌, subst, inl, inr, ⊎_elim, arith, le_trans}
 use Rattle.erm_model.specs.declared.limits.TheConstants.{LEAST_BLOCK}
 use Rattle.erm_model.specs.declared.outcome.Phase.{Phase}
 use Rattle.erm_model.specs.declared.outcome.Phase.TheVariants.{Idle, Active, Sealed, Pending, Safe}
@@ -12,6 +12,7 @@ use Rattle.erm_model.specs.Rows.{Rows}
 use Rattle.erm_model.specs.Run.{Step}
 use Rattle.erm_model.proofs.Members.{∈-push}
 use Rattle.erm_machine.proofs.Listed.{∈-head, ∈-second}
+use Rattle.erm_model.specs.declared.operation.Reply.{Reply}
 use Rattle.erm_report.specs.declared.answer.Answer.{Answer}
 use Rattle.erm_report.specs.declared.answer.Answer.TheVariants as answer
 use Rattle.erm_script.specs.declared.script.Command.{Command}
@@ -22,19 +23,22 @@ use Rattle.erm_world.specs.Face.{Grows, ends, same, works}
 use Rattle.erm_world.specs.Onward.{grows_then}
 use Rattle.erm_world.specs.World.{Fate, Finished, Has, IsSession, Session, Stand, View, Work, phase_at, phase_of, size_of, stamp_of, work_at, work_of}
 use Rattle.erm_world.specs.World as world
-use Rattle.erm_good_report.specs.Phases.{FitsRefusal, phase_asked, refusal_in, refusal_of}
+use Rattle.erm_good_report.specs.Phases.{FitsRefusal, HasNoSnapshot, NeedsReader, NeedsWriter, need_of, refusal_in, refusal_of}
 use Rattle.erm_good_report.specs.Stamps.{IsWait, begin_told, place_told, stamp_drawn, stamp_printed, stamp_told}
+use Rattle.erm_good_report.proofs.Phases.{phase_refuses}
 use Rattle.erm_good_at_once.specs.Rising.{stamp_met}
 use Rattle.erm_lines.specs.Answers.{IsLastCommit}
 use Rattle.erm_lines.specs.Operations.{AsksOf, DidCalls, FrontOf, WholeOf}
+use Rattle.erm_lines.proofs.Moved.{active_where}
 use Rattle.erm_beside.specs.Calls.{After, DidBeginBeside, Passes, RefusedBeside}
 use Rattle.erm_beside.specs.Ends.{Aborted, MetBeside}
+use Rattle.erm_beside.specs.Safe.{DidBeginSafeBeside}
 use Rattle.erm_beside.proofs.Txns.{stopped_after}
 use Rattle.erm_told.proofs.Drawing.{block_fits, drawn_none, no_number, stamp_at, the_number}
-use Rattle.erm_told.proofs.Lines.{phase_refuses}
 use Rattle.erm_told.proofs.Operations.{the_answer}
-use Rattle.erm_lines_at_once.specs.Answers.{DidAskedBeside, DidCommandBeside, DidCommitBeside, DidDecideBeside, DidLineBeside}
+use Rattle.erm_lines_at_once.specs.Answers.{DidAskSafeBeside, DidAskSnapshotBeside, DidAskedBeside, DidBeginAndAskBeside, DidCommandBeside, DidCommitBeside, DidDecideBeside, DidLineBeside, DidOfSnapshotBeside}
 use Rattle.erm_lines_at_once.specs.Operations.{Beside, DidOnce, DidOperationBeside, WasTried, WereCutBeside, told_at_once}
+use Rattle.erm_lines_at_once.proofs.Watched.{in_phase}
 use Rattle.erm_told_at_once.proofs.Operated.{Reached, holds_cut, reached}
 
 -- a session's transaction was sealed with this stamp
@@ -98,6 +102,8 @@ phase_silent f seat m t asked answer.NotIdle is = silent f seat m t asked answer
 phase_silent f seat m t asked answer.NoTransaction is = silent f seat m t asked answer.NoTransaction refl refl refl (λ none. none) refl refl (λ other number is. cc)
 phase_silent f seat m t asked answer.IsSealed is = silent f seat m t asked answer.IsSealed refl refl refl (λ none. none) refl refl (λ other number is. cc)
 phase_silent f seat m t asked answer.NotSealed is = silent f seat m t asked answer.NotSealed refl refl refl (λ none. none) refl refl (λ other number is. cc)
+phase_silent f seat m t asked answer.ReadOnly is = silent f seat m t asked answer.ReadOnly refl refl refl (λ none. none) refl refl (λ other number is. cc)
+phase_silent f seat m t asked answer.NotSafe is = silent f seat m t asked answer.NotSafe refl refl refl (λ none. none) refl refl (λ other number is. cc)
 phase_silent f seat m t asked a is = absurd (cc)
 
 -- WHAT WAS MET.
@@ -440,10 +446,11 @@ durable_draws f seat stamp asked u t is end last m below =
       waits = λ none. none;
     }
 
--- an abort
-aborted_drew : (f : View) (seat : ℕ) (asked : Option Command) (v u t : View) (w : Work) → Passes seat v u → IsDone u seat w world.aborts t → LieBelow seat v → Drew f seat asked answer.Aborted v t
-aborted_drew f seat asked v u t w passes done below = record {
-  draws = silent f seat v.tail t asked answer.Aborted refl refl refl (λ none. none) refl refl (λ other number is. cc);
+-- one that is over without a stamp
+done_drew : (f : View) (seat : ℕ) (asked : Option Command) (a : Answer) (v u t : View) (w : Work) → Passes seat v u → IsDone u seat w world.aborts t → LieBelow seat v → DrawsBeside f seat v.tail t asked a
+    → Drew f seat asked a v t
+done_drew f seat asked a v u t w passes done below draws = record {
+  draws = draws;
   below = lie_still seat v t (λ stamp has. subst (λ (s : Session). HasDrawn s stamp) passes.own (from stamp has)) (omega (arith, passes.tail, done.tail)) below;
   up = omega (arith, passes.tail, done.tail);
 }
@@ -453,45 +460,133 @@ aborted_drew f seat asked v u t w passes done below = record {
         over_more (u.session seat) (record { work = w; fate = world.aborts }) (t.session seat).over stamp (ap (λ (s : Session). s.over) done.own) (λ x told. no_fate x (HasDrawn (u.session seat) x) told) g m stamped
     from stamp (inr (x, sealed)) = idle_not_sealed (t.session seat).stand x stamp (HasDrawn (u.session seat) stamp) (ap (λ (s : Session). s.stand) done.own) sealed
 
--- the phase that isn't refused
-is_active_at : (phase : Phase) → refusal_of phase command.Abort ≡ None → phase ≡ Active
-is_active_at Idle none = cc
-is_active_at Active none = refl
-is_active_at Sealed none = cc
-is_active_at Pending none = cc
-is_active_at Safe none = cc
+-- an abort
+aborted_drew : (f : View) (seat : ℕ) (asked : Option Command) (v u t : View) (w : Work) → Passes seat v u → IsDone u seat w world.aborts t → LieBelow seat v → Drew f seat asked answer.Aborted v t
+aborted_drew f seat asked v u t w passes done below =
+    done_drew f seat asked answer.Aborted v u t w passes done below (silent f seat v.tail t asked answer.Aborted refl refl refl (λ none. none) refl refl (λ other number is. cc))
 
-command_drew : (f : View) (seat : ℕ) (c : Command) (a : Answer) (v t : View) → refusal_of (phase_at v seat) c ≡ None → LieBelow seat v → DidCommandBeside f seat c a v t → Drew f seat (Some c) a v t
-command_drew f seat command.Begin (answer.Began stamp) v t none below (u, passes, did) = begin_drew f seat stamp (Some command.Begin) v u t passes did below
-command_drew f seat command.Begin (answer.LogEnd tail) v t none below (u, passes, did) =
+-- A SNAPSHOT draws no stamp. What went back is printed, and lies below the end of the log.
+not_snapshot : (stand : Stand) (x : world.Snapshot) (w : Work) (stamp : ℕ) (P : Type 0) → stand ≡ world.snapshot x → stand ≡ world.sealed w stamp → P
+not_snapshot stand x w stamp P is sealed = absurd (cc)
+
+watched_had : (s t : Session) (x : world.Snapshot) → t ≡ record { over = s.over; stand = world.snapshot x } → (stamp : ℕ) → HasDrawn t stamp → HasDrawn s stamp
+watched_had s t x is stamp (inl (g, m, stamped)) = inl (g, subst (λ (r : Session). g ∈ r.over) is m, stamped)
+watched_had s t x is stamp (inr (w, sealed)) = not_snapshot t.stand x w stamp (HasDrawn s stamp) (ap (λ (r : Session). r.stand) is) sealed
+
+asked_draws : (f : View) (seat m : ℕ) (a : Answer) (v t : View) → DidAskSafeBeside f seat a v t → DrawsBeside f seat m t (Some command.Safe) a
+asked_draws f seat m (answer.Safe stamp) v t did = silent f seat m t (Some command.Safe) (answer.Safe stamp) refl refl refl (λ none. none) refl refl (λ other number is. cc)
+asked_draws f seat m (answer.Unsafe other stamp) v t (did, met) =
+    meets f seat m t (Some command.Safe) (answer.Unsafe other stamp) refl refl refl (λ none. none)
+    (λ printed told. omega (arith, met.1, the_number stamp printed told)) (λ printed told. cc) (λ x number told. cc)
+asked_draws f seat m a v t did = absurd did
+
+-- where the session's stamps lie then
+record Lies (seat : ℕ) (v t : View) : Type 0 where
+  below : LieBelow seat t
+  up : v.tail ≤ t.tail
+
+asked_lies : (f : View) (seat : ℕ) (a : Answer) (v t : View) → LieBelow seat v → DidAskSafeBeside f seat a v t → Lies seat v t
+asked_lies f seat (answer.Safe stamp) v t below ((u, passes, (x, at, now)), is, safe) =
+    let up : v.tail ≤ t.tail = omega (arith, passes.tail, now.tail) in record {
+      below = lie_still seat v t
+          (λ drawn has. subst (λ (s : Session). HasDrawn s drawn) passes.own (watched_had (u.session seat) (t.session seat) (record x { is_safe = true }) now.own drawn has)) up below;
+      up = up;
+    }
+asked_lies f seat (answer.Unsafe other stamp) v t below ((u, passes, did), met) =
+    let drew = done_drew f seat (Some command.Safe) (answer.Unsafe other stamp) v u t (work_at u seat) passes did below
+    (asked_draws f seat v.tail (answer.Unsafe other stamp) v t ((u, passes, did), met)) in
+    record { below = drew.below; up = drew.up }
+asked_lies f seat a v t below did = absurd did
+
+asked_safe_drew : (f : View) (seat : ℕ) (a : Answer) (v t : View) → LieBelow seat v → DidAskSafeBeside f seat a v t → Drew f seat (Some command.Safe) a v t
+asked_safe_drew f seat a v t below did =
+    let lies = asked_lies f seat a v t below did in record { draws = asked_draws f seat v.tail a v t did; below = lies.below; up = lies.up }
+
+began_lies : (seat begin : ℕ) (v u : View) → LieBelow seat v → After seat (DidBeginSafeBeside seat begin) v u → Lies seat v u
+began_lies seat begin v u below (w, passes, (few, is, now)) =
+    let x : world.Snapshot = record { number = length (w.session seat).over + 1; begin = begin; is_safe = false } in
+    let up : v.tail ≤ u.tail = omega (arith, passes.tail, now.tail) in record {
+      below = lie_still seat v u (λ drawn has. subst (λ (s : Session). HasDrawn s drawn) passes.own (watched_had (w.session seat) (u.session seat) x now.own drawn has)) up below;
+      up = up;
+    }
+
+began_drew : (f : View) (seat : ℕ) (a : Answer) (v t : View) → LieBelow seat v → DidBeginAndAskBeside f seat a v t → Drew f seat (Some command.Safe) a v t
+began_drew f seat a v t below did =
+    let first = began_lies seat did.begin v did.between below did.began in
+    let second = asked_lies f seat a did.between t first.below did.asked in record {
+      draws = asked_draws f seat v.tail a did.between t did.asked;
+      below = second.below;
+      up = le_trans first.up second.up;
+    }
+
+snapshot_drew : (f : View) (seat : ℕ) (a : Answer) (v t : View) → LieBelow seat v → DidAskSnapshotBeside f seat a v t → Drew f seat (Some command.Safe) a v t
+snapshot_drew f seat (answer.LogEnd tail) v t below (u, passes, did) =
+    still_drew f seat (Some command.Safe) (answer.LogEnd tail) v u t passes did.0 below
+    (λ m there. silent f seat m t (Some command.Safe) (answer.LogEnd tail) refl refl refl (λ none. none) refl refl (λ other number e. cc))
+snapshot_drew f seat answer.NumbersEnd v t below (u, passes, did) =
+    still_drew f seat (Some command.Safe) answer.NumbersEnd v u t passes did.0 below
+    (λ m there. silent f seat m t (Some command.Safe) answer.NumbersEnd refl refl refl (λ none. none) refl refl (λ other number e. cc))
+snapshot_drew f seat a v t below did = began_drew f seat a v t below did
+
+durable_drew : (f : View) (seat stamp : ℕ) (v u t : View) → Passes seat v u → t ≡ u → (end : ℕ) → IsLastCommit (u.session seat).over stamp end → LieBelow seat v
+    → Drew f seat (Some command.Durable) (answer.Durable stamp) v t
+durable_drew f seat stamp v u t passes is end last below =
+    still_drew f seat (Some command.Durable) (answer.Durable stamp) v u t passes is below (durable_draws f seat stamp (Some command.Durable) u t is end last)
+
+no_receipt_drew : (f : View) (seat : ℕ) (v u t : View) → Passes seat v u → t ≡ u → LieBelow seat v → Drew f seat (Some command.Durable) answer.NoReceipt v t
+no_receipt_drew f seat v u t passes is below =
+    still_drew f seat (Some command.Durable) answer.NoReceipt v u t passes is below
+    (λ m there. silent f seat m t (Some command.Durable) answer.NoReceipt refl refl refl (λ none. none) refl refl (λ other number e. cc))
+
+looked_drew : (f : View) (seat : ℕ) (c : Command) (r : Reply) (v t : View) → Passes seat v t → LieBelow seat v → Drew f seat (Some c) (answer.Replied r) v t
+looked_drew f seat c r v t passes below =
+    still_drew f seat (Some c) (answer.Replied r) v t t passes refl below
+    (λ m there. silent f seat m t (Some c) (answer.Replied r) refl refl refl (λ none. none) refl refl (λ other number e. cc))
+
+watched_drew : (f : View) (seat : ℕ) (c : Command) (a : Answer) (v t : View) → LieBelow seat v → DidOfSnapshotBeside f seat c a v t → Drew f seat (Some c) a v t
+watched_drew f seat command.Safe a v t below did = asked_safe_drew f seat a v t below did
+watched_drew f seat (command.Get table key) (answer.Replied r) v t below did = looked_drew f seat (command.Get table key) r v t did.passes below
+watched_drew f seat (command.Next table from) (answer.Replied r) v t below did = looked_drew f seat (command.Next table from) r v t did.passes below
+watched_drew f seat (command.Scan table low high) (answer.Replied r) v t below did = looked_drew f seat (command.Scan table low high) r v t did.passes below
+watched_drew f seat command.Commit answer.Ended v t below (u, passes, did) =
+    done_drew f seat (Some command.Commit) answer.Ended v u t (work_at u seat) passes did below
+    (silent f seat v.tail t (Some command.Commit) answer.Ended refl refl refl (λ none. none) refl refl (λ other number is. cc))
+watched_drew f seat command.Abort answer.Aborted v t below (u, passes, did) = aborted_drew f seat (Some command.Abort) v u t (work_at u seat) passes did below
+watched_drew f seat command.Durable (answer.Durable stamp) v t below (u, passes, did) = durable_drew f seat stamp v u t passes did.0 did.1.0 did.1.1 below
+watched_drew f seat command.Durable answer.NoReceipt v t below (u, passes, did) = no_receipt_drew f seat v u t passes did.0 below
+watched_drew f seat c a v t below did = absurd did
+
+-- THE LINES of a session without a snapshot
+command_drew : (f : View) (seat : ℕ) (c : Command) (a : Answer) (v t : View) → refusal_of (phase_at v seat) c ≡ None → HasNoSnapshot (phase_at v seat) → LieBelow seat v → DidCommandBeside f seat c a v t → Drew f seat (Some c) a v t
+command_drew f seat command.Begin (answer.Began stamp) v t free plain below (u, passes, did) = begin_drew f seat stamp (Some command.Begin) v u t passes did below
+command_drew f seat command.Begin (answer.LogEnd tail) v t free plain below (u, passes, did) =
     still_drew f seat (Some command.Begin) (answer.LogEnd tail) v u t passes did.0 below
     (λ m there. silent f seat m t (Some command.Begin) (answer.LogEnd tail) refl refl refl (λ none. none) refl refl (λ other number e. cc))
-command_drew f seat command.Begin answer.NumbersEnd v t none below (u, passes, did) =
+command_drew f seat command.Begin answer.NumbersEnd v t free plain below (u, passes, did) =
     still_drew f seat (Some command.Begin) answer.NumbersEnd v u t passes did.0 below
     (λ m there. silent f seat m t (Some command.Begin) answer.NumbersEnd refl refl refl (λ none. none) refl refl (λ other number e. cc))
-command_drew f seat command.Seal (answer.Sealed stamp) v t none below (u, passes, did) = seal_drew f seat stamp (Some command.Seal) v u t passes did below
-command_drew f seat command.Settle a v t none below did = settle_drew f seat a v t below did
-command_drew f seat command.Commit a v t none below did = commit_drew f seat a v t below did
-command_drew f seat command.Abort answer.Aborted v t none below (u, passes, did) = aborted_drew f seat (Some command.Abort) v u t (work_at u seat) passes did below
-command_drew f seat (command.Get table key) a v t none below did = operation_drew f seat (command.Get table key) a v t (is_active_at (phase_at v seat) none) below did
-command_drew f seat (command.Put table key value) a v t none below did = operation_drew f seat (command.Put table key value) a v t (is_active_at (phase_at v seat) none) below did
-command_drew f seat (command.Del table key) a v t none below did = operation_drew f seat (command.Del table key) a v t (is_active_at (phase_at v seat) none) below did
-command_drew f seat (command.Next table from) a v t none below did = operation_drew f seat (command.Next table from) a v t (is_active_at (phase_at v seat) none) below did
-command_drew f seat (command.Scan table low high) a v t none below did = operation_drew f seat (command.Scan table low high) a v t (is_active_at (phase_at v seat) none) below did
-command_drew f seat (command.Tidy table key) a v t none below did = operation_drew f seat (command.Tidy table key) a v t (is_active_at (phase_at v seat) none) below did
-command_drew f seat command.Durable (answer.Durable stamp) v t none below (u, passes, did) =
-    still_drew f seat (Some command.Durable) (answer.Durable stamp) v u t passes did.0 below (durable_draws f seat stamp (Some command.Durable) u t did.0 did.1.0 did.1.1)
-command_drew f seat command.Durable answer.NoReceipt v t none below (u, passes, did) =
-    still_drew f seat (Some command.Durable) answer.NoReceipt v u t passes did.0 below
-    (λ m there. silent f seat m t (Some command.Durable) answer.NoReceipt refl refl refl (λ none. none) refl refl (λ other number e. cc))
-command_drew f seat c a v t none below did = absurd did
+command_drew f seat command.Safe a v t free plain below did = snapshot_drew f seat a v t below did
+command_drew f seat command.Seal (answer.Sealed stamp) v t free plain below (u, passes, did) = seal_drew f seat stamp (Some command.Seal) v u t passes did below
+command_drew f seat command.Settle a v t free plain below did = settle_drew f seat a v t below did
+command_drew f seat command.Commit a v t free plain below did = commit_drew f seat a v t below did
+command_drew f seat command.Abort answer.Aborted v t free plain below (u, passes, did) = aborted_drew f seat (Some command.Abort) v u t (work_at u seat) passes did below
+command_drew f seat (command.Get table key) a v t free plain below did = operation_drew f seat (command.Get table key) a v t (active_where NeedsReader (phase_at v seat) tt plain free) below did
+command_drew f seat (command.Put table key value) a v t free plain below did = operation_drew f seat (command.Put table key value) a v t (active_where NeedsWriter (phase_at v seat) tt plain free) below did
+command_drew f seat (command.Del table key) a v t free plain below did = operation_drew f seat (command.Del table key) a v t (active_where NeedsWriter (phase_at v seat) tt plain free) below did
+command_drew f seat (command.Next table from) a v t free plain below did = operation_drew f seat (command.Next table from) a v t (active_where NeedsReader (phase_at v seat) tt plain free) below did
+command_drew f seat (command.Scan table low high) a v t free plain below did = operation_drew f seat (command.Scan table low high) a v t (active_where NeedsReader (phase_at v seat) tt plain free) below did
+command_drew f seat (command.Tidy table key) a v t free plain below did = operation_drew f seat (command.Tidy table key) a v t (active_where NeedsWriter (phase_at v seat) tt plain free) below did
+command_drew f seat command.Durable (answer.Durable stamp) v t free plain below (u, passes, did) = durable_drew f seat stamp v u t passes did.0 did.1.0 did.1.1 below
+command_drew f seat command.Durable answer.NoReceipt v t free plain below (u, passes, did) = no_receipt_drew f seat v u t passes did.0 below
+command_drew f seat c a v t free plain below did = absurd did
 
 asked_drew : (f : View) (seat : ℕ) (c : Command) (a : Answer) (v t : View) (refusal : Option Answer) → refusal_of (phase_at v seat) c ≡ refusal → FitsRefusal refusal c a
     → LieBelow seat v → DidAskedBeside refusal f seat c a v t → Drew f seat (Some c) a v t
-asked_drew f seat c a v t None is fits below did = command_drew f seat c a v t is below did
+asked_drew f seat c a v t None is fits below did =
+    in_phase (Drew f seat (Some c) a v t) f seat c a v t (λ plain did. command_drew f seat c a v t is plain below did) (λ has did. watched_drew f seat c a v t below did) did
 asked_drew f seat c a v t (Some r) is fits below passes =
     still_drew f seat (Some c) a v t t passes refl below
-    (λ m there. phase_silent f seat m t (Some c) a (subst (λ (x : Answer). refusal_in x ≡ Some x) (sym fits) (phase_refuses (phase_asked c) (phase_at v seat) r is)))
+    (λ m there. phase_silent f seat m t (Some c) a (subst (λ (x : Answer). refusal_in x ≡ Some x) (sym fits) (phase_refuses (need_of c) (phase_at v seat) r is)))
 
 pub line_drew : (f : View) (l : ScriptLine) (a : Answer) (v t : View) → LieBelow l.session v → DidLineBeside f l a v t → Drew f l.session (Some l.command) a v t
 line_drew f l a v t below did = asked_drew f l.session l.command a v t (refusal_of (phase_at v l.session) l.command) refl did.fits below did.did

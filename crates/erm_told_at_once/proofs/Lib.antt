@@ -1,7 +1,13 @@
+pub mod Begins
 pub mod Drawing
 pub mod Ends
+pub mod Lasting
 pub mod Lines
 pub mod Operated
+pub mod Phases
+pub mod Places
 pub mod Runs
+pub mod Sessions
 pub mod Stamping
 pub mod Turns
+pub mod Watched

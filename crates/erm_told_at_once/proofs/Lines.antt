@@ -1,5 +1,5 @@
 -- Each own line of a session that was answered, and its close, is a turn of it.
-use Rattle.std.proofs.Common.{◌≡◌, ℕ, List, [], length, append-nil, Option, Some, None, refl, sym, ap, ◌∙◌, subst, arith, ◌+◌}
+use Rattle.std.proofs.Common.{◌≡◌, ℕ, ◌+◌, true, List, [], length, append-nil, Option, Some, None, refl, sym, ap, ◌∙◌, subst, arith}
 use Rattle.erm_model.specs.declared.outcome.Phase.{Phase}
 use Rattle.erm_model.specs.declared.outcome.Phase.TheVariants.{Idle, Active, Sealed, Pending, Safe}
 use Rattle.erm_model.specs.Run.{Step}
@@ -9,20 +9,26 @@ use Rattle.erm_script.specs.declared.script.Command.{Command}
 use Rattle.erm_script.specs.declared.script.Command.TheVariants as command
 use Rattle.erm_script.specs.declared.script.ScriptLine.{ScriptLine}
 use Rattle.erm_world.specs.Going.{Extends}
-use Rattle.erm_world.specs.World.{Session, View, Work, phase_at, phase_of}
+use Rattle.erm_world.specs.World.{Session, Stand, View, Work, phase_at, phase_of}
 use Rattle.erm_world.specs.World as world
 use Rattle.erm_maps.specs.Runs.{IsAnswered, IsRunOf}
-use Rattle.erm_good_report.specs.Phases.{Closes, FitsRefusal, phase_after, phase_asked, refusal_in, refusal_of}
+use Rattle.erm_good_report.specs.Phases.{Closes, FitsRefusal, HasNoSnapshot, NeedsAny, NeedsReader, NeedsWriter, need_of, phase_after, refusal_in, refusal_of}
 use Rattle.erm_good_report.specs.Transactions.{Commits, Excludes, Progress, heard}
-use Rattle.erm_lines.specs.Told.{Tells}
+use Rattle.erm_good_report.proofs.Phases.{phase_refuses}
+use Rattle.erm_lines.specs.Told.{Tells, TellsWatched}
+use Rattle.erm_lines.specs.Whole.{is_snapshot}
+use Rattle.erm_lines.proofs.Moved.{active_where}
+use Rattle.erm_lines.proofs.Watched.{idle_where, snapshot_there, start_where}
 use Rattle.erm_beside.specs.Calls.{DidBeginBeside, Passes}
 use Rattle.erm_told.proofs.Going.{continues_from, continues_then}
-use Rattle.erm_told.proofs.Lines.{phase_refuses, quiet_heard, quiet_phase}
+use Rattle.erm_told.proofs.Lines.{quiet_heard, quiet_phase}
 use Rattle.erm_told.proofs.Sessions.{begun_told}
 use Rattle.erm_told.proofs.Turns.{idle_in, told_sealed, told_still, turn_aborted, turn_decided, turn_sealed, turn_still}
 use Rattle.erm_lines_at_once.specs.Answers.{DidAskedBeside, DidCloseBeside, DidCommandBeside, DidCommitBeside, DidDecideBeside, DidEndBeside, DidLineBeside}
+use Rattle.erm_lines_at_once.proofs.Watched.{in_phase}
 use Rattle.erm_told_at_once.proofs.Operated.{turns_operation}
 use Rattle.erm_told_at_once.proofs.Turns.{Turns, onward_passes, onward_then, took_as, turns_after}
+use Rattle.erm_told_at_once.proofs.Watched.{turns_closed, turns_of_snapshot, turns_snapshot}
 
 -- nothing happened but that others went on
 turns_still : (seat : ℕ) (asked : Option Command) (a : Answer) (v u t : View) → Passes seat v u → t ≡ u → ((phase : Phase) → phase_after asked a phase ≡ phase)
@@ -41,11 +47,12 @@ turns_begun : ((number begin : ℕ) → IsRunOf (world.begun number begin) []) �
     → DidBeginBeside seat begin u t → Turns seat asked (answer.Began begin) v t
 turns_begun runs seat begin asked v u t passes idle (few, is, now) =
     let over = (u.session seat).over in
-    let s : Session = record { over = over; stand = world.active (world.begun (length over + 1) begin) } in record {
+    let s : Session = record { over = over; stand = world.active (world.begun (length over + 1) begin) } in
+    let stand = idle_in (u.session seat).stand idle in record {
       took = took_as seat asked (answer.Began begin) (v.session seat) (t.session seat) (u.session seat) s passes.own now.own (record {
-        goes = continues_from (u.session seat) s world.idle (idle_in (u.session seat).stand idle) [] (sym (append-nil over)) tt;
+        goes = continues_from (u.session seat) s world.idle stand [] (sym (append-nil over)) tt;
         phase = refl;
-        tells = λ p told. begun_told seat begin asked p over (runs (length over + 1) begin) told.over;
+        tells = λ p told. begun_told seat begin asked p over (runs (length over + 1) begin) told.over (subst (λ (at : Stand). TellsWatched p.snapshot at) stand told.watched);
       });
       onward = onward_then v u t (onward_passes seat v u passes) (record { opening = now.opening; tail = omega (arith, now.tail) });
     }
@@ -83,54 +90,42 @@ turns_commit seat a v t active did =
       onward = onward_then v m t first.onward second.onward;
     }
 
--- THE PHASE that isn't refused
-is_idle_at : (phase : Phase) → refusal_of phase command.Begin ≡ None → phase ≡ Idle
-is_idle_at Idle none = refl
-is_idle_at Active none = cc
-is_idle_at Sealed none = cc
-is_idle_at Pending none = cc
-is_idle_at Safe none = cc
-
-is_active_at : (phase : Phase) → refusal_of phase command.Abort ≡ None → phase ≡ Active
-is_active_at Idle none = cc
-is_active_at Active none = refl
-is_active_at Sealed none = cc
-is_active_at Pending none = cc
-is_active_at Safe none = cc
-
 -- THE LINES.
 module _ (runs : (number begin : ℕ) → IsRunOf (world.begun number begin) []) (stay : (w u : Work) (steps : List Step) → Extends w u → IsAnswered w steps → IsAnswered u steps) where
-  turns_command : (f : View) (seat : ℕ) (c : Command) (a : Answer) (v t : View) → refusal_of (phase_at v seat) c ≡ None → DidCommandBeside f seat c a v t → Turns seat (Some c) a v t
-  turns_command f seat command.Begin (answer.Began stamp) v t none (u, passes, did) =
-      turns_begun runs seat stamp (Some command.Begin) v u t passes (ap (λ (s : Session). phase_of s.stand) passes.own ∙ is_idle_at (phase_at v seat) none) did
-  turns_command f seat command.Begin (answer.LogEnd tail) v t none (u, passes, did) =
-      turns_still seat (Some command.Begin) (answer.LogEnd tail) v u t passes did.0 (λ phase. refl) (λ p s told. told_still seat (Some command.Begin) (answer.LogEnd tail) p s refl told)
-  turns_command f seat command.Begin answer.NumbersEnd v t none (u, passes, did) =
-      turns_still seat (Some command.Begin) answer.NumbersEnd v u t passes did.0 (λ phase. refl) (λ p s told. told_still seat (Some command.Begin) answer.NumbersEnd p s refl told)
-  turns_command f seat command.Seal (answer.Sealed stamp) v t none (u, passes, did) =
+  turns_command : (f : View) (seat : ℕ) (c : Command) (a : Answer) (v t : View) → refusal_of (phase_at v seat) c ≡ None → HasNoSnapshot (phase_at v seat) → DidCommandBeside f seat c a v t → Turns seat (Some c) a v t
+  turns_command f seat command.Begin (answer.Began stamp) v t free plain (u, passes, did) =
+      turns_begun runs seat stamp (Some command.Begin) v u t passes (ap (λ (s : Session). phase_of s.stand) passes.own ∙ idle_where (phase_at v seat) command.Begin free refl) did
+  turns_command f seat command.Begin (answer.LogEnd tail) v t free plain (u, passes, did) =
+      turns_still seat (Some command.Begin) (answer.LogEnd tail) v u t passes did.0 (λ phase. refl) (λ p s told. told_still seat (Some command.Begin) (answer.LogEnd tail) p s refl refl told)
+  turns_command f seat command.Begin answer.NumbersEnd v t free plain (u, passes, did) =
+      turns_still seat (Some command.Begin) answer.NumbersEnd v u t passes did.0 (λ phase. refl) (λ p s told. told_still seat (Some command.Begin) answer.NumbersEnd p s refl refl told)
+  turns_command f seat command.Safe a v t free plain did = turns_snapshot f seat a v t (start_where (phase_at v seat) command.Safe free refl plain) did
+  turns_command f seat command.Seal (answer.Sealed stamp) v t free plain (u, passes, did) =
       turns_after seat (Some command.Seal) (answer.Sealed stamp) v u t passes
-      (turn_sealed u seat stamp (Some command.Seal) t (ap (λ (s : Session). phase_of s.stand) passes.own ∙ is_active_at (phase_at v seat) none) did)
-  turns_command f seat command.Settle a v t none did = turns_decides seat (Some command.Settle) a v t did
-  turns_command f seat command.Commit a v t none did = turns_commit seat a v t (is_active_at (phase_at v seat) none) did
-  turns_command f seat command.Abort answer.Aborted v t none (u, passes, did) =
+      (turn_sealed u seat stamp (Some command.Seal) t (ap (λ (s : Session). phase_of s.stand) passes.own ∙ active_where NeedsWriter (phase_at v seat) tt plain free) did)
+  turns_command f seat command.Settle a v t free plain did = turns_decides seat (Some command.Settle) a v t did
+  turns_command f seat command.Commit a v t free plain did = turns_commit seat a v t (active_where NeedsReader (phase_at v seat) tt plain free) did
+  turns_command f seat command.Abort answer.Aborted v t free plain (u, passes, did) =
       turns_after seat (Some command.Abort) answer.Aborted v u t passes
-      (turn_aborted u seat (Some command.Abort) t (ap (λ (s : Session). phase_of s.stand) passes.own ∙ is_active_at (phase_at v seat) none) did)
-  turns_command f seat (command.Get table key) a v t none did = turns_operation stay f seat (command.Get table key) a v t (is_active_at (phase_at v seat) none) did
-  turns_command f seat (command.Put table key value) a v t none did = turns_operation stay f seat (command.Put table key value) a v t (is_active_at (phase_at v seat) none) did
-  turns_command f seat (command.Del table key) a v t none did = turns_operation stay f seat (command.Del table key) a v t (is_active_at (phase_at v seat) none) did
-  turns_command f seat (command.Next table from) a v t none did = turns_operation stay f seat (command.Next table from) a v t (is_active_at (phase_at v seat) none) did
-  turns_command f seat (command.Scan table low high) a v t none did = turns_operation stay f seat (command.Scan table low high) a v t (is_active_at (phase_at v seat) none) did
-  turns_command f seat (command.Tidy table key) a v t none did = turns_operation stay f seat (command.Tidy table key) a v t (is_active_at (phase_at v seat) none) did
-  turns_command f seat command.Durable (answer.Durable stamp) v t none (u, passes, did) =
-      turns_still seat (Some command.Durable) (answer.Durable stamp) v u t passes did.0 (λ phase. refl) (λ p s told. told_still seat (Some command.Durable) (answer.Durable stamp) p s refl told)
-  turns_command f seat command.Durable answer.NoReceipt v t none (u, passes, did) =
-      turns_still seat (Some command.Durable) answer.NoReceipt v u t passes did.0 (λ phase. refl) (λ p s told. told_still seat (Some command.Durable) answer.NoReceipt p s refl told)
-  turns_command f seat c a v t none did = absurd did
+      (turn_aborted u seat (Some command.Abort) t (ap (λ (s : Session). phase_of s.stand) passes.own ∙ active_where NeedsAny (phase_at v seat) tt plain free) did)
+  turns_command f seat (command.Get table key) a v t free plain did = turns_operation stay f seat (command.Get table key) a v t (active_where NeedsReader (phase_at v seat) tt plain free) refl did
+  turns_command f seat (command.Put table key value) a v t free plain did = turns_operation stay f seat (command.Put table key value) a v t (active_where NeedsWriter (phase_at v seat) tt plain free) refl did
+  turns_command f seat (command.Del table key) a v t free plain did = turns_operation stay f seat (command.Del table key) a v t (active_where NeedsWriter (phase_at v seat) tt plain free) refl did
+  turns_command f seat (command.Next table from) a v t free plain did = turns_operation stay f seat (command.Next table from) a v t (active_where NeedsReader (phase_at v seat) tt plain free) refl did
+  turns_command f seat (command.Scan table low high) a v t free plain did = turns_operation stay f seat (command.Scan table low high) a v t (active_where NeedsReader (phase_at v seat) tt plain free) refl did
+  turns_command f seat (command.Tidy table key) a v t free plain did = turns_operation stay f seat (command.Tidy table key) a v t (active_where NeedsWriter (phase_at v seat) tt plain free) refl did
+  turns_command f seat command.Durable (answer.Durable stamp) v t free plain (u, passes, did) =
+      turns_still seat (Some command.Durable) (answer.Durable stamp) v u t passes did.0 (λ phase. refl) (λ p s told. told_still seat (Some command.Durable) (answer.Durable stamp) p s refl refl told)
+  turns_command f seat command.Durable answer.NoReceipt v t free plain (u, passes, did) =
+      turns_still seat (Some command.Durable) answer.NoReceipt v u t passes did.0 (λ phase. refl) (λ p s told. told_still seat (Some command.Durable) answer.NoReceipt p s refl refl told)
+  turns_command f seat c a v t free plain did = absurd did
 
   turns_asked : (f : View) (seat : ℕ) (c : Command) (a : Answer) (v t : View) (refusal : Option Answer) → refusal_of (phase_at v seat) c ≡ refusal
       → FitsRefusal refusal c a → DidAskedBeside refusal f seat c a v t → Turns seat (Some c) a v t
-  turns_asked f seat c a v t None is fits did = turns_command f seat c a v t is did
-  turns_asked f seat c a v t (Some r) is fits did = turns_refused seat c a r v t (phase_refuses (phase_asked c) (phase_at v seat) r is) fits did
+  turns_asked f seat c a v t None is fits did =
+      in_phase (Turns seat (Some c) a v t) f seat c a v t (λ plain did. turns_command f seat c a v t is plain did)
+      (λ has did. turns_of_snapshot f seat c a v t (snapshot_there v seat has) did) did
+  turns_asked f seat c a v t (Some r) is fits did = turns_refused seat c a r v t (phase_refuses (need_of c) (phase_at v seat) r is) fits did
 
   pub turns_line : (f : View) (l : ScriptLine) (a : Answer) (v t : View) → DidLineBeside f l a v t → Turns l.session (Some l.command) a v t
   turns_line f l a v t did = turns_asked f l.session l.command a v t (refusal_of (phase_at v l.session) l.command) refl did.fits did.did
@@ -141,12 +136,20 @@ closes_active seat answer.Aborted v t active fits (u, passes, did) =
     turns_after seat None answer.Aborted v u t passes (turn_aborted u seat None t (ap (λ (s : Session). phase_of s.stand) passes.own ∙ active) did)
 closes_active seat a v t active fits did = absurd fits
 
+closes_snapshot : (phase : Phase) (a : Answer) → is_snapshot phase ≡ true → Closes phase a → a ≡ answer.Aborted
+closes_snapshot Pending answer.Aborted is fits = refl
+closes_snapshot Safe answer.Aborted is fits = refl
+closes_snapshot Idle a is fits = absurd fits
+closes_snapshot Active a is fits = absurd (cc)
+closes_snapshot Sealed a is fits = absurd (cc)
+closes_snapshot phase a is fits = absurd fits
+
 closes : (seat : ℕ) (a : Answer) (v t : View) (phase : Phase) → phase_at v seat ≡ phase → Closes phase a → DidCloseBeside phase seat a v t → Turns seat None a v t
 closes seat a v t Idle is fits did = absurd did
 closes seat a v t Active is fits did = closes_active seat a v t is fits did
 closes seat a v t Sealed is fits did = turns_decides seat None a v t did
-closes seat a v t Pending is fits did = absurd did
-closes seat a v t Safe is fits did = absurd did
+closes seat a v t Pending is fits did = turns_closed seat a v t (snapshot_there v seat (ap is_snapshot is)) (closes_snapshot Pending a refl fits) did
+closes seat a v t Safe is fits did = turns_closed seat a v t (snapshot_there v seat (ap is_snapshot is)) (closes_snapshot Safe a refl fits) did
 
 pub turns_end : (seat : ℕ) (a : Answer) (v t : View) → DidEndBeside seat a v t → Turns seat None a v t
 turns_end seat a v t did = closes seat a v t (phase_at v seat) refl did.fits did.did

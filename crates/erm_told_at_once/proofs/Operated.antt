@@ -18,20 +18,20 @@ use Rattle.erm_world.specs.World.{Finished, Session, Stand, View, Work, phase_at
 use Rattle.erm_world.specs.World as world
 use Rattle.erm_world.proofs.Txns.{MayStop}
 use Rattle.erm_maps.specs.Runs.{IsAnswered, IsRunOf}
-use Rattle.erm_good_report.specs.Phases.{phase_after}
+use Rattle.erm_good_report.specs.Phases.{asks_safe, phase_after}
 use Rattle.erm_good_report.specs.Transactions.{Aborts, Ending, Excludes, Progress, Transaction, ended, goes_on, heard, reply_in, steps_of}
 use Rattle.erm_lines.specs.Operations.{AsksOf, DidCalls, FrontOf, Ran, WholeOf}
-use Rattle.erm_lines.specs.Told.{Continues, EndsAs, Tells, TellsNow, TellsOver}
+use Rattle.erm_lines.specs.Told.{Continues, EndsAs, Tells, TellsNow, TellsOver, TellsWatched}
 use Rattle.erm_beside.specs.Calls.{Passes}
 use Rattle.erm_beside.proofs.Txns.{Stopped, stopped_after}
 use Rattle.erm_told.proofs.Going.{continues_from, continues_itself, continues_then}
-use Rattle.erm_told.proofs.Operations.{the_answer, turn_ran}
+use Rattle.erm_told.proofs.Operations.{none_after, the_answer, turn_ran}
 use Rattle.erm_told.proofs.Running.{GoesOn, active_in, over_still, over_then, ran_on}
-use Rattle.erm_told.proofs.Sessions.{aborted_told, active_told, unchanged_told}
+use Rattle.erm_told.proofs.Sessions.{aborted_told, active_told, none_watched, unchanged_told}
 use Rattle.erm_told.proofs.Steps.{added, none_asked, none_replied, one_replied}
 use Rattle.erm_lines_at_once.specs.Operations.{Beside, DidOnce, DidOperationBeside, WasTried, WereCutBeside, told_at_once}
 use Rattle.erm_told_at_once.proofs.Turns.{Onward, Took, Turns, onward_passes, onward_then, turns_beside}
-use Rattle.erm_told.proofs.Turns.{now_active}
+use Rattle.erm_told.proofs.Turns.{none_active, now_active}
 
 -- THE CALLS BEFORE. The session is active still, with a work that has gone on.
 pub record Reached (seat : ℕ) (v t : View) : Type 0 where
@@ -60,25 +60,27 @@ went_from : (s t : Session) → phase_of s.stand ≡ Active → GoesFrom s t →
 went_from s t active (u, stand, more, over) =
     continues_from s t (world.active (work_of s.stand)) (active_in s.stand active) [] (over ∙ sym (append-nil s.over)) (u, more, inl stand)
 
-took_on : (seat : ℕ) (asked : Option Command) (a : Answer) (s t : Session) → phase_of s.stand ≡ Active → GoesFrom s t
+took_on : (seat : ℕ) (asked : Option Command) (a : Answer) (s t : Session) → phase_of s.stand ≡ Active → asks_safe asked ≡ false → GoesFrom s t
     → ((before : List Step) → IsRunOf (work_of s.stand) before → IsRunOf (work_of t.stand) (before ++ added asked a))
     → phase_after asked a (phase_of s.stand) ≡ phase_of s.stand → ((p : Progress) → heard seat asked a p ≡ goes_on asked a p) → Took seat asked a s t
-took_on seat asked a s t active (u, stand, more, over) run phase hears = record {
+took_on seat asked a s t active calm (u, stand, more, over) run phase hears = record {
   goes = went_from s t active (u, stand, more, over);
   phase = phase ∙ active ∙ sym (ap phase_of stand);
   tells = λ p told. subst (λ (q : Progress). Tells seat q t) (sym (hears p)) (record {
-    over = subst (λ (fs : List Finished). TellsOver seat p.over fs) (sym over) told.over;
+    over = subst (λ (fs : List Finished). TellsOver seat p.over p.snapshots fs) (sym over) told.over;
     now = subst (λ (at : Stand). TellsNow seat (goes_on asked a p).current at) (sym stand)
         (active_told seat asked a p.current (work_of s.stand) u more.number more.begin
         (λ before was. subst (λ (w : Work). IsRunOf w (before ++ added asked a)) (ap work_of stand) (run before was))
         (now_active seat p s active told));
+    watched = subst (λ (at : Stand). TellsWatched (goes_on asked a p).snapshot at) (sym stand)
+        (none_watched (goes_on asked a p).snapshot (world.active u) tt (none_after asked a p calm (none_active seat p s active told)));
   });
 }
 
 took_ended : (seat : ℕ) (c : Command) (a : Answer) (ending : Ending) (s t : Session) → ((w u : Work) (steps : List Step) → Extends w u → IsAnswered w steps → IsAnswered u steps)
-    → phase_of s.stand ≡ Active → Grows s t → t.stand ≡ world.idle → reply_in a ≡ None → EndsAs ending world.aborts → phase_after (Some c) a (phase_of s.stand) ≡ Idle
+    → phase_of s.stand ≡ Active → asks_safe (Some c) ≡ false → Grows s t → t.stand ≡ world.idle → reply_in a ≡ None → EndsAs ending world.aborts → phase_after (Some c) a (phase_of s.stand) ≡ Idle
     → ((p : Progress) → heard seat (Some c) a p ≡ ended ending (goes_on (Some c) a p)) → Took seat (Some c) a s t
-took_ended seat c a ending s t stay active grows idle none aborts phase hears =
+took_ended seat c a ending s t stay active calm grows idle none aborts phase hears =
     let w = work_of s.stand in
     let stand : s.stand ≡ world.active w = active_in s.stand active in
     let done = over_then s t w grows stand idle in
@@ -86,11 +88,13 @@ took_ended seat c a ending s t stay active grows idle none aborts phase hears =
       goes = continues_from s t (world.active w) stand (f ∷ []) done.2 (done.0, done.1, inr (inr (f, [], s.over, done.2, refl)));
       phase = phase ∙ sym (ap phase_of idle);
       tells = λ p told. subst (λ (q : Progress). Tells seat q t) (sym (hears p)) (record {
-        over = subst (λ (fs : List Finished). TellsOver seat (ended ending (goes_on (Some c) a p)).over fs) (sym done.2)
-            (aborted_told seat ending p.over (goes_on (Some c) a p).current s.over w done.0 aborts done.1.number done.1.begin
+        over = subst (λ (fs : List Finished). TellsOver seat (ended ending (goes_on (Some c) a p)).over (ended ending (goes_on (Some c) a p)).snapshots fs) (sym done.2)
+            (aborted_told seat ending p.over (goes_on (Some c) a p).current p.snapshots (goes_on (Some c) a p).snapshot s.over w done.0 aborts done.1.number done.1.begin
             (λ steps. stay w done.0 steps done.1) told.over
-            (unchanged_told seat (Some c) a p.current (world.active w) (none_replied c a none) (now_active seat p s active told)));
+            (unchanged_told seat (Some c) a p.current (world.active w) (none_replied c a none) (now_active seat p s active told))
+            (none_after (Some c) a p calm (none_active seat p s active told)));
         now = subst (λ (at : Stand). TellsNow seat None at) (sym idle) tt;
+        watched = subst (λ (at : Stand). TellsWatched None at) (sym idle) tt;
       });
     }
 
@@ -159,11 +163,13 @@ holds_cut f seat front asks why v t active cut stays =
       phase = ap phase_of stand ∙ sym active;
       goes = went_from (v.session seat) (t.session seat) active (u, stand, more, over);
       tells = λ p told. record {
-        over = subst (λ (fs : List Finished). TellsOver seat p.over fs) (sym over) told.over;
+        over = subst (λ (fs : List Finished). TellsOver seat p.over p.snapshots fs) (sym over) told.over;
         now = subst (λ (at : Stand). TellsNow seat p.current at) (sym stand)
             (held_now seat p.current (work_at v seat) u more.number more.begin
             (λ steps was. subst (λ (w : Work). IsRunOf w steps) (ap work_of stand) (cut.run stays steps was))
             (now_active seat p (v.session seat) active told));
+        watched = subst (λ (at : Stand). TellsWatched p.snapshot at) (sym stand)
+            (none_watched p.snapshot (world.active u) tt (none_active seat p (v.session seat) active told));
       };
       onward = cut_onward f seat front asks why v t active cut;
     }
@@ -187,7 +193,7 @@ turns_held seat asked a v u t holds turns = record {
 
 -- THE LAST TRY.
 module _ (stay : (w u : Work) (steps : List Step) → Extends w u → IsAnswered w steps → IsAnswered u steps) where
-  module _ (f : View) (seat : ℕ) (c : Command) (v t : View) (active : phase_at v seat ≡ Active) where
+  module _ (f : View) (seat : ℕ) (c : Command) (v t : View) (active : phase_at v seat ≡ Active) (calm : asks_safe (Some c) ≡ false) where
     abbrev Cut : RowStop → Type 0
     Cut why = WereCutBeside f seat (FrontOf c) (AsksOf c) why v t
 
@@ -197,7 +203,7 @@ module _ (stay : (w u : Work) (steps : List Step) → Extends w u → IsAnswered
     stays_so : (a : Answer) (why : RowStop) → Cut why → rows.ends why ≡ false → reply_in a ≡ None → phase_after (Some c) a (phase_at v seat) ≡ phase_at v seat
         → ((p : Progress) → heard seat (Some c) a p ≡ goes_on (Some c) a p) → At a
     stays_so a why cut stays none phase hears = record {
-      took = took_on seat (Some c) a (v.session seat) (t.session seat) active (cut_goes f seat (FrontOf c) (AsksOf c) why v t active cut stays)
+      took = took_on seat (Some c) a (v.session seat) (t.session seat) active calm (cut_goes f seat (FrontOf c) (AsksOf c) why v t active cut stays)
           (λ steps was. subst (λ (list : List Step). IsRunOf (work_at t seat) list)
           (sym (ap (λ (list : List Step). steps ++ list) (none_replied c a none) ∙ append-nil steps)) (cut.run stays steps was)) phase hears;
       onward = cut_onward f seat (FrontOf c) (AsksOf c) why v t active cut;
@@ -207,7 +213,7 @@ module _ (stay : (w u : Work) (steps : List Step) → Extends w u → IsAnswered
         → phase_after (Some c) a (phase_at v seat) ≡ Idle → ((p : Progress) → heard seat (Some c) a p ≡ ended ending (goes_on (Some c) a p)) → At a
     ends_so a why ending cut ends none aborts phase hears =
         let out = cut_ends f seat (FrontOf c) (AsksOf c) why v t active cut ends in record {
-          took = took_ended seat c a ending (v.session seat) (t.session seat) stay active out.0 out.1 none aborts phase hears;
+          took = took_ended seat c a ending (v.session seat) (t.session seat) stay active calm out.0 out.1 none aborts phase hears;
           onward = cut_onward f seat (FrontOf c) (AsksOf c) why v t active cut;
         }
 
@@ -236,15 +242,16 @@ module _ (stay : (w u : Work) (steps : List Step) → Extends w u → IsAnswered
     once (answer.Replied r) (op, is, beside) =
         turns_beside seat (Some c) (answer.Replied r) (λ u w. DidCalls u seat (record { op = op; reply = r } ∷ []) (WholeOf c (answer.Replied r)) w) v t beside
         (turn_ran beside.from seat (Some c) (answer.Replied r) beside.to (record { op = op; reply = r } ∷ []) (WholeOf c (answer.Replied r))
-        (ap (λ (s : Session). phase_of s.stand) beside.starts ∙ active) beside.did (one_replied c op r is) refl (λ p. refl))
+        (ap (λ (s : Session). phase_of s.stand) beside.starts ∙ active) calm beside.did (one_replied c op r is) refl (λ p. refl))
     once (answer.Cut cells) (is, few, beside) =
         turns_beside seat (Some c) (answer.Cut cells) (λ u w. DidCalls u seat [] (WholeOf c (answer.Cut cells)) w) v t beside
         (turn_ran beside.from seat (Some c) (answer.Cut cells) beside.to [] (WholeOf c (answer.Cut cells))
-        (ap (λ (s : Session). phase_of s.stand) beside.starts ∙ active) beside.did (none_asked c (answer.Cut cells) is) refl (λ p. refl))
+        (ap (λ (s : Session). phase_of s.stand) beside.starts ∙ active) calm beside.did (none_asked c (answer.Cut cells) is) refl (λ p. refl))
     once a did = refused_as a did
 
   -- an operation that was answered, or cut off, after its tries
-  pub turns_operation : (f : View) (seat : ℕ) (c : Command) (a : Answer) (v t : View) → phase_at v seat ≡ Active → DidOperationBeside f seat c a v t → Turns seat (Some c) a v t
-  turns_operation f seat c a v t active did =
+  pub turns_operation : (f : View) (seat : ℕ) (c : Command) (a : Answer) (v t : View) → phase_at v seat ≡ Active → asks_safe (Some c) ≡ false → DidOperationBeside f seat c a v t
+      → Turns seat (Some c) a v t
+  turns_operation f seat c a v t active calm did =
       let held = holds_tried f seat c did.times v did.at active did.tried in
-      turns_held seat (Some c) a v did.at t held (once f seat c did.at t (held.phase ∙ active) a did.once)
+      turns_held seat (Some c) a v did.at t held (once f seat c did.at t (held.phase ∙ active) calm a did.once)

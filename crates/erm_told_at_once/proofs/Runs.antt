@@ -17,7 +17,7 @@ use Rattle.erm_world.specs.World.{IsSession, Opening, Session, View, Work, phase
 use Rattle.erm_world.specs.World as world
 use Rattle.erm_maps.specs.Runs.{IsAnswered, IsRunOf}
 use Rattle.erm_good_report.specs.GoodReport.{places_of}
-use Rattle.erm_good_report.specs.Phases.{Closed, Closes, ClosesAgree, FitsPhase, is_idle, phase_after, phase_of}
+use Rattle.erm_good_report.specs.Phases.{Closed, Closes, ClosesAgree, FitsPhase, FitsSnapshot, is_idle, phase_after, phase_of}
 use Rattle.erm_good_report.specs.Transactions.{Progress, Said, heard, nothing, progress_of, said_of}
 use Rattle.erm_lines.specs.Executions.{Move, close, flush, line, line_moves, log, move_as, move_of, said_in}
 use Rattle.erm_lines.specs.Told.{Continues, Tells}
@@ -34,6 +34,7 @@ use Rattle.erm_lines_at_once.specs.Laws.{RunsAtOnceCloseSessions}
 use Rattle.erm_lines_at_once.specs.Parts.{IsRunInPart, RunsInPartHavePhases, RunsInPartTell}
 use Rattle.erm_lines_at_once.proofs.Parts.{in_part}
 use Rattle.erm_told_at_once.proofs.Lines.{turns_end, turns_line}
+use Rattle.erm_told_at_once.proofs.Phases.{line_looks}
 use Rattle.erm_told_at_once.proofs.Turns.{Onward, Turns, onward_itself, onward_passes, onward_then}
 
 -- a session that is the same
@@ -46,7 +47,7 @@ knows_still seat p phase v t is knows = record {
 -- a session that has no transaction yet
 pub first_known : (seat : ℕ) (v : View) → v.session seat ≡ record { over = []; stand = world.idle } → Knows seat nothing Idle v
 first_known seat v is = knows_still seat nothing Idle (record v { session = λ q. record { over = []; stand = world.idle } }) v is
-    (record { tells = record { over = tt; now = tt }; phase_is = refl })
+    (record { tells = record { over = (refl, refl); now = tt; watched = tt }; phase_is = refl })
 
 -- a move of this session, or of another
 abbrev pub OwnOr : ℕ → ℕ → Option Command → Answer → View → View → Type 0
@@ -306,6 +307,12 @@ module _ (runs : (number begin : ℕ) → IsRunOf (world.begun number begin) [])
         let there = line_there i l a at answered in
         subst (λ (x : Phase). FitsPhase x l.command a) (sym there.knows.phase_is) there.did.fits
 
+    line_watched : (i : ℕ) (l : ScriptLine) (a : Answer) → slice_get script i ≡ Some l → slice_get answers i ≡ Some a
+        → FitsSnapshot (phase_of l.session (take i (said_of script answers))) l.command a
+    line_watched i l a at answered =
+        let there = line_there i l a at answered in
+        subst (λ (x : Phase). FitsSnapshot x l.command a) (sym there.knows.phase_is) (line_looks f l a there.before there.after there.did)
+
   -- THE SESSIONS CLOSED, of a whole execution.
   module _ (v f : View) (script : List ScriptLine) (answers : List Answer) (closed : List Closed) (run : IsRunAtOnce v script answers closed f) where
     abbrev lines_of : (seat : ℕ) (session : IsSession v seat) → (u : View) × IsOwnRun f seat v (line_moves script answers) u × IsOwnRun f seat u (map close_of closed) (run.own seat session).last
@@ -332,8 +339,8 @@ module _ (runs : (number begin : ℕ) → IsRunOf (world.begun number begin) [])
     closes_left Idle a fits = absurd fits
     closes_left Active a fits = refl
     closes_left Sealed a fits = refl
-    closes_left Pending a fits = absurd fits
-    closes_left Safe a fits = absurd fits
+    closes_left Pending a fits = refl
+    closes_left Safe a fits = refl
 
     idle_left : (phase : Phase) → phase ≡ Idle → not (is_idle phase) ≡ true → ⊥
     idle_left Idle is left = cc
@@ -384,7 +391,7 @@ module _ (runs : (number begin : ℕ) → IsRunOf (world.begun number begin) [])
   runs_tell v f whole part answers closed run seat session = tells v f whole part answers closed run seat session
 
   pub phases : RunsInPartHavePhases
-  phases v f whole part answers closed opening run of = record { fits = line_fits v f whole part answers closed run }
+  phases v f whole part answers closed opening run of = record { fits = line_fits v f whole part answers closed run; snapshots = line_watched v f whole part answers closed run }
 
   pub runs_close : RunsAtOnceCloseSessions
   runs_close v f script answers closed run = closes_agree v f script answers closed run

@@ -1,5 +1,5 @@
 -- The stamps that the report of an execution at once tells agree, and what was met lies below.
-use Rattle.std.proofs.Common.{◌≡◌, ◌≢◌, ℕ, ◌+◌, ◌<◌, ◌≤◌, List, [], ◌∷◌, ◌++◌, get_or, length, slice_get, map, IfSome, Some, refl, sym, ap, ◌∙◌, subst, inl, inr, ⊎_elim, eqb-true, arith, le_trans}
+use Rattle.std.proofs.Common.{◌≡◌, ◌≢◌, ℕ, ◌+◌, ◌<◌, ◌≤◌, true, List, [], ◌∷◌, ◌++◌, get_or, length, take, slice_get, map, IfSome, Some, refl, sym, ap, ◌∙◌, subst, inl, inr, ⊎_elim, eqb-true, arith, le_trans}
 use Rattle.std.proofs.lemmas.Bool.{cases_eq}
 use Rattle.std.proofs.lemmas.List.{append_assoc, length-append}
 use Rattle.std.proofs.lemmas.Option.{slice_get_within}
@@ -18,15 +18,18 @@ use Rattle.erm_world.specs.World.{Finished, Has, IsCurrent, IsSession, Opening, 
 use Rattle.erm_world.specs.World as world
 use Rattle.erm_maps.specs.Runs.{IsAnswered, IsRunOf}
 use Rattle.erm_good_report.specs.GoodReport.{places_of}
-use Rattle.erm_good_report.specs.Opening.{AtOnce, Opening as Start}
+use Rattle.erm_good_report.specs.Opening.{AtOnce, is_before, Opening as Start}
 use Rattle.erm_good_report.specs.Phases.{Closed}
 use Rattle.erm_good_report.specs.Stamps.{AllInTime, IsWait, StampsAgree, Told, begin_told, place_told, stamp_drawn, stamp_printed}
-use Rattle.erm_good_report.specs.Transactions.{Said, Transaction, progress_of, said_of, stamp_of, transactions_of}
-use Rattle.erm_good_at_once.specs.Rising.{Names, StampsRise, stamp_met}
+use Rattle.erm_good_report.specs.Snapshots.{BeginsSnapshot}
+use Rattle.erm_good_report.specs.Transactions.{HasSnapshot, Said, Snapshot, Transaction, progress_of, said_of, stamp_of, transactions_of}
+use Rattle.erm_good_report.proofs.Places.{Place, place_at}
+use Rattle.erm_good_at_once.specs.Rising.{IsMetBelow, Names, StampsRise, stamp_met}
 use Rattle.erm_lines.specs.Executions.{IsOpeningOf, line_moves, move_of}
 use Rattle.erm_lines.specs.Told.{Continues, IsLater, Tells}
 use Rattle.erm_beside.specs.Calls.{Passes}
 use Rattle.erm_beside.specs.Ends.{Aborted}
+use Rattle.erm_told.specs.Snapshots.{begin_in}
 use Rattle.erm_told.proofs.Endings.{if_told, told_from}
 use Rattle.erm_told.proofs.Executed.{still_session}
 use Rattle.erm_told.proofs.Going.{continues_then}
@@ -35,8 +38,11 @@ use Rattle.erm_told.proofs.Reported.{Differ, IsTold, each_told, told_differ}
 use Rattle.erm_told.proofs.Timing.{Before, Later, later_still}
 use Rattle.erm_lines_at_once.specs.Executions.{DidOwn, IsOwnRun, is_own}
 use Rattle.erm_lines_at_once.specs.Parts.{IsRunInPart, RunsInPartHaveStamps, RunsInPartRise, RunsInPartTell}
-use Rattle.erm_told_at_once.proofs.Drawing.{Begins, Drew, DrawsBeside, HasDrawn, LieBelow, lie_passes, line_drew}
-use Rattle.erm_told_at_once.proofs.Runs.{close_of, other_line, own_goes, own_line, own_split, passes_itself, runs_tell}
+use Rattle.erm_told_at_once.proofs.Begins.{BegunAt}
+use Rattle.erm_told_at_once.proofs.Drawing.{Begins, Drew, DrawsBeside, LieBelow, lie_passes}
+use Rattle.erm_told_at_once.proofs.Places.{OwnPlace, none_drawn, place_drew, place_ends, steps_on}
+use Rattle.erm_told_at_once.proofs.Runs.{OwnGoes, close_of, own_goes, own_split, passes_itself, runs_tell}
+use Rattle.erm_told_at_once.proofs.Sessions.{begun_in, earlier, first_there, numbered_there, place, told_begin}
 
 -- an owner that a line names, which began below this place
 pub record OwnerBelow (f : View) (other number place : ℕ) : Type 0 where
@@ -102,29 +108,6 @@ later_of f seat m w s draws = record { begin = λ stamp told. (draws.begin stamp
 
 abbrev place_of : ScriptLine → Answer → Said
 place_of l a = record { session = l.session; asked = Some l.command; answer = a }
-
--- one line, of this session or of another
-record StepsOn (f : View) (seat : ℕ) (l : ScriptLine) (a : Answer) (v w : View) : Type 0 where
-  below : LieBelow seat w
-  up : v.tail ≤ w.tail
-  draws : l.session ≡ seat → DrawsBeside f seat v.tail w (Some l.command) a
-
-steps_on : (f : View) (seat : ℕ) (l : ScriptLine) (a : Answer) (u w : View) → LieBelow seat u → DidOwn (is_own seat (move_of l a)) f seat (move_of l a) u w → StepsOn f seat l a u w
-steps_on f seat l a u w below did = elim (cases_eq l.session seat) as (λ _. StepsOn f seat l a u w) [
-  | inl is ↦
-      let drew : Drew f l.session (Some l.command) a u w =
-      line_drew f l a u w (subst (λ (q : ℕ). LieBelow q u) (sym is) below) (own_line f seat l a u w is did) in record {
-        below = subst (λ (q : ℕ). LieBelow q w) is drew.below;
-        up = drew.up;
-        draws = λ same. subst (λ (q : ℕ). DrawsBeside f q u.tail w (Some l.command) a) is drew.draws;
-      }
-  | inr another ↦
-      let is : w ≡ u = other_line f seat l a u w another did in record {
-        below = subst (λ (x : View). LieBelow seat x) (sym is) below;
-        up = omega (arith, ap (λ (x : View). x.tail) is);
-        draws = λ same. absurd (another same);
-      }
-]
 
 -- what an own line tells lies above where the session stood before, and is no wait
 record LaterBeside (m : ℕ) (s : Said) : Type 0 where
@@ -222,13 +205,6 @@ module _ (tell : RunsInPartTell) (v f : View) (whole script : List ScriptLine) (
   abbrev said : List Said
   said = said_of script answers
 
-  none_drawn : (seat : ℕ) → IsSession v seat → LieBelow seat v
-  none_drawn seat session stamp has = absurd (from (subst (λ (s : Session). HasDrawn s stamp) (run.opened.idle seat session) has))
-    where
-      from : HasDrawn (record { over = []; stand = world.idle }) stamp → ⊥
-      from (inl (g, m, stamped)) = none_in_nil g m
-      from (inr (w, sealed)) = cc
-
   session_of : (s : Said) → s ∈ said → IsSession v s.session
   session_of s m = let r = of_line script answers s m in subst (λ (q : ℕ). IsSession v q) r.2 (run.named r.0 r.1)
 
@@ -237,7 +213,7 @@ module _ (tell : RunsInPartTell) (v f : View) (whole script : List ScriptLine) (
       let session = session_of s m in
       let part = run.own s.session session in
       let (u, lines, rest) = own_split f s.session (line_moves script answers) (map close_of closed) v part.last part.run in
-      (all_later f s.session script answers v u (none_drawn s.session session) lines s m refl).waits
+      (all_later f s.session script answers v u (none_drawn v s.session run.opened session) lines s m refl).waits
 
 module _ (runs : (number begin : ℕ) → IsRunOf (world.begun number begin) []) (stay : (w u : Work) (steps : List Step) → Extends w u → IsAnswered w steps → IsAnswered u steps)
     (v f : View) (whole script : List ScriptLine) (answers : List Answer) (closed : List Closed) (run : IsRunInPart v whole script answers closed f) where
@@ -251,7 +227,7 @@ module _ (runs : (number begin : ℕ) → IsRunOf (world.begun number begin) [])
   pairs_at seat session =
       let part = run.own seat session in
       let (u, lines, rest) = own_split f seat (line_moves script answers) (map close_of closed) v part.last part.run in
-      all_before runs stay f seat script answers v u (none_drawn tell v f whole script answers closed run seat session) lines
+      all_before runs stay f seat script answers v u (none_drawn v seat run.opened session) lines
       (run.ends.serializable.numbered seat (still_session v f seat run.opening session))
       (subst (λ (s : Session). Continues (u.session seat) s) part.ends (own_goes runs stay f seat (map close_of closed) u part.last rest).goes)
 
@@ -355,12 +331,67 @@ module _ (runs : (number begin : ℕ) → IsRunOf (world.begun number begin) [])
       omega (arith, owner.begun, one.own.tells.begin, ap (λ (w : Work). w.begin) same)
   named_by t one a begin owned none = absurd none
 
+  -- A SNAPSHOT that a line begins has its begin stamp above what an earlier line of its session met.
+  module _ (i j seat begin : ℕ) (s : Snapshot) (a : Said) (begins : BeginsSnapshot places i seat s.number) (less : j < i) (one : Place script answers j a) (two : Place script answers i begins.line)
+      (own_one : one.line.session ≡ seat) (own_two : two.line.session ≡ seat) (session : IsSession v seat) (is : begin_in (f.session seat) s.number ≡ begin) where
+    abbrev later_line : OwnPlace v f seat (take i places) two.line two.given
+    later_line = place runs stay v f whole script answers closed run seat session i two.line two.given own_two two.at two.answered
+
+    line_before : (x : OwnPlace v f seat (take j places) one.line one.given) × OwnGoes seat x.after later_line.before
+    line_before = earlier runs stay v f whole script answers closed run seat session i two.line two.given own_two two.at two.answered j one.line one.given own_one one.at one.answered less
+
+    draws_before : DrawsBeside f seat line_before.0.before.tail line_before.0.after (Some one.line.command) one.given
+    draws_before = (place_drew v f seat (take j places) one.line one.given line_before.0).draws
+
+    begins_there : BegunAt runs stay v f seat (first_there runs stay v f whole script answers closed run seat session) (numbered_there runs stay v f whole script answers closed run seat session)
+        (take i places) two.line two.given later_line s.number
+    begins_there = begun_in runs stay v f whole script answers closed run seat session i two.line two.given own_two two.at two.answered later_line s.number begins
+
+    below_begin : line_before.0.after.tail ≤ begin
+    below_begin = let onward = line_before.1.onward.tail in let low = begins_there.low in omega (arith, onward, low, is)
+
+    owner_before : (other number : ℕ) → one.given ≡ answer.Owned other number → OwnerBelow f other number begin
+    owner_before other number told =
+        let r = draws_before.owned other number told in
+        let session_f = still_session v f seat run.opening session in
+        let own = own_number f seat line_before.0.after r.own (lawful.numbered seat session_f) (place_ends v f seat (take j places) one.line one.given line_before.0 runs stay) r.over in
+        let more = more_over (line_before.0.after.session seat) (later_line.before.session seat) line_before.1.goes in
+        let next = begins_there.next in record {
+          session = r.session;
+          work = r.work;
+          has = r.has;
+          number_is = r.number_is;
+          begun =
+              ⊎_elim (λ (low : r.work.begin ≤ line_before.0.after.tail). le_trans low below_begin)
+              (λ (low : (x : Work) → Has f seat x → r.own.number < x.number → r.work.begin ≤ x.begin).
+              omega (arith, low (world.begun s.number (begin_in (f.session seat) s.number)) begins_there.has (omega (arith, own, more, next)), is)) r.begun;
+        }
+
+  met_below : (i j session begin : ℕ) (s : Snapshot) (a : Said) → BeginsSnapshot places i session s.number → HasSnapshot places session s → s.begin ≡ Some begin → j < i → slice_get places j ≡ Some a
+      → is_before AtOnce a.session session ≡ true → IsMetBelow told a.answer begin
+  met_below i j seat begin s a begins has is less at before =
+      let one : Place script answers j a = place_at script answers j a at in
+      let two : Place script answers i begins.line = place_at script answers i begins.line begins.at in
+      let own_one : one.line.session ≡ seat = ap (λ (x : Said). x.session) one.is ∙ eqb-true a.session seat before in
+      let own_two : two.line.session ≡ seat = ap (λ (x : Said). x.session) two.is ∙ begins.of in
+      let session : IsSession v seat = subst (λ (q : ℕ). IsSession v q) own_two (run.named two.line (i, two.at)) in
+      let begin_is : begin_in (f.session seat) s.number ≡ begin = told_begin runs stay v f whole script answers closed run seat session s begin has is in
+      let low = below_begin i j seat begin s a begins less one two own_one own_two session begin_is in
+      let draws = draws_before i j seat begin s a begins less one two own_one own_two session begin_is in
+      let given : one.given ≡ a.answer = ap (λ (x : Said). x.answer) one.is in
+      record {
+        met = if_told (stamp_met a.answer) (λ stamp. stamp < begin) (λ stamp told. let below = draws.met stamp (ap stamp_met given ∙ told) in omega (arith, below, low));
+        named = λ t m names. named_by t (of_world t m) a.answer begin
+            (λ other number same. owner_before i j seat begin s a begins less one two own_one own_two session begin_is other number (given ∙ same)) names;
+      }
+
   pub rise : StampsRise AtOnce told places
   rise = record {
     met = in_time (λ a b. Told (λ stamp begin. stamp < begin) (stamp_met a.answer) (begin_told b.answer))
         (λ a b is. told_from (stamp_met a.answer) (begin_told b.answer) (λ stamp begin. stamp < begin) is.met);
     named = λ t m. in_time (λ a b. Names a.answer t → IfSome (begin_told b.answer) (λ begin. t.begin ≤ begin)) (λ a b is names. if_told (begin_told b.answer) (λ begin. t.begin ≤ begin)
         (λ begin told. named_by t (of_world t m) a.answer begin (λ other number same. is.owned other number begin same told) names));
+    watched = met_below;
   }
 
 module _ (runs : (number begin : ℕ) → IsRunOf (world.begun number begin) []) (stay : (w u : Work) (steps : List Step) → Extends w u → IsAnswered w steps → IsAnswered u steps) where
