@@ -1,11 +1,10 @@
 -- Places of a session's own run: a line of it, with what is before it and what comes behind it, also one that is before another.
-use Rattle.std.proofs.Common.{◌≡◌, ℕ, zero, suc, ◌<◌, ◌≤◌, Bool, List, [], ◌∷◌, ◌++◌, take, drop, slice_get, take-take, Option, Some, refl, sym, ap, ◌∙◌, subst, inl, inr, eq-eqb, arith}
+use Rattle.std.proofs.Common.{◌≡◌, ℕ, zero, suc, ◌<◌, ◌≤◌, Bool, List, [], ◌∷◌, ◌++◌, take, drop, slice_get, take-take, Some, refl, sym, ap, ◌∙◌, subst, inl, inr, eq-eqb, arith}
 use Rattle.std.proofs.lemmas.Bool.{cases_eq}
 use Rattle.erm_model.specs.declared.outcome.Phase.TheVariants.{Idle}
 use Rattle.erm_model.specs.Run.{Step}
 use Rattle.erm_model.proofs.Members.{none_in_nil}
 use Rattle.erm_report.specs.declared.answer.Answer.{Answer}
-use Rattle.erm_script.specs.declared.script.Command.{Command}
 use Rattle.erm_script.specs.declared.script.ScriptLine.{ScriptLine}
 use Rattle.erm_world.specs.Going.{Extends}
 use Rattle.erm_world.specs.World.{IsSession, Session, View, Work}
@@ -15,10 +14,8 @@ use Rattle.erm_good_report.specs.Phases.{phase_of}
 use Rattle.erm_good_report.specs.Transactions.{Said, nothing, progress_of, said_of}
 use Rattle.erm_lines.specs.Executions.{IsOpened, Move, line, line_moves, move_of, said_in}
 use Rattle.erm_lines.specs.Told.{Continues}
-use Rattle.erm_beside.specs.Calls.{Passes}
 use Rattle.erm_beside.specs.Onward.{passes_then}
 use Rattle.erm_told.proofs.Executed.{Knows}
-use Rattle.erm_told.proofs.Going.{continues_then}
 use Rattle.erm_told.proofs.Runs.{said_first, said_lines}
 use Rattle.erm_lines_at_once.specs.Answers.{DidLineBeside}
 use Rattle.erm_lines_at_once.specs.Executions.{DidOwn, IsOwnRun, is_own}

@@ -1,6 +1,5 @@
 -- The stamps that the report of an execution at once tells agree, and what was met lies below.
 use Rattle.std.proofs.Common.{◌≡◌, ◌≢◌, ℕ, ◌+◌, ◌<◌, ◌≤◌, true, List, [], ◌∷◌, ◌++◌, get_or, length, take, slice_get, map, IfSome, Some, refl, sym, ap, ◌∙◌, subst, inl, inr, ⊎_elim, eqb-true, arith, le_trans}
-use Rattle.std.proofs.lemmas.Bool.{cases_eq}
 use Rattle.std.proofs.lemmas.List.{append_assoc, length-append}
 use Rattle.std.proofs.lemmas.Option.{slice_get_within}
 use Rattle.erm_model.specs.declared.limits.TheConstants.{LEAST_BLOCK}
@@ -39,7 +38,7 @@ use Rattle.erm_told.proofs.Timing.{Before, Later, later_still}
 use Rattle.erm_lines_at_once.specs.Executions.{DidOwn, IsOwnRun, is_own}
 use Rattle.erm_lines_at_once.specs.Parts.{IsRunInPart, RunsInPartHaveStamps, RunsInPartRise, RunsInPartTell}
 use Rattle.erm_told_at_once.proofs.Begins.{BegunAt}
-use Rattle.erm_told_at_once.proofs.Drawing.{Begins, Drew, DrawsBeside, LieBelow, lie_passes}
+use Rattle.erm_told_at_once.proofs.Drawing.{Begins, DrawsBeside, LieBelow, lie_passes}
 use Rattle.erm_told_at_once.proofs.Places.{OwnPlace, none_drawn, place_drew, place_ends, steps_on}
 use Rattle.erm_told_at_once.proofs.Runs.{OwnGoes, close_of, own_goes, own_split, passes_itself, runs_tell}
 use Rattle.erm_told_at_once.proofs.Sessions.{begun_in, earlier, first_there, numbered_there, place, told_begin}

@@ -12,11 +12,9 @@ use Rattle.erm_world.specs.Calls.{DidAbort}
 use Rattle.erm_world.specs.Safe.{HasSnapshot, with_snapshot}
 use Rattle.erm_world.specs.World.{Finished, Session, Stand, View, Work, phase_at, phase_of, work_at, work_of}
 use Rattle.erm_world.specs.World as world
-use Rattle.erm_good_report.specs.Phases.{phase_after, refusal_of}
+use Rattle.erm_good_report.specs.Phases.{phase_after}
 use Rattle.erm_good_report.specs.Transactions.{Aborts, Progress, Snapshot, Transaction, heard, next_number, own_snapshot, with_ending, with_line, with_look}
 use Rattle.erm_lines.specs.Told.{Continues, Tells, TellsNow, TellsOver, TellsWatch, TellsWatched}
-use Rattle.erm_lines.specs.Whole.{is_snapshot}
-use Rattle.erm_lines.proofs.Watched.{has_phase, pending_where, snapshot_there}
 use Rattle.erm_beside.specs.Calls.{After, Passes}
 use Rattle.erm_beside.specs.Safe.{DidBeginSafeBeside, DidSafeBeside}
 use Rattle.erm_told.proofs.Going.{continues_from, continues_then}
