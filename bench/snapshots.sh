@@ -1,13 +1,14 @@
 #!/usr/bin/env bash
-# Measures short writes beside snapshots that read all keys, and prints a table in Markdown: writes committed a second, and how many of all failed; and
-# how many snapshots read all keys, of how many that began, each as one state of the map.
+# Measures short writes beside snapshots that read all keys, and prints a table in Markdown: writes committed a second, until the last writer ends, and how
+# many of all failed; how many snapshots read all keys, each as one state of the map, of how many that began, and the seconds until the last one ended.
 #   bench/snapshots.sh [PROGRAM [COUNT]]     PROGRAM is the launcher at the top, and COUNT, of writes, is 30,000, unless others are given
 # Three clients put one of 10,000 keys in each transaction, and a fourth one takes ten snapshots, one after another, or none: the rows without are what the
 # writes cost alone. What fails isn't begun again. No commit waits for the disk.
 #   erm         `erm threads`: the snapshot is begun by `safe`, which waits until it is safe, and reads by `get`, a line for each key. The seconds are those
-#               from the start of the first session's thread to the end of the last one, by strace
-#   postgres    SERIALIZABLE, and READ ONLY DEFERRABLE for a snapshot, which waits likewise; a server of its own that ends with the table
-#   sqlite      a file with a write-ahead log, as many processes of python3, one of which writes at a time
+#               of the sessions' threads, by strace: one session with one line stands beside them, which the thread that starts all others runs
+#   postgres    SERIALIZABLE, and READ ONLY DEFERRABLE for a snapshot, which waits likewise and reads all keys by one query; a server of its own that ends
+#               with the table
+#   sqlite      a file with a write-ahead log, as many processes of python3, one of which writes at a time; a snapshot reads all keys by one query
 set -eu
 top=$(cd "$(dirname "$(readlink -f "${BASH_SOURCE[0]}")")/.." && pwd)
 program=$(readlink -f "${1:-$top/erm}")
@@ -71,9 +72,9 @@ def keys_of(writer):
     return [pick.randrange(KEYS) for _ in range(SHARE)]
 
 
-def row(seconds, committed, whole):
-    shown = f"{whole} of {snapshots}" if snapshots else "none"
-    print(f"| {kind} | {shown} | {committed / seconds:,.0f} | {SHARE * WRITERS - committed:,} of {SHARE * WRITERS:,} | {seconds:.2f} |", flush=True)
+def row(writing, committed, reading, whole):
+    shown = f"{whole} of {snapshots} | {reading:.2f}" if snapshots else "none | -"
+    print(f"| {kind} | {committed / writing:,.0f} | {SHARE * WRITERS - committed:,} of {SHARE * WRITERS:,} | {shown} |", flush=True)
 
 
 def writer_lines(writer):
@@ -105,23 +106,25 @@ def erm_call(word, lines, before=()):
         sys.exit(f"erm {word}: status {status}")
 
 
-def seconds_between(trace):
-    """The seconds from the start of the first thread to the end of the last."""
+def seconds_of(trace):
+    """The seconds until the last writer's thread ends, and until the reader's does: threads begin in the order of their sessions."""
     with open(trace) as it:
         steps = [line.split(None, 2) for line in it]
-    starts = [float(time) for _, time, step in steps if step.startswith("clone")]
-    ends = [float(time) for _, time, step in steps if step.startswith("exit(")]
-    return max(ends) - min(starts)
+    clones = [(float(time), step.rsplit(" ", 1)[1].strip()) for _, time, step in steps if step.startswith("clone")]
+    ends = {thread: float(time) for thread, time, step in steps if step.startswith("exit(")}
+    lives = [ends[thread] - clones[0][0] for _, thread in clones]
+    return max(lives[:WRITERS]), lives[-1]
 
 
 def erm():
     erm_call("run", erm_load())
-    lines = [line for writer in range(WRITERS) for line in writer_lines(writer)] + list(reader_lines())
+    lines = [line for writer in range(WRITERS) for line in writer_lines(writer)] + list(reader_lines()) + ["beside abort"]
     trace = os.path.join(room, "trace")
     erm_call("threads", lines, [*TRACE, trace])
     with open(os.path.join(room, "report")) as it:
         ends = [line.split()[1] for line in it if line[:1].isdigit()]
-    row(seconds_between(trace), ends.count("committed"), ends.count("safe"))
+    writing, reading = seconds_of(trace)
+    row(writing, ends.count("committed"), reading, ends.count("safe"))
 
 
 def connection():
@@ -133,38 +136,38 @@ def connection():
     return base
 
 
-def sqlite_writer(writer, gate):
+def sqlite_writer(writer, gate, times):
     base = connection()
     gate.wait()
+    start = time.monotonic()
     for number, key in enumerate(keys_of(writer), 1):
         base.execute("begin immediate")
         base.execute("update pairs set value = ? where key = ?", (number.to_bytes(8, "big"), key))
         base.execute("commit")
+    times.put(("writing", time.monotonic() - start))
 
 
-def sqlite_reader(gate):
+def sqlite_reader(gate, times):
     base = connection()
     gate.wait()
+    start = time.monotonic()
     for _ in range(snapshots):
         base.execute("begin")
-        for key in range(KEYS):
-            base.execute("select value from pairs where key = ?", (key,)).fetchone()
+        base.execute("select key, value from pairs order by key").fetchall()
         base.execute("commit")
+    times.put(("reading", time.monotonic() - start))
 
 
-def clients(first, others):
-    """Runs these functions in processes of their own, which begin together; the seconds until all are over."""
-    gate = multiprocessing.Barrier(len(others) + 2 if first else len(others) + 1)
-    works = [multiprocessing.Process(target=work, args=(*given, gate)) for work, given in others + ([first] if first else [])]
+def clients(works):
+    """Runs these functions in processes of their own, which begin together; the most seconds that each kind of them took."""
+    gate, times = multiprocessing.Barrier(len(works)), multiprocessing.Queue()
+    works = [multiprocessing.Process(target=work, args=(*given, gate, times)) for work, given in works]
     for work in works:
         work.start()
-    gate.wait()
-    start = time.monotonic()
+    told = [times.get() for _ in works]
     for work in works:
         work.join()
-    if any(work.exitcode for work in works):
-        sys.exit(f"{kind}: a client failed")
-    return time.monotonic() - start
+    return {kind: max(seconds for told_kind, seconds in told if told_kind == kind) for kind, _ in told}
 
 
 def sqlite():
@@ -174,8 +177,9 @@ def sqlite():
     base.executemany("insert into pairs values (?, x'')", [(key,) for key in range(KEYS)])
     base.execute("commit")
     base.close()
-    reader = (sqlite_reader, ()) if snapshots else None
-    row(clients(reader, [(sqlite_writer, (writer,)) for writer in range(WRITERS)]), SHARE * WRITERS, snapshots)
+    reader = [(sqlite_reader, ())] if snapshots else []
+    told = clients([(sqlite_writer, (writer,)) for writer in range(WRITERS)] + reader)
+    row(told["writing"], SHARE * WRITERS, told.get("reading"), snapshots)
 
 
 def psql(*words):
@@ -195,15 +199,16 @@ def postgres():
     psql("-c", f"insert into pairs select key, '' from generate_series(0, {KEYS - 1}) as key")
     lines = [f"\\set key random(0, {KEYS - 1})", "begin;", "update pairs set value = decode(lpad(to_hex(:key), 16, '0'), 'hex') where key = :key;", "commit;"]
     writers = ["pgbench", "-n", "-h", folder, "-U", "postgres", "-c", str(WRITERS), "-j", str(WRITERS), "-t", str(SHARE), "-f", sql_file("write", lines), "postgres"]
-    look = ["begin isolation level serializable read only deferrable;", *(f"select value from pairs where key = {key};" for key in range(KEYS)), "commit;"]
+    look = ["begin isolation level serializable read only deferrable;", "select key, value from pairs order by key;", "commit;"]
     looks = ["psql", "-X", "-q", "-h", folder, "-U", "postgres", "-f", sql_file("look", look * snapshots)]
     start = time.monotonic()
     reader = subprocess.Popen(looks, stdout=subprocess.DEVNULL, stderr=subprocess.DEVNULL) if snapshots else None
     said = subprocess.run(writers, check=True, stdout=subprocess.PIPE, stderr=subprocess.DEVNULL, text=True).stdout
+    writing = time.monotonic() - start
     if reader and reader.wait():
         sys.exit("postgres: the reader failed")
     failed = re.search(r"failed transactions: (\d+)", said)
-    row(time.monotonic() - start, SHARE * WRITERS - (int(failed[1]) if failed else 0), snapshots)
+    row(writing, SHARE * WRITERS - (int(failed[1]) if failed else 0), time.monotonic() - start, snapshots)
 
 
 {"erm": erm, "sqlite": sqlite, "postgres": postgres}[kind]()
@@ -216,7 +221,7 @@ kinds=""
 if command -v strace >/dev/null; then kinds="erm"; else echo "erm is skipped: strace isn't installed"; fi
 if start_postgres; then kinds="$kinds postgres"; else echo "postgres is skipped: not installed, or it didn't start"; fi
 if python3 -c 'import sqlite3' 2>/dev/null; then kinds="$kinds sqlite"; else echo "sqlite is skipped: not installed"; fi
-echo "| System | Snapshots | Writes a second | Failed | Seconds |"
+echo "| System | Writes a second | Failed | Snapshots | Their seconds |"
 echo "|---|---|---|---|---|"
 for snapshots in 0 10; do
     for kind in $kinds; do
