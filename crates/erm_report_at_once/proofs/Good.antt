@@ -21,6 +21,7 @@ use Rattle.erm_lines_at_once.specs.Laws.{RunsAtOnceAreSerialWithSnapshots, RunsA
 use Rattle.erm_told.proofs.Differing.{stamps_differ}
 use Rattle.erm_owes_at_once.specs.Laws.{RunsAtOnceOwe}
 use Rattle.erm_summary.specs.Summary.{SummariesAreGood, Summarizes}
+use Rattle.erm_report_at_once.proofs.Few.{next_few}
 use Rattle.erm_tight_at_once.specs.Laws.{RunsAtOnceHaveTightWindows}
 use Rattle.erm_report_at_once.specs.Laws.{IsGoodOf, RunsAtOnceAreGood, RunsAtOnceReportWell}
 

@@ -1,16 +1,20 @@
 -- How a session goes on behind its last answer, to how it stands in the world in which all end.
-use Rattle.std.proofs.Common.{◌≡◌, ℕ, [], ◌∷◌, Option, Some, None, append-nil, refl, sym, ap, ◌∙◌, inr}
-use Rattle.erm_model.specs.declared.outcome.Phase.TheVariants.{Active}
+use Rattle.std.proofs.Common.{◌≡◌, ℕ, [], ◌∷◌, Option, Some, None, append-nil, refl, sym, ap, ◌∙◌, subst, inl, inr}
+use Rattle.erm_model.specs.declared.outcome.Phase.TheVariants.{Active, Idle}
+use Rattle.erm_model.specs.Member.{◌∈◌}
 use Rattle.erm_script.specs.declared.script.Command.TheVariants as command
 use Rattle.erm_script.specs.declared.script.ScriptLine.{ScriptLine}
-use Rattle.erm_world.specs.World.{Finished, Session, View, phase_at, phase_of, work_at}
+use Rattle.erm_world.specs.World.{Finished, IsCurrent, Session, Stand, View, Work, phase_at, phase_of, work_at, work_of}
 use Rattle.erm_world.specs.World as world
+use Rattle.erm_world.proofs.Lists.{∈-last}
 use Rattle.erm_lines.specs.Told.{Continues}
 use Rattle.erm_lines_at_once.specs.CutRuns.{IsRest, Waited}
 use Rattle.erm_lines_at_once.specs.CutRuns as rest
 use Rattle.erm_told.proofs.Going.{continues_from, continues_itself, continues_then}
 use Rattle.erm_told.proofs.Turns.{idle_in, turn_aborted, turn_sealed}
 use Rattle.erm_told_at_once.proofs.Operated.{Holds, holds_passes, holds_tried}
+use Rattle.erm_told_limits.proofs.Ran.{active_with}
+use Rattle.erm_cut_at_once.proofs.Stands.{HasIn}
 use Rattle.erm_worker.specs.Work.{WasGivenUp}
 use Rattle.erm_worker.specs.Work as work
 
@@ -44,3 +48,33 @@ goes_short s t (work.aborted w u at more is) =
     let gone : Finished = record { work = u; fate = world.aborts } in
     let over = ap (λ (r : Session). r.over) is in
     continues_from s t (world.active w) at (gone ∷ []) over (u, more, inr (inr (gone, [], s.over, over, refl)))
+
+-- A SNAPSHOT that was in progress is so still, or is over.
+abbrev bare : world.Snapshot → Work
+bare x = world.begun x.number x.begin
+
+never_active : (x : world.Snapshot) (stand : Stand) → stand ≡ world.snapshot x → phase_of stand ≡ Active → ⊥
+never_active x stand is active = let no : world.snapshot x ≡ world.active (work_of stand) = sym is ∙ active_with stand active in cc
+
+never_idle : (x : world.Snapshot) (stand : Stand) → stand ≡ world.snapshot x → phase_of stand ≡ Idle → ⊥
+never_idle x stand is idle = let no : world.snapshot x ≡ world.idle = sym is ∙ idle_in stand idle in cc
+
+stands_still : (s t : Session) (x : world.Snapshot) → s.stand ≡ world.snapshot x → t ≡ s → HasIn t (bare x)
+stands_still s t x stand is = inr (subst (λ (at : Stand). IsCurrent at (bare x)) (sym (ap (λ (r : Session). r.stand) is ∙ stand)) refl)
+
+pub watched_rest : (f : View) (seat : ℕ) (next : Option ScriptLine) (v t : View) (x : world.Snapshot) → (v.session seat).stand ≡ world.snapshot x → IsRest f seat next v t → HasIn (t.session seat) (bare x)
+watched_rest f seat next v t x stand (rest.stood passes) = stands_still (v.session seat) (t.session seat) x stand passes.own
+watched_rest f seat next v t x stand (rest.aborted u active waited did) = absurd (never_active x (v.session seat).stand stand active)
+watched_rest f seat next v t x stand (rest.drew l stamp active is commits did) = absurd (never_active x (v.session seat).stand stand active)
+watched_rest f seat next v t x stand (rest.watched l begin idle is asks did) = absurd (never_idle x (v.session seat).stand stand idle)
+watched_rest f seat next v t x stand (rest.ended has none (u, passes, did)) =
+    let gone : Finished = record { work = work_at u seat; fate = world.aborts } in
+    inl (
+      gone,
+      subst (λ (s : Session). gone ∈ s.over) (sym did.own) (∈-last (u.session seat).over gone),
+      ap (λ (s : Session). work_of s.stand) passes.own ∙ ap work_of stand,
+    )
+
+pub watched_short : (s t : Session) (x : world.Snapshot) → s.stand ≡ world.snapshot x → WasGivenUp s t → HasIn t (bare x)
+watched_short s t x stand (work.stayed is) = stands_still s t x stand is
+watched_short s t x stand (work.aborted w u at more is) = let no : world.snapshot x ≡ world.active w = sym stand ∙ at in absurd (cc no)

@@ -17,21 +17,23 @@ use Rattle.erm_world.specs.World.{IsSession, View, phase_at}
 use Rattle.erm_world.specs.World as world
 use Rattle.erm_good_report.specs.GoodReport.{places_of}
 use Rattle.erm_good_report.specs.Opening.{Opening}
-use Rattle.erm_good_report.specs.Phases.{Closed, FitsPhase, phase_of}
+use Rattle.erm_good_report.specs.Phases.{Closed, FitsPhase, FitsSnapshot, phase_of}
 use Rattle.erm_good_report.specs.Refusals.{HasCause, HasUnfilledCause, IsOwn, Moment}
 use Rattle.erm_good_report.specs.Transactions.{Said, Transaction, history_of, nothing, said_of, steps_of, transactions_of}
 use Rattle.erm_good_at_once.specs.CutReports.{answered_of, moment_in}
 use Rattle.erm_lines.specs.Executions.{IsOpeningOf, line_moves}
 use Rattle.erm_told.proofs.Executed.{still_session}
 use Rattle.erm_told.proofs.Runs.{said_first}
+use Rattle.erm_told_at_once.proofs.Phases.{line_looks}
 use Rattle.erm_told_at_once.proofs.Runs.{OwnAt, close_of, first_known, knows_own, own_at, own_split}
 use Rattle.erm_told_limits.proofs.Heard.{may_claim, may_read}
 use Rattle.erm_told_limits.proofs.Holds.{Laws}
-use Rattle.erm_told_order.specs.Told.{ToldHaveSnapshots, told_in}
+use Rattle.erm_told_order.specs.Told.{ToldHaveSafeSnapshots, ToldHaveSnapshots, told_in}
 use Rattle.erm_cut_at_once.proofs.Parted.{in_script}
 use Rattle.erm_works.specs.Starved.{IsStarvedRunAtOnce}
 use Rattle.erm_starved_at_once.specs.Owes.{IsOwnRefusal, OwesWhenStarved}
 use Rattle.erm_starved_at_once.proofs.Full.{own_claims, own_reads}
+use Rattle.erm_starved_at_once.proofs.Safe.{replied_safely}
 use Rattle.erm_starved_at_once.proofs.Starved.{AnswersStay, BegunAreRuns, leaves, named, ran}
 use Rattle.erm_starved_at_once.proofs.Waits.{never_waits}
 
@@ -60,14 +62,17 @@ module _ (v f : View) (script : List ScriptLine) (counts : ℕ → ℕ) (answers
         let (u, lines, rest) = own_split f l.session (line_moves part answers) (map close_of closed) v its.last its.run in
         (u, own_at f l.session part answers v u i l a refl lines at answered)
 
-    line_fits : FitsPhase (phase_of l.session (take i (said_of part answers))) l.command a
-    line_fits =
+    phase_there : phase_of l.session (take i (said_of part answers)) ≡ phase_at there.1.before l.session
+    phase_there =
         let its = there.1 in
-        let known = knows_own runs stay f l.session (line_moves (take i part) (take i answers)) nothing Idle v its.before its.start (first_known l.session v (run.opened.idle l.session session)) in
-        let phase : phase_of l.session (take i (said_of part answers)) ≡ phase_at its.before l.session =
-        subst (λ (said : List Said). phase_of l.session said ≡ phase_at its.before l.session) (said_first i part answers) known.phase_is
-        in
-        subst (λ (p : Phase). FitsPhase p l.command a) (sym phase) its.did.fits
+        subst (λ (said : List Said). phase_of l.session said ≡ phase_at its.before l.session) (said_first i part answers)
+        (knows_own runs stay f l.session (line_moves (take i part) (take i answers)) nothing Idle v its.before its.start (first_known l.session v (run.opened.idle l.session session))).phase_is
+
+    line_fits : FitsPhase (phase_of l.session (take i (said_of part answers))) l.command a
+    line_fits = subst (λ (p : Phase). FitsPhase p l.command a) (sym phase_there) there.1.did.fits
+
+    line_watched : FitsSnapshot (phase_of l.session (take i (said_of part answers))) l.command a
+    line_watched = subst (λ (p : Phase). FitsSnapshot p l.command a) (sym phase_there) (line_looks f l a there.1.before there.1.after there.1.did)
 
   -- a line that was refused for want of what only its own transaction takes
   module _ (opening : Opening) (i : ℕ) (l : ScriptLine) (t : Transaction) where
@@ -111,11 +116,13 @@ module _ (v f : View) (script : List ScriptLine) (counts : ℕ → ℕ) (answers
       (subst (λ (n : ℕ). HasSnapshotReplies here opening.map n (steps_of t)) begin
       (subst (λ (steps : List Step). HasSnapshotReplies here opening.map u.begin steps) same (law world_left.left world_left.said world_left.told opening.map map_is u in_it)))
 
-  pub owes : ToldHaveSnapshots → (opening : Opening) → IsOpeningOf v opening
+  pub owes : ToldHaveSnapshots → ToldHaveSafeSnapshots → (opening : Opening) → IsOpeningOf v opening
       → OwesWhenStarved opening script (answered_of counts script) answers (transactions_of v.opening.sessions (places_of (answered_of counts script) answers closed))
-  owes law opening of = record {
-    phases = record { fits = line_fits };
+  owes law safe opening of = record {
+    phases = record { fits = line_fits; snapshots = line_watched };
     snapshots = replied law opening of;
+    safe = λ session begin s has is. (replied_safely v f script counts answers closed run laws runs stay safe opening of session begin s has is).safe;
+    looks = λ session begin s has is. (replied_safely v f script counts answers closed run laws runs stay safe opening of session begin s has is).replies;
     refusals = refused opening;
     reads = λ i l at answered t own. reads_full opening i l t at answered own;
   }

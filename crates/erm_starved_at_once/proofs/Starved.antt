@@ -9,7 +9,7 @@ use Rattle.erm_report.specs.declared.answer.Answer.{Answer}
 use Rattle.erm_report.specs.declared.answer.Answer.TheVariants as answer
 use Rattle.erm_script.specs.declared.script.ScriptLine.{ScriptLine}
 use Rattle.erm_world.specs.Going.{Extends}
-use Rattle.erm_world.specs.World.{IsSession, Session, View, Work, phase_of, work_of}
+use Rattle.erm_world.specs.World.{Has, IsSession, Session, View, Work, phase_of, work_of}
 use Rattle.erm_world.specs.World as world
 use Rattle.erm_maps.specs.Runs.{IsAnswered, IsRunOf}
 use Rattle.erm_good_report.specs.Phases.{Closed, Closes}
@@ -29,7 +29,7 @@ use Rattle.erm_told_at_once.proofs.Runs.{close_of, first_known, is_closed, knows
 use Rattle.erm_told_limits.proofs.Holds.{Laws}
 use Rattle.erm_cut_at_once.proofs.Closing.{closed_progress}
 use Rattle.erm_cut_at_once.proofs.Parted.{all_answered, in_script}
-use Rattle.erm_cut_at_once.proofs.Stands.{stands_itself}
+use Rattle.erm_cut_at_once.proofs.Stands.{HasIn, stands_itself}
 use Rattle.erm_told_log_at_once.specs.Laws.{AreCutsFew, AreFlushed}
 use Rattle.erm_told_log_at_once.specs.Left.{LeavesWorld}
 use Rattle.erm_told_log_at_once.proofs.Answered.{HasOwn, are_flushed, cuts_few}
@@ -38,7 +38,7 @@ use Rattle.erm_told_log_at_once.proofs.Leaving.{Leaving, leaving_by, told_active
 use Rattle.erm_told_log_at_once.proofs.Left.{known, left_world, told_of}
 use Rattle.erm_worker.specs.Work.{WasGivenUp, aborted, stayed}
 use Rattle.erm_works.specs.Starved.{IsStarvedPart, IsStarvedRunAtOnce}
-use Rattle.erm_starved_at_once.proofs.Going.{goes_rest, goes_short}
+use Rattle.erm_starved_at_once.proofs.Going.{goes_rest, goes_short, watched_rest, watched_short}
 
 -- what was answered on a work stays so on one that has gone on
 abbrev pub AnswersStay : Type 0
@@ -93,12 +93,13 @@ closes_sealed Pending a fits sealed = absurd fits
 closes_sealed Safe answer.Aborted fits sealed = absurd sealed
 closes_sealed Safe a fits sealed = absurd fits
 
--- EACH SESSION has an own run of its moves that are told, was flushed no further there, and went on from there.
+-- EACH SESSION has an own run of its moves that are told, was flushed no further there, and went on from there: a snapshot that it had is one of its own.
 pub record Ran (f : View) (seat : ℕ) (v : View) (moves : List Move) : Type 0 where
   pub last : View
   pub run : IsOwnRun f seat v moves last
   pub flushed : last.flushed ≤ f.flushed
   pub goes : Continues (last.session seat) (f.session seat)
+  pub watched : (x : world.Snapshot) → (last.session seat).stand ≡ world.snapshot x → Has f seat (world.begun x.number x.begin)
 
 module _ (v f : View) (script : List ScriptLine) (counts : ℕ → ℕ) (answers : List Answer) (closed : List Closed) (run : IsStarvedRunAtOnce v script counts answers closed f) where
   abbrev part : List ScriptLine
@@ -113,8 +114,15 @@ module _ (v f : View) (script : List ScriptLine) (counts : ℕ → ℕ) (answers
     run = its.run;
     flushed = omega (arith, (rest_beyond f seat (next_of seat counts script) its.last its.end its.rest).flushed, its.within.1);
     goes = subst (λ (s : Session). Continues (its.last.session seat) s) its.ends (goes_rest f seat (next_of seat counts script) its.last its.end its.rest);
+    watched = λ x stand. subst (λ (s : Session). HasIn s (world.begun x.number x.begin)) its.ends (watched_rest f seat (next_of seat counts script) its.last its.end x stand its.rest);
   }
-  ran_of seat (inr its) = record { last = its.last; run = its.run; flushed = its.within.1; goes = goes_short (its.last.session seat) (f.session seat) its.gave_up }
+  ran_of seat (inr its) = record {
+    last = its.last;
+    run = its.run;
+    flushed = its.within.1;
+    goes = goes_short (its.last.session seat) (f.session seat) its.gave_up;
+    watched = λ x stand. watched_short (its.last.session seat) (f.session seat) x stand its.gave_up;
+  }
 
   pub ran : (seat : ℕ) → IsSession v seat → Ran f seat v moves
   ran seat session = ran_of seat (run.own seat session)
