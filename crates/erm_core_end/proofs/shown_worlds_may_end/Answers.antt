@@ -31,4 +31,9 @@ returns c sessions core under alone only =
           let at = has_stamp sessions core seat w stamp sound has in
           shown_within sessions core sound only stamp (let drawn = (sound.own seat).decided.drawn at.attempt at.stands in omega (arith, drawn, at.stamp_is));
       tail = shown_within sessions core sound only core.shared.tail (omega arith);
+      within = λ seat w stamp session has.
+          let at = has_stamp sessions core seat w stamp sound has in
+          let drawn = (sound.own seat).decided.drawn at.attempt at.stands in
+          let below = sound.common.ranges.below in
+          omega (arith, drawn, at.stamp_is, below);
     }

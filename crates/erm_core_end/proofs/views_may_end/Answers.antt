@@ -31,4 +31,9 @@ returns c sessions core under alone quiet =
           let at = has_stamped sessions core seat w stamp sound quiet session has in
           within_blocks sessions core sound quiet stamp (let drawn = (sound.own seat).decided.drawn at.attempt at.stands in omega (arith, drawn, at.stamp_is));
       tail = within_blocks sessions core sound quiet core.shared.tail (omega arith);
+      within = λ seat w stamp session has.
+          let at = has_stamped sessions core seat w stamp sound quiet session has in
+          let drawn = (sound.own seat).decided.drawn at.attempt at.stands in
+          let below = sound.common.ranges.below in
+          omega (arith, drawn, at.stamp_is, below);
     }
