@@ -13,7 +13,7 @@ use Rattle.erm_report.specs.declared.answer.Answer.{Answer}
 use Rattle.erm_report.specs.declared.answer.Answer.TheVariants as answer
 use Rattle.erm_world.specs.Calls.{AreReady, IsSealedBelow}
 use Rattle.erm_world.specs.Laws.{IsSerializable}
-use Rattle.erm_world.specs.World.{Finished, IsSession, Opening, Session, View, Work, history_of, phase_at, phase_of, record_of}
+use Rattle.erm_world.specs.World.{IsSession, Opening, Session, View, Work, history_of, phase_at, phase_of, record_of}
 use Rattle.erm_world.specs.World as world
 use Rattle.erm_world.proofs.Commits.{tells_commits}
 use Rattle.erm_good_report.specs.Phases.{Closes}

@@ -10,7 +10,7 @@ use Rattle.erm_report.specs.declared.answer.Answer.TheVariants as answer
 use Rattle.erm_world.specs.declared.stops.Wait.{Wait}
 use Rattle.erm_world.specs.declared.stops.Wait.TheVariants as wait
 use Rattle.erm_world.specs.Calls.{Becomes, DidNotSettle, DidSettle, IsInTheWay, IsSealedBelow, has_read, overwrites}
-use Rattle.erm_world.specs.World.{Finished, IsSession, Session, Stand, View, Work, phase_at, phase_of}
+use Rattle.erm_world.specs.World.{IsSession, Session, Stand, View, Work, phase_at, phase_of}
 use Rattle.erm_world.specs.World as world
 use Rattle.erm_good_report.specs.Phases.{Closes}
 use Rattle.erm_lines.specs.Answers.{DidClose}

@@ -1,4 +1,4 @@
-use Rattle.std.proofs.Common.{◌≡◌, ◌+◌, arith, List, length, slice_set, Option, None, Some, Ok, Err, IfErr, Vec, refl, sym, ap, ◌∙◌, subst}
+use Rattle.std.proofs.Common.{◌≡◌, ◌+◌, List, length, slice_set, Option, None, Some, Ok, Err, IfErr, Vec, refl, sym, ap, ◌∙◌, subst}
 use Rattle.std.specs.Prelude.{Result}
 use Rattle.std.specs.declared.alloc.Global.{Global}
 use Rattle.erm_model.specs.declared.outcome.Phase.TheVariants as phase
