@@ -13,7 +13,6 @@ use Rattle.erm_lone.specs.Within.{world_itself}
 use Rattle.erm_lone.proofs.Later.{world_then}
 use Rattle.erm_lone.proofs.Moves.{rests}
 use Rattle.erm_safe_world.specs.Moves.{MovesOn}
-use Rattle.erm_safe_world.proofs.Moved.{moves_nowhere, moves_then}
 use Rattle.erm_lines_at_once.specs.Executions.{DidOwn, IsOwnRun}
 use Rattle.erm_turn_cases.specs.Turns.{AreTurns, IsTurn, TurnsAreOwnRuns}
 
@@ -25,13 +24,14 @@ turned_later (log l a ∷ moves) v t is = absurd is
 turned_later (close seat a ∷ moves) v t is = absurd is
 turned_later (flush ∷ moves) v t is = absurd is
 
--- to which the first one moved on
-turned_moves : (moves : List Move) (v t : View) → AreTurns v moves t → MovesOn v t
-turned_moves [] v t is = moves_nowhere v t is
-turned_moves (line l a ∷ moves) v t (u, turn, rest) = moves_then v u t turn.moves (turned_moves moves u t rest)
-turned_moves (log l a ∷ moves) v t is = absurd is
-turned_moves (close seat a ∷ moves) v t is = absurd is
-turned_moves (flush ∷ moves) v t is = absurd is
+-- to which the first one moved on, as a world does by calls one after another
+module _ (stays : (v t : View) → t ≡ v → MovesOn v t) (goes_on : (v t u : View) → MovesOn v t → MovesOn t u → MovesOn v u) where
+  pub turned_moves : (moves : List Move) (v t : View) → AreTurns v moves t → MovesOn v t
+  turned_moves [] v t is = stays v t is
+  turned_moves (line l a ∷ moves) v t (u, turn, rest) = goes_on v u t turn.moves (turned_moves moves u t rest)
+  turned_moves (log l a ∷ moves) v t is = absurd is
+  turned_moves (close seat a ∷ moves) v t is = absurd is
+  turned_moves (flush ∷ moves) v t is = absurd is
 
 -- one turn, of the session or of another one
 module _ (t : View) (holds : IsSerializable sound_law t) (v u : View) (l : ScriptLine) (a : Answer) (turn : IsTurn sound_law v l a u) (later : IsLaterWorld u t) (on : MovesOn u t) (seat : ℕ) where
@@ -45,22 +45,23 @@ module _ (t : View) (holds : IsSerializable sound_law t) (v u : View) (l : Scrip
       let stands = turn.others seat (λ is. another (sym is)) in
       (u, u, record { own = stands.0; opening = turn.later.opening; tail = turn.later.tail; flushed = turn.later.flushed; given_up = stands.1 }, refl, refl)
 
-own_runs : (moves : List Move) (v t : View) → AreTurns v moves t → IsSerializable sound_law t → (seat : ℕ) → IsOwnRun t seat v moves t
-own_runs [] v t is holds seat = subst (λ (u : View). Passes seat v u) (sym is) (rests seat v)
-own_runs (line l a ∷ moves) v t (u, turn, rest) holds seat =
-    let later = turned_later moves u t rest in
-    let on = turned_moves moves u t rest in
-    elim (eqb_tells l.session seat) as (λ _. IsOwnRun t seat v (line l a ∷ moves) t) [
-      | inl here ↦
-          let one = own_turn t holds v u l a turn later on seat here.1 in
-          (one.0, one.1, one.2, subst (λ (b : Bool). DidOwn b t seat (line l a) one.0 one.1) (sym here.0) one.3, subst (λ (x : View). IsOwnRun t seat x moves t) (sym one.4) (own_runs moves u t rest holds seat))
-      | inr there ↦
-          let one = other_turn t holds v u l a turn later on seat there.1 in
-          (one.0, one.1, one.2, subst (λ (b : Bool). DidOwn b t seat (line l a) one.0 one.1) (sym there.0) one.3, subst (λ (x : View). IsOwnRun t seat x moves t) (sym one.4) (own_runs moves u t rest holds seat))
-    ]
-own_runs (log l a ∷ moves) v t is holds seat = absurd is
-own_runs (close at a ∷ moves) v t is holds seat = absurd is
-own_runs (flush ∷ moves) v t is holds seat = absurd is
+module _ (stays : (v t : View) → t ≡ v → MovesOn v t) (goes_on : (v t u : View) → MovesOn v t → MovesOn t u → MovesOn v u) where
+  own_runs : (moves : List Move) (v t : View) → AreTurns v moves t → IsSerializable sound_law t → (seat : ℕ) → IsOwnRun t seat v moves t
+  own_runs [] v t is holds seat = subst (λ (u : View). Passes seat v u) (sym is) (rests seat v)
+  own_runs (line l a ∷ moves) v t (u, turn, rest) holds seat =
+      let later = turned_later moves u t rest in
+      let on = turned_moves stays goes_on moves u t rest in
+      elim (eqb_tells l.session seat) as (λ _. IsOwnRun t seat v (line l a ∷ moves) t) [
+        | inl here ↦
+            let one = own_turn t holds v u l a turn later on seat here.1 in
+            (one.0, one.1, one.2, subst (λ (b : Bool). DidOwn b t seat (line l a) one.0 one.1) (sym here.0) one.3, subst (λ (x : View). IsOwnRun t seat x moves t) (sym one.4) (own_runs moves u t rest holds seat))
+        | inr there ↦
+            let one = other_turn t holds v u l a turn later on seat there.1 in
+            (one.0, one.1, one.2, subst (λ (b : Bool). DidOwn b t seat (line l a) one.0 one.1) (sym there.0) one.3, subst (λ (x : View). IsOwnRun t seat x moves t) (sym one.4) (own_runs moves u t rest holds seat))
+      ]
+  own_runs (log l a ∷ moves) v t is holds seat = absurd is
+  own_runs (close at a ∷ moves) v t is holds seat = absurd is
+  own_runs (flush ∷ moves) v t is holds seat = absurd is
 
-pub turns_are_own_runs : TurnsAreOwnRuns
-turns_are_own_runs v t moves turns holds seat = own_runs moves v t turns holds seat
+  pub own_runs_of_turns : TurnsAreOwnRuns
+  own_runs_of_turns v t moves turns holds seat = own_runs moves v t turns holds seat

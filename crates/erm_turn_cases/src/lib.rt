@@ -14,4 +14,6 @@ pub use turns::turn;
 /// all may end in that world, the turns are an execution at once.
 pub fn turns_are_own_runs()
     ensures { TurnsAreOwnRuns }
-{}
+{
+    erm_safe_world::calls_move_on();
+}
