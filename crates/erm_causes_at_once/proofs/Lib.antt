@@ -1,3 +1,4 @@
+pub mod Agreed
 pub mod Called
 pub mod Drawn
 pub mod Free
@@ -5,10 +6,12 @@ pub mod GivenUp
 pub mod Line
 pub mod Numbers
 pub mod Operation
+pub mod Ordered
 pub mod Own
 pub mod Quieted
 pub mod Reach
 pub mod Refused
+pub mod Safely
 pub mod Sealed
 pub mod Snapshots
 pub mod Still

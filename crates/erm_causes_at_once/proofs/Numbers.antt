@@ -1,5 +1,5 @@
 -- How many numbers a session's places take, for transactions and snapshots together: each place one at most, and one of a session that is closed none.
-use Rattle.std.proofs.Common.{◌≡◌, ℕ, zero, suc, ◌+◌, ◌≤◌, ◌==◌, Bool, true, false, cond, List, [], ◌∷◌, ◌++◌, fold, length, take, Option, Some, None, option_map, option_to_list, refl, ap, arith}
+use Rattle.std.proofs.Common.{◌≡◌, ℕ, zero, suc, ◌+◌, ◌≤◌, ◌==◌, Bool, true, false, cond, List, [], ◌∷◌, ◌++◌, fold, length, take, Option, Some, None, option_map, option_to_list, refl, arith}
 use Rattle.std.proofs.lemmas.List.{length-append}
 use Rattle.erm_model.specs.declared.outcome.Phase.{Phase}
 use Rattle.erm_model.specs.declared.outcome.Phase.TheVariants.{Active, Sealed, Pending, Safe}

@@ -1,7 +1,5 @@
 -- An answer to a session that needs no transaction has its cause: in the session's earlier answers, and in how far the log may have come.
-use Rattle.std.proofs.Common.{◌≡◌, ℕ, zero, suc, ◌+◌, ◌*◌, ◌≤◌, ◌==◌, Bool, true, false, cond, List, [], ◌∷◌, ◌++◌, fold, length, take, slice_get, Option, Some, None, refl, sym, ap, ◌∙◌, subst, arith}
-use Rattle.std.specs.Option.{option_to_list}
-use Rattle.std.proofs.lemmas.List.{length-append}
+use Rattle.std.proofs.Common.{◌≡◌, ℕ, ◌+◌, ◌*◌, ◌≤◌, List, [], length, take, slice_get, Option, Some, None, refl, sym, ap, ◌∙◌, subst, arith}
 use Rattle.std.proofs.lemmas.Option.{slice_get_within}
 use Rattle.erm_model.specs.declared.limits.TheConstants.{GREATEST_BLOCK, LAST_NUMBER, LEAST_BLOCK}
 use Rattle.erm_model.specs.Run.{Step}
@@ -19,7 +17,7 @@ use Rattle.erm_good_report.specs.Opening.{Opening}
 use Rattle.erm_good_report.specs.Phases.{FitsRefusal, IsAnswerTo, need_of, refusal_in, refusal_of}
 use Rattle.erm_good_report.proofs.Phases.{phase_refuses}
 use Rattle.erm_good_report.specs.Refusals.{HasLogCause, HasUnfilledCause, Moment, draws_of, last_commit, total_of}
-use Rattle.erm_good_report.specs.Transactions.{Progress, Said, Transaction, progress_of, said_of}
+use Rattle.erm_good_report.specs.Transactions.{Progress, Transaction, progress_of, said_of}
 use Rattle.erm_good_at_once.specs.CutReports.{moment_in}
 use Rattle.erm_lines.specs.Answers.{DidAskDurable, IsLastCommit}
 use Rattle.erm_lines.specs.Told.{TellsOver}

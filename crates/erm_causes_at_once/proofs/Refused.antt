@@ -77,20 +77,20 @@ IsStop a = ⊥
 
 -- they are to lines that name a table
 names_of : (c : Command) (a : Answer) → IsStop a → IsAnswerTo c a → (k : ℕ) × (table_of c ≡ Some k)
-names_of (command.Get k key) a told fits = (k, refl)
-names_of (command.Put k key value) a told fits = (k, refl)
-names_of (command.Del k key) a told fits = (k, refl)
-names_of (command.Next k from) a told fits = (k, refl)
-names_of (command.Scan k low high) a told fits = (k, refl)
-names_of (command.Tidy k key) a told fits = (k, refl)
-names_of c (answer.Owned seat number) told fits = absurd fits
-names_of c (answer.Newer stamp) told fits = absurd fits
-names_of c (answer.ExcludedEarly succ pred) told fits = absurd fits
-names_of c answer.ReadsFull told fits = absurd fits
-names_of c answer.WritesFull told fits = absurd fits
-names_of c (answer.CellsFull drawn) told fits = absurd fits
-names_of c (answer.OidsFull drawn) told fits = absurd fits
-names_of c a told fits = absurd told
+names_of (command.Get k key) a stopping fits = (k, refl)
+names_of (command.Put k key value) a stopping fits = (k, refl)
+names_of (command.Del k key) a stopping fits = (k, refl)
+names_of (command.Next k from) a stopping fits = (k, refl)
+names_of (command.Scan k low high) a stopping fits = (k, refl)
+names_of (command.Tidy k key) a stopping fits = (k, refl)
+names_of c (answer.Owned seat number) stopping fits = absurd fits
+names_of c (answer.Newer stamp) stopping fits = absurd fits
+names_of c (answer.ExcludedEarly succ pred) stopping fits = absurd fits
+names_of c answer.ReadsFull stopping fits = absurd fits
+names_of c answer.WritesFull stopping fits = absurd fits
+names_of c (answer.CellsFull drawn) stopping fits = absurd fits
+names_of c (answer.OidsFull drawn) stopping fits = absurd fits
+names_of c a stopping fits = absurd stopping
 
 operates : (f : View) (seat : ℕ) (c : Command) (a : Answer) (k : ℕ) (v t : View) → table_of c ≡ Some k → DidCommandBeside f seat c a v t → DidOperationBeside f seat c a v t
 operates f seat (command.Get n key) a k v t named did = did
@@ -116,14 +116,14 @@ never_stopped f seat command.Durable answer.NoReceipt v t stopping did = absurd 
 never_stopped f seat c a v t stopping did = absurd did
 
 no_refusal : (a : Answer) → IsStop a → refusal_in a ≡ None
-no_refusal (answer.Owned seat number) told = refl
-no_refusal (answer.Newer stamp) told = refl
-no_refusal (answer.ExcludedEarly succ pred) told = refl
-no_refusal answer.ReadsFull told = refl
-no_refusal answer.WritesFull told = refl
-no_refusal (answer.CellsFull drawn) told = refl
-no_refusal (answer.OidsFull drawn) told = refl
-no_refusal a told = absurd told
+no_refusal (answer.Owned seat number) stopping = refl
+no_refusal (answer.Newer stamp) stopping = refl
+no_refusal (answer.ExcludedEarly succ pred) stopping = refl
+no_refusal answer.ReadsFull stopping = refl
+no_refusal answer.WritesFull stopping = refl
+no_refusal (answer.CellsFull drawn) stopping = refl
+no_refusal (answer.OidsFull drawn) stopping = refl
+no_refusal a stopping = absurd stopping
 
 -- A line that a call's refusal cut off names a table, and its session was active.
 pub record Stopped (f : View) (seat : ℕ) (c : Command) (a : Answer) (v t : View) : Type 0 where
@@ -281,14 +281,14 @@ place_said (k ∷ script) (b ∷ answers) (suc i) l a at answered = place_said s
 
 pub once_cut : (f : View) (seat : ℕ) (c : Command) (a : Answer) (v t : View) → IsStop a → DidOnce f seat c a v t
     → (why : RowStop) × (told_at_once why ≡ Some a) × WereCutBeside f seat (FrontOf c) (AsksOf c) why v t
-once_cut f seat c (answer.Owned other number) v t told did = did
-once_cut f seat c (answer.Newer stamp) v t told did = did
-once_cut f seat c (answer.ExcludedEarly succ pred) v t told did = did
-once_cut f seat c answer.ReadsFull v t told did = did
-once_cut f seat c answer.WritesFull v t told did = did
-once_cut f seat c (answer.CellsFull drawn) v t told did = did
-once_cut f seat c (answer.OidsFull drawn) v t told did = did
-once_cut f seat c a v t told did = absurd told
+once_cut f seat c (answer.Owned other number) v t stopping did = did
+once_cut f seat c (answer.Newer stamp) v t stopping did = did
+once_cut f seat c (answer.ExcludedEarly succ pred) v t stopping did = did
+once_cut f seat c answer.ReadsFull v t stopping did = did
+once_cut f seat c answer.WritesFull v t stopping did = did
+once_cut f seat c (answer.CellsFull drawn) v t stopping did = did
+once_cut f seat c (answer.OidsFull drawn) v t stopping did = did
+once_cut f seat c a v t stopping did = absurd stopping
 
 module _ (tree : TreeLaws) (laws : HistoryLaws) (begun : (number begin : ℕ) → IsRunOf (world.begun number begin) [])
     (stay : (w u : Work) (steps : List Step) → Extends w u → IsAnswered w steps → IsAnswered u steps)

@@ -1,5 +1,5 @@
 -- A session's snapshots that were told safe are so in the world in which all end, and each of their looks is on the rows below their begin stamps there.
-use Rattle.std.proofs.Common.{◌≡◌, ◌≢◌, ℕ, ◌==◌, Bool, true, false, if◌then◌else◌, cond, fold, is_some, List, [], ◌∷◌, ◌++◌, Option, Some, None, IfSome, option_map, option_to_list, refl, sym, ap, ◌∙◌, subst, inl, inr, ⊎_elim, eq-eqb, ne_eqb}
+use Rattle.std.proofs.Common.{◌≡◌, ℕ, ◌<◌, ◌==◌, Bool, true, false, if◌then◌else◌, cond, fold, is_some, List, [], ◌∷◌, ◌++◌, Option, Some, None, IfSome, option_map, option_to_list, refl, sym, ap, ◌∙◌, subst, inl, inr, ⊎_elim, eq-eqb, ne_eqb, arith}
 use Rattle.std.specs.Option.{option_map_or}
 use Rattle.std.proofs.lemmas.Bool.{cases_eq}
 use Rattle.erm_model.specs.declared.operation.Op.{Op}
@@ -12,6 +12,7 @@ use Rattle.erm_model.specs.Member.{◌∈◌}
 use Rattle.erm_model.specs.Run.{Step}
 use Rattle.erm_model.proofs.Members.{none_in_nil}
 use Rattle.erm_machine.proofs.Listed.{∈-either}
+use Rattle.erm_node.specs.Sound.{sound_law}
 use Rattle.erm_report.specs.declared.answer.Answer.{Answer}
 use Rattle.erm_report.specs.declared.answer.Answer.TheVariants as answer
 use Rattle.erm_script.specs.declared.script.Command.{Command}
@@ -19,31 +20,32 @@ use Rattle.erm_script.specs.declared.script.Command.TheVariants as command
 use Rattle.erm_script.specs.declared.script.ScriptLine.{ScriptLine}
 use Rattle.erm_safe_laws.specs.Safe.{IsReading}
 use Rattle.erm_world.specs.Going.{Extends}
+use Rattle.erm_world.specs.Laws.{IsSerializable}
 use Rattle.erm_world.specs.Safe.{IsSafeIn}
-use Rattle.erm_world.specs.World.{IsSession, Session, Stand, View, Work, history_of, phase_at, phase_of, work_at, work_of}
+use Rattle.erm_world.specs.World.{Has, IsSession, Session, Stand, View, Work, history_of, phase_at, phase_of, work_at, work_of}
 use Rattle.erm_world.specs.World as world
 use Rattle.erm_maps.specs.Runs.{IsAnswered, IsRunOf}
-use Rattle.erm_good_report.specs.GoodReport.{places_of}
-use Rattle.erm_good_report.specs.Phases.{Closed, Closes, HasNoSnapshot, IsAnswerTo, refusal_of}
+use Rattle.erm_good_report.specs.Phases.{Closes, HasNoSnapshot, IsAnswerTo, refusal_of}
 use Rattle.erm_good_report.specs.Transactions.{HasSnapshot, Progress, Said, Snapshot, heard, looks_of, next_number, nothing, own_snapshot, progress_of, with_begin, with_look}
 use Rattle.erm_good_report.proofs.Phases.{answers_so}
 use Rattle.erm_lines.specs.Executions.{Move, close, flush, line, log, said_in}
 use Rattle.erm_lines.specs.Told.{Tells, TellsWatched}
-use Rattle.erm_lines.specs.Whole.{is_snapshot}
 use Rattle.erm_lines.proofs.Watched.{pending_where, snapshot_there}
-use Rattle.erm_lines_at_once.specs.Answers.{DidAskSafeBeside, DidAskedBeside, DidEndBeside, DidInBeside, DidLineBeside, DidOfSnapshotBeside}
-use Rattle.erm_lines_at_once.specs.Executions.{DidOwn, IsOwnRun, all_moves, is_own}
+use Rattle.erm_lines_at_once.specs.Answers.{DidAskedBeside, DidEndBeside, DidInBeside, DidLineBeside, DidOfSnapshotBeside}
+use Rattle.erm_lines_at_once.specs.Executions.{DidOwn, IsOwnRun}
 use Rattle.erm_lines_at_once.specs.Looks.{DidLookBeside}
-use Rattle.erm_lines_at_once.specs.Parts.{IsRunInPart}
 use Rattle.erm_lines_at_once.proofs.Watched.{in_phase}
 use Rattle.erm_told.specs.Snapshots.{IsKeptSafe}
 use Rattle.erm_told.proofs.Comes.{Comes, IsPlain, hears_comes, looks_with, replied_none}
 use Rattle.erm_told.proofs.Executed.{Knows, hears, turns}
 use Rattle.erm_told.proofs.Keeping.{kept_like, kept_new, kept_with}
-use Rattle.erm_told.proofs.Reported.{in_option}
+use Rattle.erm_told.proofs.Lasting.{Lasts}
+use Rattle.erm_told.proofs.Lasting as lasting
+use Rattle.erm_told.proofs.Reported.{ended_at, in_option}
 use Rattle.erm_told.proofs.Steps.{one_replied}
 use Rattle.erm_told.proofs.Watching.{Watching, pending_in, watching}
-use Rattle.erm_told_at_once.proofs.Runs.{all_say, at_first, knows_own, passes_itself}
+use Rattle.erm_told_at_once.proofs.Lasting.{has_last, lasts_own}
+use Rattle.erm_told_at_once.proofs.Runs.{knows_own, passes_itself}
 
 the_snapshot : (x y : Snapshot) → Some x ≡ Some y → x ≡ y
 the_snapshot x y is = cc
@@ -269,14 +271,44 @@ module _ (f : View) where
     keeps_nothing : Keeps nothing
     keeps_nothing = record { over = λ s begin m is. absurd (none_in_nil s m); now = λ s begin at is. absurd (cc); quiet = λ s at none. absurd (cc) }
 
-  module _ (runs : (number begin : ℕ) → IsRunOf (world.begun number begin) []) (stay : (w u : Work) (steps : List Step) → Extends w u → IsAnswered w steps → IsAnswered u steps)
-      (v : View) (whole script : List ScriptLine) (answers : List Answer) (closed : List Closed) (run : IsRunInPart v whole script answers closed f) where
-    pub kept_safe : (seat : ℕ) → IsSession v seat → (begin : ℕ) (s : Snapshot) → HasSnapshot (places_of script answers closed) seat s → s.begin ≡ Some begin → IsKeptSafe f s begin
-    kept_safe seat session begin s has is =
-        let part = run.own seat session in
-        let moves = all_moves script answers closed in
-        let all = keeps_all runs stay seat moves nothing phase.Idle v part.last part.run (at_first runs stay v f whole script answers closed run seat session) (keeps_nothing runs stay seat) in
-        let p = progress_of seat (places_of script answers closed) in
-        let keeps : Keeps p = subst (λ (said : List Said). Keeps (progress_of seat said)) (all_say script answers closed) all in
+    -- so they are kept, by whatever moves
+    pub kept_by : (moves : List Move) (v t : View) → IsOwnRun f seat v moves t → Knows seat nothing phase.Idle v → (begin : ℕ) (s : Snapshot) → HasSnapshot (said_in moves) seat s → s.begin ≡ Some begin
+        → IsKeptSafe f s begin
+    kept_by moves v t run first begin s has is =
+        let p = progress_of seat (said_in moves) in
+        let keeps : Keeps p = keeps_all moves nothing phase.Idle v t run first keeps_nothing in
         ⊎_elim (λ (over : s ∈ p.snapshots). keeps.over s begin over is) (λ (last : s ∈ option_to_list p.snapshot). keeps.now s begin (in_option p.snapshot s last) is)
         (∈-either p.snapshots (option_to_list p.snapshot) s has)
+
+-- A BEGIN STAMP that was told is one of the log, and so isn't 0.
+told_as : (o : Option ℕ) (begin other : ℕ) → o ≡ Some begin → IfSome o (λ stamp. stamp ≡ other) → begin ≡ other
+told_as o begin other is told = subst (λ (x : Option ℕ). IfSome x (λ stamp. stamp ≡ other)) is told
+
+module _ (runs : (number begin : ℕ) → IsRunOf (world.begun number begin) []) (stay : (w u : Work) (steps : List Step) → Extends w u → IsAnswered w steps → IsAnswered u steps)
+    (f u last : View) (seat : ℕ) (lawful : IsSerializable sound_law f) (session : IsSession f seat) (more : List Move) (run : IsOwnRun f seat u more last) (ends : last.session seat ≡ f.session seat)
+    (p : Progress) (tells : Tells seat p (u.session seat)) where
+  has_above : (w : Work) (begin : ℕ) → Has f seat w → begin ≡ w.begin → 0 < begin
+  has_above w begin has same = let above = (lawful.begins seat w session has).0 in omega (arith, lawful.opened, above, same)
+
+  lasts_above : (w : Work) (begin : ℕ) → Lasts w (u.session seat) → begin ≡ w.begin → 0 < begin
+  lasts_above w begin lasts same = has_above w begin (has_last f last seat w ends (lasts_own runs stay f seat w more u last run lasts)) same
+
+  over_above : (s : Snapshot) (begin : ℕ) → s ∈ p.snapshots → s.begin ≡ Some begin → 0 < begin
+  over_above s begin m is =
+      let found = ended_at seat p.over p.snapshots (u.session seat).over s tells.over m in
+      lasts_above found.0.work begin (lasting.over (found.0, found.1, refl)) (told_as s.begin begin found.0.work.begin is found.2.snapshot.begin_is)
+
+  now_above : (s : Snapshot) (begin : ℕ) → p.snapshot ≡ Some s → s.begin ≡ Some begin → 0 < begin
+  now_above s begin at is = from (u.session seat).stand refl (subst (λ (o : Option Snapshot). TellsWatched o (u.session seat).stand) at tells.watched)
+    where
+      from : (stand : Stand) → (u.session seat).stand ≡ stand → TellsWatched (Some s) stand → 0 < begin
+      from world.idle stood told = absurd told
+      from (world.active w) stood told = absurd told
+      from (world.sealed w stamp) stood told = absurd told
+      from (world.snapshot x) stood told =
+          lasts_above (world.begun x.number x.begin) begin (lasting.still x stood refl) (told_as s.begin begin x.begin is told.snapshot.begin_is)
+
+  pub begin_above : (s : Snapshot) (begin : ℕ) → s ∈ (p.snapshots ++ option_to_list p.snapshot) → s.begin ≡ Some begin → 0 < begin
+  begin_above s begin m is =
+      ⊎_elim (λ (over : s ∈ p.snapshots). over_above s begin over is) (λ (last : s ∈ option_to_list p.snapshot). now_above s begin (in_option p.snapshot s last) is)
+      (∈-either p.snapshots (option_to_list p.snapshot) s m)

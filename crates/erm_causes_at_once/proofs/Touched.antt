@@ -1,5 +1,5 @@
 -- The transactions of an execution at once touch objects of their lines' tables alone, and so what is told of them shows the causes of their ends.
-use Rattle.std.proofs.Common.{◌≡◌, ℕ, zero, suc, List, [], ◌∷◌, map, slice_get, Option, Some, None, inl, inr, ⊎_elim, refl, sym, ap, ◌∙◌, subst, arith}
+use Rattle.std.proofs.Common.{◌≡◌, ℕ, zero, suc, List, [], ◌∷◌, map, slice_get, Option, Some, None, inl, inr, ⊎_elim, refl, sym, ap, subst, arith}
 use Rattle.erm_model.specs.declared.history.TransactionRecord.{TransactionRecord}
 use Rattle.erm_model.specs.Member.{◌∈◌}
 use Rattle.erm_model.specs.Run.{Step}
@@ -28,6 +28,7 @@ use Rattle.erm_causes.proofs.Begun.{KeepBelow}
 use Rattle.erm_causes.proofs.Causes.{causes_of, commit_told}
 use Rattle.erm_causes.proofs.Beside.{ToldCommit}
 use Rattle.erm_causes.proofs.Coloured.{KeepsTables}
+use Rattle.erm_causes.proofs.Fine.{stampless}
 use Rattle.erm_causes.proofs.Own.{TreeLaws}
 use Rattle.erm_causes.proofs.Quiet.{closed_by_numbers}
 use Rattle.erm_causes.proofs.Runs.{lines_range}
@@ -47,7 +48,7 @@ over_keeps : (table : ℕ → ℕ) (f : View) (ts : List Transaction) (gs : List
     → KeepBelow table f g.work.begin → KeepsTables table g.work
 over_keeps table f ts gs g stamp free within is keep =
     ⊎_elim (λ (found : (t : Transaction) × (t ∈ ts) × FreeOne table f t g). found.2.keeps stamp is keep)
-    (λ (aborts : g.fate ≡ world.aborts). let no : None ≡ Some stamp = sym (ap stamp_of aborts) ∙ is in absurd (cc))
+    (λ (aborts : g.fate ≡ world.aborts). stampless g.fate stamp (KeepsTables table g.work) aborts is)
     (together_over (FreeOne table f) ts gs g free within)
 
 module _ (tree : TreeLaws) (laws : HistoryLaws) (begun : (number begin : ℕ) → IsRunOf (world.begun number begin) [])

@@ -1,7 +1,10 @@
-//! The causes that an execution at once shows, of answers to its lines. Each law is the contract of a function that does nothing.
+//! The causes that an execution at once shows, of answers to its lines, and what it owes of its snapshots that only read. Each law is the
+//! contract of a function that does nothing.
 #![tactic(auto)]
 
 ghost use Rattle.erm_causes_at_once.specs.Laws.{RunsAtOnceAreInReach, RunsAtOnceHaveCauses, RunsAtOnceRefuseForOthers, RunsAtOnceTellLog, RunsInPartAreInReach, RunsInPartHaveCauses, RunsInPartRefuseForOthers, RunsInPartTellLog};
+ghost use Rattle.erm_lines_at_once.specs.Laws.{RunsAtOnceAreSerialWithSnapshots, RunsAtOnceHaveSafeSnapshots};
+ghost use Rattle.erm_lines_at_once.specs.Parts.{RunsInPartAreSerialWithSnapshots, RunsInPartHaveSafeSnapshots};
 
 /// Of an execution that is told in part: each answer that needs no transaction has its cause, and no begin and no stamp is further on than
 /// the whole script's lines may have moved the log.
@@ -27,6 +30,21 @@ pub fn runs_in_part_have_causes()
     erm_tree::calls_stay_in_their_table();
     erm_maps::begun_transactions_are_runs();
     erm_maps::answers_stay();
+}
+
+/// Of an execution that is told in part: each snapshot begins where the log ended by the line that asks for it, as far as its session's lines tell;
+/// one that a line tells is safe is so among the commits told, and was replied to as on the state below its begin stamp; one that isn't names a
+/// commit that went back. Run in the serial order of all, the commits and the safe snapshots that ended give their replies, where there are
+/// no more sessions than may be.
+pub fn runs_in_part_have_safe_snapshots()
+    ensures safe { RunsInPartHaveSafeSnapshots }
+    ensures serial { RunsInPartAreSerialWithSnapshots }
+{
+    erm_core_ssn::serial_order_is_unique();
+    erm_maps::begun_transactions_are_runs();
+    erm_maps::answers_stay();
+    erm_told_order::told_worlds_have_safe_snapshots();
+    erm_told_order::told_worlds_are_serial_with_snapshots();
 }
 
 /// Each answer that needs no transaction has its cause. One that the log is at its end tells a place from which no transaction begins
@@ -61,4 +79,20 @@ pub fn runs_at_once_refuse_for_others()
     ensures { RunsAtOnceRefuseForOthers }
 {
     runs_in_part_have_causes();
+}
+
+/// Each snapshot begins where its session's lines let it, is safe where a line tells so, and was replied to as on the state below its begin stamp.
+/// None waits: one that isn't known to be safe names a commit that went back.
+pub fn runs_at_once_have_safe_snapshots()
+    ensures { RunsAtOnceHaveSafeSnapshots }
+{
+    runs_in_part_have_safe_snapshots();
+}
+
+/// Run in the serial order of all, the commits that the report tells and its safe snapshots that ended give their replies, from the opening's
+/// map on, where there are no more sessions than may be.
+pub fn runs_at_once_are_serial_with_snapshots()
+    ensures { RunsAtOnceAreSerialWithSnapshots }
+{
+    runs_in_part_have_safe_snapshots();
 }
