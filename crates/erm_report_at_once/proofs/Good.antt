@@ -18,14 +18,16 @@ use Rattle.erm_good_at_once.specs.Rising.{StampsRise}
 use Rattle.erm_lines.specs.Executions.{IsOpeningOf}
 use Rattle.erm_lines_at_once.specs.Executions.{IsRunAtOnce}
 use Rattle.erm_lines_at_once.specs.Laws.{RunsAtOnceAreSerialWithSnapshots, RunsAtOnceCloseSessions}
+use Rattle.erm_lines_at_once.specs.Parts.{RunsInPartTell}
 use Rattle.erm_told.proofs.Differing.{stamps_differ}
 use Rattle.erm_owes_at_once.specs.Laws.{RunsAtOnceOwe}
 use Rattle.erm_summary.specs.Summary.{SummariesAreGood, Summarizes}
 use Rattle.erm_report_at_once.proofs.Few.{next_few}
+use Rattle.erm_report_at_once.proofs.Logged.{logged}
 use Rattle.erm_tight_at_once.specs.Laws.{RunsAtOnceHaveTightWindows}
 use Rattle.erm_report_at_once.specs.Laws.{IsGoodOf, RunsAtOnceAreGood, RunsAtOnceReportWell}
 
-module _ (closes : RunsAtOnceCloseSessions) (serial : RunsAtOnceAreSerialWithSnapshots) (owe : RunsAtOnceOwe) (summaries : SummariesAreGood) (v f : View) (script : List ScriptLine) (answers : List Answer)
+module _ (tell : RunsInPartTell) (closes : RunsAtOnceCloseSessions) (serial : RunsAtOnceAreSerialWithSnapshots) (owe : RunsAtOnceOwe) (summaries : SummariesAreGood) (v f : View) (script : List ScriptLine) (answers : List Answer)
     (closed : List Closed) (run : IsRunAtOnce v script answers closed f) (opening : Opening) (of : IsOpeningOf v opening) (few : v.opening.sessions ≤ SESSIONS) (names : List (List ℕ))
     (many : v.opening.sessions ≡ length names) (lines : List Line) (sums : Summarizes opening names script answers closed lines) (fits : All FitsTypes lines) where
   abbrev said : List Said
@@ -46,7 +48,7 @@ module _ (closes : RunsAtOnceCloseSessions) (serial : RunsAtOnceAreSerialWithSna
   all_differ =
       serial_differs v.opening.sessions said (omega (arith, few))
       (λ session. let next = next_few (λ seat. phase_of seat (said_of script answers)) script answers closed close_agree.fits session in let short = run.few in omega (arith, next, short))
-      (stamps_differ told owes.0.stamps.differ) (logged v f script answers closed run)
+      (stamps_differ told owes.0.stamps.differ) (logged tell v f script answers closed run)
 
   good : (good : IsGoodReport AtOnce opening names script lines) × (good.report.answers ≡ answers) × (good.report.closed ≡ closed)
   good =
@@ -68,9 +70,9 @@ module _ (closes : RunsAtOnceCloseSessions) (serial : RunsAtOnceAreSerialWithSna
         (subst (λ (n : ℕ). StampsRise AtOnce (transactions_of n (places_of script answers closed)) (said_of script answers)) many owes.1));
   }
 
-pub report_well : RunsAtOnceCloseSessions → RunsAtOnceAreSerialWithSnapshots → RunsAtOnceOwe → SummariesAreGood → RunsAtOnceReportWell
-report_well closes serial owe summaries v f script opening names lines of many few was fits =
-    good_of closes serial owe summaries v f script was.answers was.closed was.run opening of (omega (arith, many, few)) names many lines was.told fits
+pub report_well : RunsInPartTell → RunsAtOnceCloseSessions → RunsAtOnceAreSerialWithSnapshots → RunsAtOnceOwe → SummariesAreGood → RunsAtOnceReportWell
+report_well tell closes serial owe summaries v f script opening names lines of many few was fits =
+    good_of tell closes serial owe summaries v f script was.answers was.closed was.run opening of (omega (arith, many, few)) names many lines was.told fits
 
 -- with its windows
 pub are_good : RunsAtOnceReportWell → RunsAtOnceHaveTightWindows → RunsAtOnceAreGood

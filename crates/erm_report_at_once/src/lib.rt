@@ -8,8 +8,9 @@ ghost use Rattle.erm_report_at_once.specs.Laws.{RunsAtOnceAreGood, RunsAtOnceRep
 pub fn runs_at_once_report_well()
     ensures { RunsAtOnceReportWell }
 {
+    erm_told_at_once::runs_in_part_are_told();
     erm_told_at_once::runs_at_once_close_sessions();
-    erm_told_at_once::runs_at_once_are_serial();
+    erm_causes_at_once::runs_at_once_are_serial_with_snapshots();
     erm_owes_at_once::runs_at_once_owe();
     erm_summary::summaries_are_good();
 }
