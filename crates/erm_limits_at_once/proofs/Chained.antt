@@ -42,9 +42,9 @@ use Rattle.erm_told_limits.proofs.Holds.{Laws}
 use Rattle.erm_told_limits.proofs.Limits.{claims_line}
 use Rattle.erm_told_limits.proofs.Lines.{begun_moved, done_moved, same_moved}
 use Rattle.erm_told_limits.proofs.Looks.{Looks, MayHaveRead, reads_line}
-use Rattle.erm_told_limits.proofs.Ran.{active_with}
 use Rattle.erm_told_limits.proofs.Moved.{Moved, mades_in, moved_nothing, moved_on, moved_out, moved_then, moved_within}
 use Rattle.erm_told_limits.proofs.Pigeons.{reads_grow}
+use Rattle.erm_told_limits.proofs.Ran.{active_with}
 use Rattle.erm_limits_at_once.proofs.Tried.{MayBe, operation_looks, operation_moved}
 
 -- A session without a transaction makes and claims nothing where it has a snapshot then, or where that is over.
