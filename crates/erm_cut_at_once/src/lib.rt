@@ -4,9 +4,11 @@
 
 ghost use Rattle.erm_cut_at_once.specs.Laws.{CutRunsCloseUnseen, CutRunsFillCells, CutRunsOwe, CutRunsReportWell};
 
-/// Phases and stamps agree, each transaction told was answered on its snapshot, the commits told give their replies where they run in the
-/// serial order, each commit, exclusion and refusal told has its cause, and what was met lies below what is begun later. A transaction that was aborted behind the last answers is told unfinished, and what a
-/// waiting line read for it, or the stamp that a waiting commit drew, is told by no line. Cells are full at the number that the world has.
+/// Phases and stamps agree, each transaction told was answered on its snapshot, the commits told and the safe snapshots that ended give their
+/// replies where they run in the serial order, each commit, exclusion and refusal told has its cause, what is owed of snapshots that only read
+/// is so, and what was met lies below what is begun later. A transaction that was aborted behind the last answers is told unfinished. What a
+/// waiting line read for it, the stamp that a waiting commit drew, a snapshot that a waiting line began, and that one was ended behind its
+/// session's last line, is told by no line. Cells are full at the number that the world has.
 pub fn cut_runs_owe()
     ensures owes { CutRunsOwe }
     ensures cells { CutRunsFillCells }

@@ -12,7 +12,6 @@ use Rattle.erm_good_report.proofs.Places.{none_untold}
 use Rattle.erm_lines.specs.Executions.{IsOpeningOf}
 use Rattle.erm_world.specs.World.{View}
 use Rattle.erm_good_at_once.specs.CutReports.{moment_in}
-use Rattle.erm_lines_at_once.specs.Executions.{IsRunAtOnce}
 use Rattle.erm_lines_at_once.specs.Parts.{IsRunInPart, RunsInPartAreSerialWithSnapshots, RunsInPartHavePhases, RunsInPartHaveSafeSnapshots, RunsInPartHaveSnapshots, RunsInPartHaveStamps, RunsInPartRise}
 use Rattle.erm_lines_at_once.proofs.Parts.{in_part}
 use Rattle.erm_causes_at_once.specs.Laws.{RefusesForOthersIn, RunsInPartAreInReach, RunsInPartHaveCauses, RunsInPartRefuseForOthers, RunsInPartTellLog}

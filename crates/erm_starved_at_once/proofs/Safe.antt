@@ -1,6 +1,6 @@
 -- The snapshots that the lines answered tell to be safe: each is so among the commits told, and its replies are those of the state below its begin stamp,
 -- as the world that is left tells them.
-use Rattle.std.proofs.Common.{◌≡◌, ◌≢◌, ◌⊎◌, ⊎_elim, ℕ, zero, suc, ◌<◌, ◌≤◌, ◌==◌, List, [], ◌∷◌, ◌++◌, map, fold, cond, Bool, Option, Some, None, IfSome, option_to_list, inl, inr, refl, sym, ap, ◌∙◌, subst, ne_eqb, arith}
+use Rattle.std.proofs.Common.{◌≡◌, ◌≢◌, ◌⊎◌, ⊎_elim, ℕ, zero, suc, ◌<◌, List, [], ◌∷◌, ◌++◌, map, fold, cond, Bool, Option, Some, IfSome, option_to_list, inl, inr, refl, sym, ap, ◌∙◌, subst, ne_eqb, arith}
 use Rattle.std.proofs.lemmas.Bool.{cases_lt}
 use Rattle.erm_model.specs.declared.outcome.Phase.TheVariants.{Idle}
 use Rattle.erm_model.specs.Committed.{Committed}
@@ -29,7 +29,7 @@ use Rattle.erm_told.proofs.Reported.{ended_at, in_option}
 use Rattle.erm_told.proofs.Runs.{said_lines}
 use Rattle.erm_told_at_once.proofs.Lasting.{lasts_own}
 use Rattle.erm_told_at_once.proofs.Runs.{close_of, first_known, knows_own, own_split}
-use Rattle.erm_told_order.specs.Told.{IsRepliedSafely, ToldHaveSafeSnapshots, told_in}
+use Rattle.erm_told_order.specs.Told.{IsRepliedSafely, ToldHaveSafeSnapshots}
 use Rattle.erm_causes_at_once.proofs.Safely.{kept_by}
 use Rattle.erm_told_limits.proofs.Holds.{Laws}
 use Rattle.erm_told_log_at_once.specs.Left.{LeavesWorld}
