@@ -1,8 +1,7 @@
 -- What an invariant that each commit keeps gives of a script whose sessions ran at once on a disk.
-use Rattle.std.specs.Prelude.{ℕ, List, Option, length}
+use Rattle.std.specs.Prelude.{ℕ, List, Option}
 use Rattle.std.specs.FinMap.{from_entries}
 use Rattle.erm_model.specs.Database.{Database, entries_of}
-use Rattle.erm_model.specs.Member.{◌∈◌}
 use Rattle.erm_ckpt.specs.Recovered.{State}
 use Rattle.erm_crash_invariant.specs.Crashes.{RecoversWith}
 use Rattle.erm_node.specs.TreeMap.{map_of_rows}
