@@ -56,6 +56,7 @@ nothing_owed opening whole told none = record {
   snapshots = λ t m. absurd (none_in_nil t (subst (λ (ts : List Transaction). t ∈ ts) none m));
   safe = λ session begin s m. absurd (none_in_nil s m);
   looks = λ session begin s m. absurd (none_in_nil s m);
+  waits = λ i l a at answered is. absurd (cc);
   refusals = λ i l a at answered own. absurd (cc);
   reads = λ i l at answered t own. absurd (cc);
 }

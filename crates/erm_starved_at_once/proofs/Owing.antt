@@ -96,8 +96,6 @@ module _ (v f : View) (script : List ScriptLine) (counts : ℕ → ℕ) (answers
 
   refused : (opening : Opening) (i : ℕ) (l : ScriptLine) (a : Answer) → slice_get part i ≡ Some l → slice_get answers i ≡ Some a → IsOwnRefusal a
       → HasCause (moment_in opening script part answers told i l) l.command a
-  refused opening i l (answer.WaitSeat seat seen) at answered own = absurd (never_waits f l (answer.WaitSeat seat seen) _ _ (there i l (answer.WaitSeat seat seen) at answered).1.did tt)
-  refused opening i l (answer.WaitRing flushed) at answered own = absurd (never_waits f l (answer.WaitRing flushed) _ _ (there i l (answer.WaitRing flushed) at answered).1.did tt)
   refused opening i l answer.WritesFull at answered own = record {
     own = λ t is. claims_full opening i l t at answered is;
     log = tt;
@@ -123,6 +121,7 @@ module _ (v f : View) (script : List ScriptLine) (counts : ℕ → ℕ) (answers
     snapshots = replied law opening of;
     safe = λ session begin s has is. (replied_safely v f script counts answers closed run laws runs stay safe opening of session begin s has is).safe;
     looks = λ session begin s has is. (replied_safely v f script counts answers closed run laws runs stay safe opening of session begin s has is).replies;
+    waits = λ i l a at answered waits. never_waits f l a _ _ (there i l a at answered).1.did waits;
     refusals = refused opening;
     reads = λ i l at answered t own. reads_full opening i l t at answered own;
   }
