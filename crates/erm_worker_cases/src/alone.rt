@@ -82,6 +82,7 @@ fn close_open<W: SafeWorld + Drop, O: Others, T: Turns, R: Wait>(
     requires others { OthersStand O.standing (W.view world) seat }
     requires open { phase_at (W.view world) seat ≡ Idle → ⊥ }
     ensures stands { W.stands result.0 }
+    ensures opening { (W.view result.0).opening ≡ (W.view world).opening }
 {
     let mut session = LoneSession::<W, O> {
         world,
@@ -103,6 +104,7 @@ fn close_beside<W: SafeWorld + Drop, O: Others, T: Turns, R: Wait>(
     requires session { IsSession (W.view world) seat }
     requires others { OthersStand O.standing (W.view world) seat }
     ensures stands { W.stands result.0 }
+    ensures opening { (W.view result.0).opening ≡ (W.view world).opening }
 {
     match world.phase(seat) {
         Phase::Idle => (world, None),
@@ -120,6 +122,7 @@ pub fn close<W: SafeWorld + Drop, T: Turns, R: Wait>(
     requires stands { W.stands world }
     requires session { IsSession (W.view world) seat }
     ensures stands { W.stands result.0 }
+    ensures opening { (W.view result.0).opening ≡ (W.view world).opening }
 {
     close_beside::<W, Brand, T, R>(rt, world, seat, turns)
 }

@@ -1,4 +1,4 @@
-use Rattle.std.proofs.Common.{◌≡◌, ◌<◌, ◌≤◌, List, sym, ◌∙◌, subst, arith}
+use Rattle.std.proofs.Common.{List, sym, ◌∙◌, subst}
 use Rattle.erm_script.specs.declared.script.ScriptLine.{ScriptLine}
 use Rattle.erm_worker_cases.specs.Lines.{AreOf}
 use Rattle.erm_worker_cases.proofs.tests.a_snapshot_waits_for_what_began_before.Goals as goal
