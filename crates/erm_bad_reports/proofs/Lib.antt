@@ -23,3 +23,4 @@ pub mod Reading
 pub mod Tests
 pub mod OfUntold
 pub mod OfWaiting
+pub mod OfWentBack

@@ -24,7 +24,7 @@ use Rattle.erm_bad_reports.proofs.Tests.{first_snapshot, high_ends, low_ends, no
 use Rattle.erm_good_report.specs.GoodReport.{IsGoodReport}
 use Rattle.erm_bad_reports.proofs.OfSnapshots.{OwesSafe, phases_by_line, safe_by_line}
 
-of_three : {X : Type 0} (R : X → X → Type 0) (a b c : X) → R a b → R a c → R b c → AllPairs R (a ∷ b ∷ c ∷ [])
+pub of_three : {X : Type 0} (R : X → X → Type 0) (a b c : X) → R a b → R a c → R b c → AllPairs R (a ∷ b ∷ c ∷ [])
 of_three R a b c first far last i (suc (suc (suc j))) d less within = absurd (omega (arith, within))
 of_three R a b c first far last i zero d less within = absurd (omega (arith, less))
 of_three R a b c first far last zero (suc zero) d less within = first

@@ -5,5 +5,6 @@ pub mod CutReports
 pub mod LogCases
 pub mod ReaderCases
 pub mod Refused
+pub mod SafeAtOnceCases
 pub mod SafeCases
 pub mod StampParts

@@ -1,15 +1,17 @@
 -- Small reports of snapshots that only read, each of which breaks one clause; and a good one.
-use Rattle.std.specs.Prelude.{ℕ, ◌^◌, List, [], ◌∷◌, Some, None, codes}
+use Rattle.std.specs.Prelude.{ℕ, ◌^◌, List, [], ◌∷◌, ◌++◌, Some, None, codes}
 use Rattle.erm_model.specs.Committed.{Committed}
 use Rattle.erm_model.specs.Database.{at}
 use Rattle.erm_model.specs.Run.{Step}
 use Rattle.erm_model.specs.declared.operation.Op.TheVariants as op
 use Rattle.erm_model.specs.declared.operation.Reply.TheVariants as reply
+use Rattle.erm_report.specs.declared.answer.Answer.{Answer}
 use Rattle.erm_report.specs.declared.answer.Answer.TheVariants as answer
 use Rattle.erm_script.specs.declared.script.Command.{Command}
 use Rattle.erm_script.specs.declared.script.Command.TheVariants as command
+use Rattle.erm_good_report.specs.Opening.{InTurn, Mode}
 use Rattle.erm_good_report.specs.Transactions.{rank_stamp}
-use Rattle.erm_bad_reports.specs.Cases.{a_line, b_line, case_of, commit_by, one_name, opening_at, two_names}
+use Rattle.erm_bad_reports.specs.Cases.{a_line, b_line, case_of, commit_by, of_log, one_name, opening_at, two_names}
 use Rattle.erm_bad_reports.specs.Clauses.{Case}
 
 abbrev pub three_names : List (List ℕ)
@@ -38,6 +40,11 @@ snapshots_turned = case_of two_names (a_line command.Safe ∷ b_line command.Saf
 -- a snapshot that ended has no line in the order
 abbrev pub snapshot_left_out : Case
 snapshot_left_out = case_of one_name (a_line command.Safe ∷ a_line command.Commit ∷ []) (answer.Safe 13 ∷ answer.Ended ∷ []) [] []
+
+-- ---- sessions closed
+-- a session has a safe snapshot at the end and is not closed
+abbrev pub safe_left_open : Case
+safe_left_open = case_of one_name (a_line command.Safe ∷ []) (answer.Safe 13 ∷ []) [] []
 
 -- ---- phases
 -- a safe snapshot's look at a table is refused
@@ -88,6 +95,42 @@ begin_moves = case_of three_names
     (b_line command.Begin ∷ a_line command.Begin ∷ a_line command.Commit ∷ c_line command.Safe ∷ b_line command.Commit ∷ c_line command.Safe ∷ c_line command.Abort ∷ [])
     (answer.Began 13 ∷ answer.Began 13 ∷ answer.Committed 13 13 0 ∷ answer.WaitSeat 2 13 ∷ answer.Committed 18 18 0 ∷ answer.Safe 23 ∷ answer.Aborted ∷ [])
     (commit_by 1 1 13 13 13 0 [] ∷ commit_by 2 1 13 18 18 0 [] ∷ []) []
+
+-- snapshots' begins fall
+abbrev pub safes_fall : Case
+safes_fall = case_of two_names (a_line command.Begin ∷ a_line command.Commit ∷ a_line command.Safe ∷ b_line command.Safe ∷ a_line command.Abort ∷ b_line command.Abort ∷ [])
+    (answer.Began 13 ∷ answer.Committed 13 13 0 ∷ answer.Safe 23 ∷ answer.Safe 18 ∷ answer.Aborted ∷ answer.Aborted ∷ []) (commit_by 1 1 13 13 13 0 [] ∷ []) []
+
+-- a checkpoint tells a place that is above the begin of the snapshot after it
+abbrev pub safe_below_the_flushed : Case
+safe_below_the_flushed = case_of one_name (of_log command.Checkpoint ∷ a_line command.Safe ∷ a_line command.Abort ∷ [])
+    (answer.Checkpointed 18 ∷ answer.Safe 13 ∷ answer.Aborted ∷ []) [] []
+
+-- ---- a commit that goes back
+-- The second session gets two keys that the first one put, and puts one of them; the first one puts the other one, and commits. So the second
+-- one's commit has its turn before that one, and a snapshot between their stamps has no place in the order. These lines of the third session,
+-- with these answers, are before that commit, and these behind it.
+abbrev pub goes_back : Mode → List (ℕ × Command) → List Answer → List (ℕ × Command) → List Answer → Case
+goes_back mode before answers_before behind answers_behind = record (case_of three_names
+    (a_line command.Begin ∷ a_line (command.Put 0 10 (1 ∷ [])) ∷ a_line (command.Put 0 20 (2 ∷ [])) ∷ a_line command.Commit
+    ∷ b_line command.Begin ∷ b_line (command.Get 0 10) ∷ b_line (command.Get 0 20) ∷ b_line (command.Put 0 10 (3 ∷ []))
+    ∷ a_line command.Begin ∷ a_line (command.Put 0 20 (4 ∷ [])) ∷ a_line command.Commit ∷ before ++ b_line command.Commit ∷ behind)
+    (answer.Began 13 ∷ answer.Replied reply.Done ∷ answer.Replied reply.Done ∷ answer.Committed 13 13 0
+    ∷ answer.Began 38 ∷ answer.Replied (reply.Value (Some (1 ∷ []))) ∷ answer.Replied (reply.Value (Some (2 ∷ []))) ∷ answer.Replied reply.Done
+    ∷ answer.Began 38 ∷ answer.Replied reply.Done ∷ answer.Committed 38 38 13 ∷ answers_before ++ answer.Committed 47 38 13 ∷ answers_behind)
+    (commit_by 1 1 13 13 13 0 (record { op = op.Put 0 10 (1 ∷ []); reply = reply.Done } ∷ record { op = op.Put 0 20 (2 ∷ []); reply = reply.Done } ∷ [])
+    ∷ commit_by 2 1 38 47 38 13 (record { op = op.Get 0 10; reply = reply.Value (Some (1 ∷ [])) } ∷ record { op = op.Get 0 20; reply = reply.Value (Some (2 ∷ [])) }
+    ∷ record { op = op.Put 0 10 (3 ∷ []); reply = reply.Done } ∷ [])
+    ∷ commit_by 1 2 38 38 38 13 (record { op = op.Put 0 20 (4 ∷ []); reply = reply.Done } ∷ []) ∷ [])
+    (record { key = at 0 10; value = 3 ∷ [] } ∷ record { key = at 0 20; value = 4 ∷ [] } ∷ [])) { mode = mode }
+
+-- a snapshot waits for it, and is told safe then
+abbrev pub safe_behind_one_that_went_back : Case
+safe_behind_one_that_went_back = goes_back InTurn (c_line command.Safe ∷ []) (answer.WaitSeat 2 38 ∷ []) (c_line command.Safe ∷ c_line command.Abort ∷ []) (answer.Safe 47 ∷ answer.Aborted ∷ [])
+
+-- two snapshots, one behind the other, aren't safe by it
+abbrev pub unsafe_again : Case
+unsafe_again = goes_back InTurn (c_line command.Safe ∷ []) (answer.WaitSeat 2 38 ∷ []) (c_line command.Safe ∷ c_line command.Safe ∷ []) (answer.Unsafe 2 47 ∷ answer.Unsafe 2 47 ∷ [])
 
 -- ---- a good one
 -- a snapshot waits for a transaction that began below; it is safe when that one has committed, finds nothing, and ends; its place is in front of that commit

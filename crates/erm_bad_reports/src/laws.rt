@@ -17,7 +17,7 @@ ghost use Rattle.erm_bad_reports.specs.LogCases.{checkpoint_beside_sealed, check
 ghost use Rattle.erm_bad_reports.specs.ReaderCases.{reader_excludes, reader_precedes, reader_waits};
 ghost use Rattle.erm_bad_reports.specs.Refused.{NoneTellsCells, alone, answers_alone, before_abort, answers_before_abort, before_settle, answers_before_settle, after_commit, answers_after_commit, newer_than_nothing, oids_beyond, reads_alone, refused_first};
 ghost use Rattle.erm_bad_reports.specs.StampParts.{BreaksPartAlone, Differ, Least, Begun, Sealed, Begins, Draws, Ascends, Flushes, FlushesFirst, BeginsAscend, Stops, UntoldAfter, UntoldBefore, stamp_below_begin, sealed_with_another, begun_at_a_commit, begun_at_a_newer, drawn_below, drawn_within, begun_below_the_flushed, drawn_below_the_flushed, stamp_of_two, begins_fall, begun_at_the_stop, begun_above_untold, begun_below_untold};
-ghost use Rattle.erm_bad_reports.specs.SafeCases.{begin_moves, look_refused, reply_of_now, safe_at_a_commit, safe_at_last, safe_at_the_stop, safe_out_of_reach, safe_too_early, snapshot_behind, snapshot_left_out, snapshots_turned, unsafe_by_no_turn, waits_for_idle};
+ghost use Rattle.erm_bad_reports.specs.SafeCases.{begin_moves, look_refused, reply_of_now, safe_at_a_commit, safe_at_last, safe_at_the_stop, safe_out_of_reach, safe_too_early, safe_behind_one_that_went_back, snapshot_behind, snapshot_left_out, snapshots_turned, unsafe_again, unsafe_by_no_turn, waits_for_idle};
 ghost use Rattle.std.specs.List.{AllByRecursion};
 
 /// Lines: a line is missing; a number doesn't fit its type; an answer is missing; a session that is active isn't closed; a get is answered
@@ -149,6 +149,8 @@ pub fn snapshots_are_needed()
     ensures stop { BreaksAlone Safe safe_at_the_stop }
     ensures commit { BreaksAlone Safe safe_at_a_commit }
     ensures moves { BreaksAlone Safe begin_moves }
+    ensures back { BreaksAlone Safe safe_behind_one_that_went_back }
+    ensures again { BreaksAlone Safe unsafe_again }
 {}
 
 /// The order of snapshots: one stands behind a commit that has its turn at its begin stamp; of two at one begin stamp that of the second session stands

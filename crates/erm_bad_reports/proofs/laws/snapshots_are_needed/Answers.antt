@@ -1,4 +1,5 @@
 use Rattle.erm_bad_reports.proofs.OfSnapshots.{at_commit_breaks, early_breaks, idle_breaks, look_breaks, moves_breaks, now_breaks, safe_far_breaks, safe_stop_breaks, turn_breaks}
+use Rattle.erm_bad_reports.proofs.OfWentBack.{again_breaks, back_breaks}
 use Rattle.erm_bad_reports.proofs.laws.snapshots_are_needed.Goals as goal
 
 pub returns-clause-looks : goal.returns-clause-looks
@@ -27,3 +28,9 @@ returns-clause-early c = early_breaks
 
 pub returns-clause-moves : goal.returns-clause-moves
 returns-clause-moves c = moves_breaks
+
+pub returns-clause-back : goal.returns-clause-back
+returns-clause-back c = back_breaks
+
+pub returns-clause-again : goal.returns-clause-again
+returns-clause-again c = again_breaks
