@@ -32,7 +32,7 @@ for script in "$examples"/*.erm; do
     count "$name, the gate's script" cmp "$script" "$data/example_$name.script"
     count "$name, the gate's report" cmp <(echo 0; cat "$examples/$name.out") "$data/example_$name.report"
 done
-for script in crash checkpoint stream threads; do
+for script in crash checkpoint stream threads audits; do
     "$examples/$script.sh" "$program" >"$folder/$script.out"
     count "$script" cmp "$folder/$script.out" "$examples/$script.out"
 done
