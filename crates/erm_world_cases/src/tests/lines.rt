@@ -3,7 +3,7 @@ ghost use Rattle.std.specs.Prelude.{◌≡◌, ◌<◌, ◌≤◌, IfOk, IfSome,
 ghost use Rattle.erm_model.specs.declared.limits.TheConstants.{TABLES};
 ghost use Rattle.erm_model.specs.RowTransaction.{SameLaw};
 ghost use Rattle.erm_node.specs.Sound.{sound_law};
-ghost use Rattle.erm_good_report.specs.Phases.{phase_asked};
+ghost use Rattle.erm_good_report.specs.Phases.{need_of};
 ghost use Rattle.erm_good_report.specs.Transactions.{table_of};
 ghost use Rattle.erm_lines.specs.Answers.{KeepsReceipt};
 ghost use Rattle.erm_world_cases.specs.Sessions.{AllRun};
@@ -13,11 +13,11 @@ use erm_lines::{answer_durable, answer_line, lines_keep_runs};
 use erm_model::{Receipt, Reply, Seat, Stamp, TABLES};
 use erm_report::Answer;
 use erm_script::{Command, ScriptLine};
-use erm_world::RowWorld;
+use erm_world::SafeWorld;
 use std::alloc::{AllocError, Global};
 
 // The answer to a line of a session, whose last commit has this receipt.
-fn kept_line<W: RowWorld>(
+fn kept_line<W: SafeWorld>(
     alloc: Global,
     world: &mut W,
     session: Seat,
@@ -30,7 +30,7 @@ fn kept_line<W: RowWorld>(
     requires sessions { (W.view world.old).opening.sessions ≡ 2 }
     requires low { 0 < session }
     requires high { session ≤ 2 }
-    requires asks { IsSome (phase_asked command) }
+    requires asks { IsSome (need_of command) }
     requires table { IfSome (table_of command) (λ table. table < TABLES) }
     ensures stands { W.stands world.new }
     ensures runs { OnOk result (AllRun (W.view world.new)) }
@@ -47,7 +47,7 @@ fn kept_line<W: RowWorld>(
 }
 
 // The answer to a line of a session.
-fn line<W: RowWorld>(
+fn line<W: SafeWorld>(
     alloc: Global,
     world: &mut W,
     session: Seat,
@@ -59,7 +59,7 @@ fn line<W: RowWorld>(
     requires sessions { (W.view world.old).opening.sessions ≡ 2 }
     requires low { 0 < session }
     requires high { session ≤ 2 }
-    requires asks { IsSome (phase_asked command) }
+    requires asks { IsSome (need_of command) }
     requires table { IfSome (table_of command) (λ table. table < TABLES) }
     ensures stands { W.stands world.new }
     ensures runs { OnOk result (AllRun (W.view world.new)) }
@@ -72,7 +72,7 @@ fn line<W: RowWorld>(
 // A line that puts a value of one byte for the key 5 of a table.
 fn put(table: u8, byte: u8) -> Command
     requires { table < TABLES }
-    ensures asks { IsSome (phase_asked result) }
+    ensures asks { IsSome (need_of result) }
     ensures table { IfSome (table_of result) (λ table. table < TABLES) }
 {
     Command::Put {
@@ -99,6 +99,7 @@ enum Asked {
     Settle,
     Commit,
     Abort,
+    Safe,
 }
 
 // What it is answered.
@@ -117,10 +118,18 @@ enum Told {
     // It committed, with this stamp.
     Committed(Stamp),
     Excluded,
+    // The snapshot is safe, at this stamp.
+    Safe(Stamp),
+    // It waits for the session of this seat.
+    Waits(Seat),
+    Ended,
+    Aborted,
     NotIdle,
     NoTransaction,
     IsSealed,
     NotSealed,
+    ReadOnly,
+    NotSafe,
     Other,
 }
 
@@ -144,17 +153,23 @@ fn told_by_answer(answer: Answer) -> Told {
         Answer::Sealed(stamp) => Told::Sealed(stamp),
         Answer::Committed { stamp, .. } => Told::Committed(stamp),
         Answer::Excluded { .. } => Told::Excluded,
+        Answer::Safe(stamp) => Told::Safe(stamp),
+        Answer::WaitSeat { seat, .. } => Told::Waits(seat),
+        Answer::Ended => Told::Ended,
+        Answer::Aborted => Told::Aborted,
         Answer::NotIdle => Told::NotIdle,
         Answer::NoTransaction => Told::NoTransaction,
         Answer::IsSealed => Told::IsSealed,
         Answer::NotSealed => Told::NotSealed,
+        Answer::ReadOnly => Told::ReadOnly,
+        Answer::NotSafe => Told::NotSafe,
         _ => Told::Other,
     }
 }
 
 // The command of a line that names a table, if there is that table.
 fn of_table(asked: Asked) -> Option<Command>
-    ensures asks { IfSome result (λ command. IsSome (phase_asked command)) }
+    ensures asks { IfSome result (λ command. IsSome (need_of command)) }
     ensures table { IfSome result (λ command. IfSome (table_of command) (λ table. table < TABLES)) }
 {
     let key = 5;
@@ -175,7 +190,7 @@ fn of_table(asked: Asked) -> Option<Command>
 
 // The command of a line, if there is the table that it names.
 fn command_of(asked: Asked) -> Option<Command>
-    ensures asks { IfSome result (λ command. IsSome (phase_asked command)) }
+    ensures asks { IfSome result (λ command. IsSome (need_of command)) }
     ensures table { IfSome result (λ command. IfSome (table_of command) (λ table. table < TABLES)) }
 {
     match asked {
@@ -184,12 +199,13 @@ fn command_of(asked: Asked) -> Option<Command>
         Asked::Settle => Some(Command::Settle),
         Asked::Commit => Some(Command::Commit),
         Asked::Abort => Some(Command::Abort),
+        Asked::Safe => Some(Command::Safe),
         _ => of_table(asked),
     }
 }
 
 // What a line of the first or the second session is answered.
-fn ask<W: RowWorld>(
+fn ask<W: SafeWorld>(
     alloc: Global,
     world: &mut W,
     session: Seat,
@@ -216,7 +232,7 @@ fn ask<W: RowWorld>(
 type Exchange = (Seat, Asked, Told);
 
 // The place of the first line that is answered otherwise.
-fn first_other<W: RowWorld>(
+fn first_other<W: SafeWorld>(
     alloc: Global,
     world: &mut W,
     lines: &[Exchange],
@@ -279,6 +295,35 @@ fn keys_are_found_by_lines(rt: HostRuntime) -> Result<(), AllocError> {
     Ok(())
 }
 
+const SNAPSHOTS: [Exchange; 16] = [
+    (1, Asked::Begin, Told::Began(13)),
+    (1, Asked::Put(0, 7), Told::Done),
+    // Nothing had begun before it.
+    (2, Asked::Safe, Told::Safe(13)),
+    (1, Asked::Commit, Told::Committed(13)),
+    // As it was.
+    (2, Asked::Get(0), Told::NoValue),
+    (2, Asked::Put(0, 8), Told::ReadOnly),
+    (2, Asked::Commit, Told::Ended),
+    (1, Asked::Begin, Told::Began(33)),
+    (1, Asked::Put(1, 8), Told::Done),
+    (1, Asked::Seal, Told::Sealed(33)),
+    (2, Asked::Safe, Told::Waits(1)),
+    (2, Asked::Get(1), Told::NotSafe),
+    (1, Asked::Settle, Told::Committed(33)),
+    (2, Asked::Safe, Told::Safe(53)),
+    (2, Asked::Scan(1), Told::Pairs(1)),
+    (2, Asked::Abort, Told::Aborted),
+];
+
+// A snapshot that only reads sees what was committed when it began, and waits for a session that is sealed below it.
+#[test]
+fn snapshots_by_lines(rt: HostRuntime) -> Result<(), AllocError> {
+    let mut world = world(&rt, rt.alloc(), 16)?;
+    assert_eq!(rt; first_other(rt.alloc(), &mut world, &SNAPSHOTS)?, None);
+    Ok(())
+}
+
 // A session that has committed nothing has no receipt.
 #[test]
 fn no_commit_is_durable(rt: HostRuntime) -> Result<(), AllocError> {
@@ -288,7 +333,7 @@ fn no_commit_is_durable(rt: HostRuntime) -> Result<(), AllocError> {
 }
 
 // The first session puts a key and commits. The answer is its receipt, if it commits.
-fn commit<W: RowWorld>(alloc: Global, world: &mut W) -> Result<Option<Receipt>, AllocError>
+fn commit<W: SafeWorld>(alloc: Global, world: &mut W) -> Result<Option<Receipt>, AllocError>
     requires law { SameLaw W.law sound_law }
     requires stands { W.stands world.old }
     requires runs { AllRun (W.view world.old) }
