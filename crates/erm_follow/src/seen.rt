@@ -1,5 +1,6 @@
 //! What a follower is given, and why it stops.
 use erm_model::{Commit, Stamp};
+use thiserror::Error;
 
 /// An item of a log, as far as the serial order is concerned.
 #[derive(Clone, Copy)]
@@ -11,7 +12,8 @@ pub enum Seen {
 }
 
 /// A safe stamp that a commit breaks.
-#[derive(Clone, Copy)]
+#[derive(Clone, Copy, Debug, Error)]
+#[error("the commit at {stamp} has the successor stamp {succ}, below the safe stamp {safe}")]
 pub struct Broken {
     /// The safe stamp.
     pub safe: Stamp,
@@ -22,10 +24,12 @@ pub struct Broken {
 }
 
 /// Why nothing is told.
-#[derive(Clone, Copy)]
+#[derive(Clone, Copy, Debug, Error)]
 pub enum FollowStop {
     /// A commit breaks the greatest safe stamp so far: the one with the least stamp of those that do.
+    #[error("{0}")]
     BrokenMark(Broken),
     /// Memory ran out; the follower is as it was.
+    #[error("memory ran out")]
     Memory,
 }

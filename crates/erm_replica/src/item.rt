@@ -2,6 +2,7 @@
 use erm_block::Block;
 use erm_ckpt::Slot;
 use erm_model::Stamp;
+use thiserror::Error;
 
 /// What is read of a stream.
 #[derive(Drop)]
@@ -22,14 +23,16 @@ pub struct LogPlace {
 }
 
 /// Why nothing is answered.
-#[derive(Clone, Copy, Debug, PartialEq, Eq)]
+#[derive(Clone, Copy, Debug, PartialEq, Eq, Error)]
 pub enum StreamStop {
     /// The next item isn't there yet.
+    #[error("of the next item only {bytes} bytes are there")]
     NotYet {
         /// How many bytes of it are there.
         bytes: usize,
     },
     /// What stands there is no item, whatever follows.
+    #[error("no item stands at word {place} of the stream")]
     Bad {
         /// Its place, in words from the stream's begin.
         place: u64,
