@@ -1,11 +1,8 @@
 -- A history with one commit more, whose stamp is the greatest.
-use Rattle.std.proofs.Common.{◌≡◌, ℕ, ◌<◌, ◌≤◌, ◌⊎◌, List, [], ◌∷◌, ◌++◌, inl, inr, refl, sym, ap, ◌∙◌, subst, arith}
-use Rattle.std.specs.List.{slice_get}
-use Rattle.std.proofs.Common.{Some}
+use Rattle.std.proofs.Common.{◌≡◌, ℕ, ◌<◌, ◌≤◌, ◌⊎◌, List, [], ◌∷◌, ◌++◌, inl, inr, sym, ap, ◌∙◌, arith}
 use Rattle.erm_model.specs.declared.history.TransactionRecord.{TransactionRecord}
-use Rattle.erm_model.specs.declared.history.VersionRead.{VersionRead}
 use Rattle.erm_model.specs.declared.history.VersionWritten.{VersionWritten}
-use Rattle.erm_model.specs.History.{CountsForPred, History, IsNewestBelow, IsPredecessorStamp, IsVersion, Makes, OverwritesReadOf, OverwritesNewest, ReadsSnapshot, rank_of}
+use Rattle.erm_model.specs.History.{CountsForPred, History, IsNewestBelow, IsPredecessorStamp, IsVersion, OverwritesReadOf, OverwritesNewest, ReadsSnapshot, rank_of}
 use Rattle.erm_model.specs.Member.{◌∈◌}
 use Rattle.erm_model.specs.Rows.{Rows}
 use Rattle.erm_model.specs.SerialOrder.{StampsDiffer}

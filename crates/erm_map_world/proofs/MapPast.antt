@@ -1,17 +1,16 @@
 -- The transactions that are over, with one more.
-use Rattle.std.proofs.Common.{◌≡◌, ℕ, zero, suc, ◌+◌, ◌<◌, ◌≤◌, ◌⊎◌, List, [], ◌∷◌, ◌++◌, length, sum_by, Option, Some, None, inl, inr, refl, sym, ap, ◌∙◌, subst, arith}
+use Rattle.std.proofs.Common.{◌≡◌, ℕ, ◌+◌, ◌<◌, ◌≤◌, List, [], ◌∷◌, ◌++◌, length, Some, None, inl, inr, refl, sym, ap, ◌∙◌, subst, arith}
 use Rattle.std.specs.List.{slice_get}
 use Rattle.std.proofs.lemmas.List.Sums.{sum_by_push}
 use Rattle.erm_model.specs.declared.history.TransactionRecord.{TransactionRecord}
 use Rattle.erm_model.specs.declared.history.VersionRead.{VersionRead}
-use Rattle.erm_model.specs.declared.history.VersionWritten.{VersionWritten}
-use Rattle.erm_model.specs.History.{CountsForPred, History, IsNewestBelow, IsPredecessorStamp, ReadsSnapshot, after_writes}
+use Rattle.erm_model.specs.History.{History, IsNewestBelow, IsPredecessorStamp, ReadsSnapshot}
 use Rattle.erm_model.specs.Lawful.{times_made}
 use Rattle.erm_model.specs.Member.{◌∈◌}
 use Rattle.erm_model.specs.RowTransaction.{Law}
 use Rattle.erm_model.specs.Rows.{Rows}
-use Rattle.erm_model.proofs.Members.{∈-push, none_in_nil, slice_get-push}
-use Rattle.erm_map_world.specs.MapWorks.{commit_with, finished, newest, newest_after, rows_now}
+use Rattle.erm_model.proofs.Members.{∈-push, slice_get-push}
+use Rattle.erm_map_world.specs.MapWorks.{commit_with, finished, rows_now}
 use Rattle.erm_map_world.specs.MapWorld.{AreOver, IsCommitBelow, IsPast, Saw}
 use Rattle.erm_map_world.proofs.Histories.{differ_push, newest_kept, pred_kept, snapshot_kept}
 use Rattle.erm_map_world.proofs.Versions.{newest_grown, newest_push, rows_aborted, rows_committed}

@@ -1,5 +1,5 @@
 -- The transactions of a world of one session, and the newest versions that they leave.
-use Rattle.std.specs.Prelude.{◌≡◌, ℕ, ◌⊎◌, if◌then◌else◌, List, [], ◌∷◌, map, Option, Some, None}
+use Rattle.std.specs.Prelude.{ℕ, ◌⊎◌, if◌then◌else◌, List, [], ◌∷◌, Option, Some, None}
 use Rattle.erm_model.specs.declared.history.TransactionRecord.{TransactionRecord}
 use Rattle.erm_model.specs.declared.history.VersionRead.{VersionRead}
 use Rattle.erm_model.specs.declared.history.VersionWritten.{VersionWritten}

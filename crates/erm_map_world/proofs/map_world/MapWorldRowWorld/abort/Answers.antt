@@ -1,7 +1,5 @@
-use Rattle.std.proofs.Common.{[], ◌∷◌, ◌++◌, map, None, refl, sym, ap, ◌∙◌}
+use Rattle.std.proofs.Common.{[], ◌∷◌, ◌++◌, map, None, sym, ap, ◌∙◌}
 use Rattle.std.proofs.lemmas.List.{map-append}
-use Rattle.erm_map_world.specs.declared.map_world.MapWorld.{MapWorld}
-use Rattle.erm_map_world.specs.declared.works.MapDone.{MapDone}
 use Rattle.erm_map_world.specs.declared.works.MapWork.{MapWork}
 use Rattle.erm_map_world.specs.MapWorks.{done_of, work_in}
 use Rattle.erm_map_world.specs.Standing.{map_of}

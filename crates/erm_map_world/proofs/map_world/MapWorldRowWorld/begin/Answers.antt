@@ -1,4 +1,4 @@
-use Rattle.std.proofs.Common.{◌+◌, map, refl, ap}
+use Rattle.std.proofs.Common.{◌+◌, map, ap}
 use Rattle.erm_map_world.specs.MapWorks.{done_of, work_in}
 use Rattle.erm_map_world.specs.Standing.{map_of}
 use Rattle.erm_map_world.proofs.MapClauses.{begin_stands}

@@ -1,7 +1,7 @@
-use Rattle.std.proofs.Common.{◌<◌, List, [], ◌∷◌, ◌++◌, map, length, false, sym, ap, ◌∙◌, arith}
+use Rattle.std.proofs.Common.{List, [], ◌∷◌, ◌++◌, false, sym, ap, ◌∙◌, arith}
 use Rattle.erm_model.specs.declared.history.VersionRead.{VersionRead}
 use Rattle.erm_model.specs.declared.history.VersionWritten.{VersionWritten}
-use Rattle.erm_map_world.specs.MapWorks.{newest, work_in}
+use Rattle.erm_map_world.specs.MapWorks.{work_in}
 use Rattle.erm_map_world.specs.Standing.{map_of}
 use Rattle.erm_map_world.proofs.MapClauses.{claim_now, claim_stands}
 use Rattle.erm_map_world.proofs.MapRows.{newest_in, pushed, unclaimed_in}

@@ -1,11 +1,10 @@
-use Rattle.std.proofs.Common.{ℕ, List, map, refl, sym, ap, ◌∙◌, arith}
+use Rattle.std.proofs.Common.{ℕ, List, refl, sym, ap, ◌∙◌, arith}
 use Rattle.erm_map_world.specs.MapWorks.{work_in}
 use Rattle.erm_map_world.specs.Standing.{map_of}
 use Rattle.erm_map_world.proofs.MapClauses.{make_stands}
 use Rattle.erm_map_world.proofs.MapLaws.{map_all_made}
 use Rattle.erm_map_world.proofs.MapRows.{pushed}
 use Rattle.erm_map_world.proofs.map_world.MapWorldRowWorld.fresh.Goals as goal
-use Rattle.erm_world.specs.World.{Work}
 
 pub returns-clause-stands : goal.returns-clause-stands
 returns-clause-stands g c =

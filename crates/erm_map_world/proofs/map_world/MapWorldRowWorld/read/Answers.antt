@@ -1,6 +1,6 @@
-use Rattle.std.proofs.Common.{◌<◌, List, [], ◌∷◌, ◌++◌, map, length, sym, ap, ◌∙◌, arith, subst}
+use Rattle.std.proofs.Common.{List, [], ◌∷◌, ◌++◌, sym, ap, ◌∙◌, arith}
 use Rattle.erm_model.specs.declared.history.VersionRead.{VersionRead}
-use Rattle.erm_map_world.specs.MapWorks.{newest, work_in}
+use Rattle.erm_map_world.specs.MapWorks.{work_in}
 use Rattle.erm_map_world.specs.Standing.{map_of}
 use Rattle.erm_map_world.proofs.MapClauses.{read_first, read_stands}
 use Rattle.erm_map_world.proofs.MapRows.{found_in, newest_in, pushed, read_in}

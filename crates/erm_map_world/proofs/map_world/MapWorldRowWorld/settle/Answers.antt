@@ -1,4 +1,4 @@
-use Rattle.std.proofs.Common.{[], ◌∷◌, ◌++◌, map, Some, refl, sym, ap, ◌∙◌, subst, ℕ, List}
+use Rattle.std.proofs.Common.{[], ◌∷◌, ◌++◌, map, Some, sym, ap, ◌∙◌, subst, List}
 use Rattle.std.proofs.lemmas.List.{map-append}
 use Rattle.erm_model.specs.History.{IsPredecessorStamp}
 use Rattle.erm_map_world.specs.declared.works.MapDone.{MapDone}
