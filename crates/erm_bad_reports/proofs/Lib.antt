@@ -24,3 +24,5 @@ pub mod Tests
 pub mod OfUntold
 pub mod OfWaiting
 pub mod OfWentBack
+pub mod OfSafeAtOnce
+pub mod OfWatched

@@ -38,7 +38,7 @@ above_log : (stamp : ℕ) → nat_lt stamp LOG_END ≡ false → LOG_END ≤ sta
 above_log stamp above = grind (arith, nat_tests)
 
 -- a snapshot that is told safe at 13, and looks at nothing
-owes_at : (commits : List Committed) → AllByRecursion (λ c. (13 ≡ c.stamp) × (13 ≡ c.succ)) commits → (begin : ℕ) → Some 13 ≡ Some begin
+pub owes_at : (commits : List Committed) → AllByRecursion (λ c. (13 ≡ c.stamp) × (13 ≡ c.succ)) commits → (begin : ℕ) → Some 13 ≡ Some begin
     → ((c : Committed) → c ∈ commits → begin ≤ c.stamp → begin ≤ c.succ) × HasSnapshotReplies commits empty begin []
 owes_at commits at_13 begin is =
     let same : 13 ≡ begin = cc in (

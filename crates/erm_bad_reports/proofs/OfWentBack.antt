@@ -1,5 +1,5 @@
 -- A snapshot whose commit's turn is before another one's, told safe behind it; and two that aren't safe by one commit.
-use Rattle.std.proofs.Common.{◌≡◌, ◌≢◌, ℕ, ◌<◌, ◌≤◌, ◌==◌, ◌&&◌, Bool, true, false, cond, List, [], ◌∷◌, Option, Some, None, refl, sym, ap, ◌∙◌, inl, inr, subst, arith}
+use Rattle.std.proofs.Common.{◌≡◌, ◌≢◌, ℕ, ◌<◌, ◌≤◌, ◌==◌, ◌&&◌, Bool, true, false, cond, List, [], ◌∷◌, Option, Some, refl, sym, ap, ◌∙◌, inl, inr, subst, arith}
 use Rattle.std.specs.FinMap.{empty, insert}
 use Rattle.std.specs.List.{AllByRecursion}
 use Rattle.std.specs.Prelude.{◌⊎◌, IfSome}
@@ -16,7 +16,7 @@ use Rattle.erm_report.specs.Printable.{FitsTypes}
 use Rattle.erm_good_report.specs.Causes.{HasCauseOf}
 use Rattle.erm_script.specs.declared.script.Command.TheVariants as command
 use Rattle.erm_good_report.specs.Refusals.{Moment, WasOver, moment_at}
-use Rattle.erm_good_report.specs.Stamps.{StampsAgree, Told}
+use Rattle.erm_good_report.specs.Stamps.{Told}
 use Rattle.erm_good_report.specs.Transactions.{Commits, Transaction, history_of, said_of, stamp_of, stamp_of_ending, steps_of}
 use Rattle.erm_good_report.specs.Windows.{IsCommit}
 use Rattle.erm_good_report.proofs.Decided.{AreOverBelow, own_window, window_over}

@@ -8,7 +8,9 @@ use Rattle.erm_report.specs.declared.line.Line.{Line}
 use Rattle.erm_report.specs.declared.line.Line.TheVariants as line
 use Rattle.erm_script.specs.declared.script.ScriptLine.{ScriptLine}
 use Rattle.erm_good_report.specs.GoodReport.{IsGoodReport, OrderAgrees, OwesToAnswers, Report, answer_lines, close_line, line_in_order, order_line, places_of, report_lines, serial_of}
-use Rattle.erm_good_report.specs.Opening.{Opening}
+use Rattle.erm_good_at_once.specs.GoodAtOnce.{IsGoodAtOnce}
+use Rattle.erm_good_at_once.specs.Rising.{StampsRise}
+use Rattle.erm_good_report.specs.Opening.{AtOnce, Opening}
 use Rattle.erm_good_report.specs.Phases.{Closed, ClosesAgree}
 use Rattle.erm_good_report.specs.Transactions.{Transaction, said_of, transactions_of}
 use Rattle.erm_good_report.proofs.Determining.{after_answers, report_lines_by_parts}
@@ -130,3 +132,15 @@ told_read k each none good P is =
     let same = parts_read k.opening k.names k.script k.report r good.lines_ok each good.each none in
     let closed = same.closed ∙ sym none in
     subst (λ (parts : List Answer × List Closed). P (transactions_of (length k.names) (places_of k.script parts.0 parts.1))) (λ i. (sym same.answers i, closed i)) is
+
+-- what a good report at once owes beside, it owes to the case's own answers
+abbrev pub Rises : Case → List Answer × List Closed → Type 0
+Rises k parts = StampsRise AtOnce (transactions_of (length k.names) (places_of k.script parts.0 parts.1)) (said_of k.script parts.0)
+
+pub rise_of : (k : Case) → length k.report.answers ≡ length k.script → k.report.closed ≡ [] → IsGoodAtOnce k.opening k.names k.script (lines_of k) → Rises k (k.report.answers, k.report.closed)
+rise_of k each none whole =
+    let r = whole.good.report in
+    let same = parts_read k.opening k.names k.script k.report r whole.good.lines_ok each whole.good.each none in
+    let rise : Rises k (r.answers, r.closed) = whole.rise in
+    let closed = same.closed ∙ sym none in
+    subst (Rises k) (λ i. (sym same.answers i, closed i)) rise

@@ -18,6 +18,7 @@ ghost use Rattle.erm_bad_reports.specs.ReaderCases.{reader_excludes, reader_prec
 ghost use Rattle.erm_bad_reports.specs.Refused.{NoneTellsCells, alone, answers_alone, before_abort, answers_before_abort, before_settle, answers_before_settle, after_commit, answers_after_commit, newer_than_nothing, oids_beyond, reads_alone, refused_first};
 ghost use Rattle.erm_bad_reports.specs.StampParts.{BreaksPartAlone, Differ, Least, Begun, Sealed, Begins, Draws, Ascends, Flushes, FlushesFirst, BeginsAscend, Stops, UntoldAfter, UntoldBefore, stamp_below_begin, sealed_with_another, begun_at_a_commit, begun_at_a_newer, drawn_below, drawn_within, begun_below_the_flushed, drawn_below_the_flushed, stamp_of_two, begins_fall, begun_at_the_stop, begun_above_untold, begun_below_untold};
 ghost use Rattle.erm_bad_reports.specs.SafeCases.{begin_moves, look_refused, reply_of_now, safe_at_a_commit, safe_at_last, safe_at_the_stop, safe_out_of_reach, safe_too_early, safe_behind_one_that_went_back, snapshot_behind, snapshot_left_out, snapshots_turned, unsafe_again, unsafe_by_no_turn, waits_for_idle};
+ghost use Rattle.erm_bad_reports.specs.SafeAtOnceCases.{BreaksRiseAlone, Watched, safe_at_one_met, safe_below_its_owner, safe_beside_one_that_went_back, waits_at_once};
 ghost use Rattle.std.specs.List.{AllByRecursion};
 
 /// Lines: a line is missing; a number doesn't fit its type; an answer is missing; a session that is active isn't closed; a get is answered
@@ -151,6 +152,16 @@ pub fn snapshots_are_needed()
     ensures moves { BreaksAlone Safe begin_moves }
     ensures back { BreaksAlone Safe safe_behind_one_that_went_back }
     ensures again { BreaksAlone Safe unsafe_again }
+{}
+
+/// Snapshots of sessions that run at once: a `safe` is answered by a wait; one is told safe at the stamp of a commit whose turn is before. And of what is
+/// owed beside a good report: a snapshot is told safe at the stamp of a commit that had closed its session's window; and below the begin of a transaction
+/// that an earlier line of its session names.
+pub fn snapshots_at_once_are_needed()
+    ensures waits { BreaksAlone Safe waits_at_once }
+    ensures back { BreaksAlone Safe safe_beside_one_that_went_back }
+    ensures met { BreaksRiseAlone Watched safe_at_one_met }
+    ensures named { BreaksRiseAlone Watched safe_below_its_owner }
 {}
 
 /// The order of snapshots: one stands behind a commit that has its turn at its begin stamp; of two at one begin stamp that of the second session stands
