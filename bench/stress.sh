@@ -4,9 +4,11 @@
 #   bench/stress.sh [PROGRAM [COUNT]]     PROGRAM is the launcher at the top, and COUNT, of scripts, is 100, unless others are given
 #   TRANSACTIONS=N bench/stress.sh ..     a script has N transactions in place of 100,000
 #   SESSIONS=N bench/stress.sh ..         a script has N sessions, from 1 to 48, in place of 48
+#   FIRST=N bench/stress.sh ..            the first script's number is N in place of 1, so that several calls side by side try scripts of their own
 # The keys are sixteen of each of four tables. A transaction gets, scans, sets and deletes a few, tidies now and then, and ends by a commit, by a
-# seal and a settle, or by an abort; behind some commits its session waits until they last. A run before each script, line by line, sets all keys, so
-# that the rows written are those of keys, and no put of a new key that is refused leaves an object used up.
+# seal and a settle, or by an abort; behind some commits its session waits until they last. One in fifty is a snapshot that only reads, which gets and scans
+# some keys. A run before each script, line by line, sets all keys, so that the rows written are those of keys, and no put of a new key that is refused leaves
+# an object used up.
 # It prints a row for each script: how its transactions ended, seconds and peak memory of the call, and what the checks say. The folder of one whose
 # report or log isn't good, or whose disk then recovers to another map, is kept and named; then the status is 1. It needs python3.
 set -eu
@@ -17,7 +19,7 @@ command -v python3 >/dev/null || { echo "there is no python3: nothing is tried" 
 
 # The program is built before anything is tried: without words it does nothing else.
 "$program" </dev/null >/dev/null || [ $? = 2 ] || { echo "$program can't be run: nothing is tried" >&2; exit 1; }
-exec python3 - "$program" "$top/tools" "$count" "${TRANSACTIONS:-100000}" "${SESSIONS:-48}" <<'PYTHON'
+exec python3 - "$program" "$top/tools" "$count" "${TRANSACTIONS:-100000}" "${SESSIONS:-48}" "${FIRST:-1}" <<'PYTHON'
 import collections
 import os
 import random
@@ -28,10 +30,10 @@ import tempfile
 import time
 
 PROGRAM, TOOLS = sys.argv[1:3]
-COUNT, TRANSACTIONS, SESSIONS = map(int, sys.argv[3:])
+COUNT, TRANSACTIONS, SESSIONS, FIRST = map(int, sys.argv[3:])
 LIMIT = 16_777_216
 KEYS = [(table, key) for table in range(4) for key in range(16)]
-ENDS = "committed", "excluded", "owned", "newer", "aborted"
+ENDS = "committed", "excluded", "owned", "newer", "aborted", "ended", "unsafe"
 
 
 def digits(pick):
@@ -47,8 +49,17 @@ def operation(pick):
     return f"scan {table} {key} {key + 4}" if kind == "scan" else f"{kind} {table} {key}"
 
 
+def look(pick):
+    """A line that reads one of the keys, or the keys of a table."""
+    table, key = pick.choice(KEYS)
+    return pick.choice((f"get {table} {key}", f"next {table} {key}", f"scan {table} 0 15"))
+
+
 def transaction(pick):
-    """The lines of a transaction, and of the wait behind some."""
+    """The lines of a transaction, and of the wait behind some; or of a snapshot that only reads."""
+    if pick.random() < 0.02:
+        yield from ("safe", *(look(pick) for _ in range(pick.randint(1, 6))), "commit")
+        return
     yield "begin"
     for _ in range(pick.randint(1, 4)):
         yield operation(pick)
@@ -119,7 +130,7 @@ def tried(seed):
 
 print(f"{'script':>6}", *(f"{end:>9}" for end in ENDS), f"{'seconds':>9} {'MiB':>9} {'status':>7}  check")
 bad = 0
-for seed in range(1, COUNT + 1):
+for seed in range(FIRST, FIRST + COUNT):
     folder = tempfile.mkdtemp()
     os.chdir(folder)
     good = tried(seed)
