@@ -29,7 +29,7 @@ above_none m bound none unsealed stamp (session, t, inl (within, is)) = absurd (
     nothing_in u (k, at) = cc
 above_none m bound none unsealed stamp (session, t, inr (current, sealed, told)) = absurd (unsealed session sealed)
 
-checkpointed : (m : Moment) (bound : ℕ) → flushed_at m ≤ bound → ((session : ℕ) → (progress_of session m.before).over ≡ []) → ((session : ℕ) → phase_of session m.before ≢ Sealed)
+pub checkpointed : (m : Moment) (bound : ℕ) → flushed_at m ≤ bound → ((session : ℕ) → (progress_of session m.before).over ≡ []) → ((session : ℕ) → phase_of session m.before ≢ Sealed)
     → HasCause m command.Checkpoint (answer.Checkpointed bound)
 checkpointed m bound high none unsealed = record { own = λ t is. tt; log = (high, unsealed, above_none m bound none unsealed); unfilled = tt }
 
@@ -37,7 +37,7 @@ either_open : (b : Bool) → cond b Active Idle ≢ Sealed
 either_open true is = cc is
 either_open false is = cc is
 
-idle_open : Idle ≢ Sealed
+pub idle_open : Idle ≢ Sealed
 idle_open is = cc is
 
 -- ---- a begin below the place flushed

@@ -19,8 +19,8 @@ use Rattle.erm_good_report.specs.Refusals.{HasCause, moment_at}
 use Rattle.erm_good_report.specs.Snapshots.{SnapshotsAgree}
 use Rattle.erm_good_report.specs.Stamps.{StampsAgree}
 use Rattle.erm_good_report.specs.Transactions.{Transaction, history_of, said_of, steps_of, transactions_of}
-use Rattle.erm_bad_reports.specs.Cases.{a_line, asked_from, b_line, of_log, one_name, opening_at}
-use Rattle.erm_bad_reports.specs.Clauses.{Case, Causes, Meets, Phases, Refusals, Safe, Snapshots}
+use Rattle.erm_bad_reports.specs.Cases.{a_line, asked_from, b_line, of_log, one_name, opening_at, two_names}
+use Rattle.erm_bad_reports.specs.Clauses.{Case, Causes, Meets, Phases, Refusals, Safe, Snapshots, Stamps}
 use Rattle.erm_bad_reports.specs.StampParts.{MeetsPart, Part, c_line, three_names}
 
 -- a script that was run in turn until the disk failed, the answers so far, the line at which it failed, if it was one, and the sessions closed
@@ -90,6 +90,14 @@ pub record OwesAllButPart (part : Part) (k : CutCase) : Type 0 where
   pub causes : Meets Causes (whole_of k)
   pub refusals : Meets Refusals (whole_of k)
   pub safe : Meets Safe (whole_of k)
+
+-- it has all that it owes to its answers but what it owes of snapshots that only read
+pub record OwesAllButSafe (k : CutCase) : Type 0 where
+  pub phases : Meets Phases (whole_of k)
+  pub stamps : Meets Stamps (whole_of k)
+  pub snapshots : Meets Snapshots (whole_of k)
+  pub causes : Meets Causes (whole_of k)
+  pub refusals : Meets Refusals (whole_of k)
 
 -- its lines are no report that was cut off, whatever parts they are read as
 abbrev pub IsNoCutReport : CutCase → Type 0
@@ -169,6 +177,17 @@ begun_at_a_wait = record {
   names = three_names;
   script = asked_from 1 (a_line command.Begin ∷ b_line command.Begin ∷ a_line (command.Tidy 0 1) ∷ b_line (command.Tidy 0 2) ∷ a_line command.Commit ∷ b_line command.Commit ∷ c_line command.Begin ∷ []);
   answers = answer.Began 13 ∷ answer.Began 13 ∷ answer.Cut 0 ∷ answer.Cut 0 ∷ answer.WaitRing 13 ∷ answer.WaitSeat 1 13 ∷ answer.Began 13 ∷ [];
+  fault = None;
+  closed = [];
+}
+
+-- A get of a snapshot, which isn't ended, is answered a value that a commit at its begin stamp put.
+abbrev pub cut_reply_of_now : CutCase
+cut_reply_of_now = record {
+  opening = opening_at 8;
+  names = two_names;
+  script = asked_from 1 (b_line command.Safe ∷ a_line command.Begin ∷ a_line (command.Put 0 1 (1 ∷ [])) ∷ a_line command.Commit ∷ b_line (command.Get 0 1) ∷ []);
+  answers = answer.Safe 13 ∷ answer.Began 13 ∷ answer.Replied reply.Done ∷ answer.Committed 13 13 0 ∷ answer.Replied (reply.Value (Some (1 ∷ []))) ∷ [];
   fault = None;
   closed = [];
 }

@@ -11,23 +11,24 @@ ghost use Rattle.erm_bad_reports.specs.Cases.{value_from_nowhere, predecessor_un
 ghost use Rattle.erm_bad_reports.specs.Cases.{order_turned_round, pairs_turned_round, pair_from_nowhere};
 ghost use Rattle.erm_bad_reports.specs.Cases.{predecessor_too_low, successor_too_high};
 ghost use Rattle.erm_bad_reports.specs.CauseCases.{decided_later, excluded_later, excluded_with, successor_unknown, window_closed};
-ghost use Rattle.erm_bad_reports.specs.CutReports.{AtLog, BreaksCutAlone, FaultAt, Fitting, IsNoCutReport, Once, OwesAllBut, OwesAllButPart, Owing, Unseen};
-ghost use Rattle.erm_bad_reports.specs.CutReports.{begun_at_a_wait, closed_too_early, closed_twice, cut_number_too_great, cut_without_begin, fault_at_begin, fault_outside, unfilled_below};
+ghost use Rattle.erm_bad_reports.specs.CutReports.{AtLog, BreaksCutAlone, FaultAt, Fitting, IsNoCutReport, Once, OwesAllBut, OwesAllButPart, OwesAllButSafe, Owing, Unseen};
+ghost use Rattle.erm_bad_reports.specs.CutReports.{begun_at_a_wait, closed_too_early, closed_twice, cut_number_too_great, cut_reply_of_now, cut_without_begin, fault_at_begin, fault_outside, unfilled_below};
 ghost use Rattle.erm_bad_reports.specs.LogCases.{checkpoint_beside_sealed, checkpoint_goes_back};
 ghost use Rattle.erm_bad_reports.specs.ReaderCases.{reader_excludes, reader_precedes, reader_waits};
 ghost use Rattle.erm_bad_reports.specs.Refused.{NoneTellsCells, alone, answers_alone, before_abort, answers_before_abort, before_settle, answers_before_settle, after_commit, answers_after_commit, newer_than_nothing, oids_beyond, reads_alone, refused_first};
 ghost use Rattle.erm_bad_reports.specs.StampParts.{BreaksPartAlone, Differ, Least, Begun, Sealed, Begins, Draws, Ascends, Flushes, FlushesFirst, BeginsAscend, Stops, UntoldAfter, UntoldBefore, stamp_below_begin, sealed_with_another, begun_at_a_commit, begun_at_a_newer, drawn_below, drawn_within, begun_below_the_flushed, drawn_below_the_flushed, stamp_of_two, begins_fall, begun_at_the_stop, begun_above_untold, begun_below_untold};
-ghost use Rattle.erm_bad_reports.specs.SafeCases.{begin_moves, look_refused, reply_of_now, safe_at_a_commit, safe_at_last, safe_at_the_stop, safe_out_of_reach, safe_too_early, safe_behind_one_that_went_back, snapshot_behind, snapshot_left_out, snapshots_turned, unsafe_again, unsafe_by_no_turn, waits_for_idle};
+ghost use Rattle.erm_bad_reports.specs.SafeCases.{begin_moves, look_refused, reply_of_now, safe_at_a_commit, safe_at_last, safe_at_the_stop, safe_out_of_reach, safe_too_early, safe_behind_one_that_went_back, safe_below_the_flushed, safe_left_open, safes_fall, snapshot_behind, snapshot_left_out, snapshots_turned, unsafe_again, unsafe_by_no_turn, waits_for_idle};
 ghost use Rattle.erm_bad_reports.specs.SafeAtOnceCases.{BreaksRiseAlone, Watched, safe_at_one_met, safe_below_its_owner, safe_beside_one_that_went_back, waits_at_once};
 ghost use Rattle.std.specs.List.{AllByRecursion};
 
-/// Lines: a line is missing; a number doesn't fit its type; an answer is missing; a session that is active isn't closed; a get is answered
-/// outside a transaction.
+/// Lines: a line is missing; a number doesn't fit its type; an answer is missing; a session that is active isn't closed, nor one that has a safe
+/// snapshot; a get is answered outside a transaction.
 pub fn lines_are_needed()
     ensures lines { (opening : Opening) → IsGoodReport InTurn opening [] [] commit_left_out → ⊥ }
     ensures fit { BreaksAlone Fit number_too_great }
     ensures answered { BreaksAlone Answered line_left_out }
     ensures closes { BreaksAlone Closes left_open }
+    ensures closes_safe { BreaksAlone Closes safe_left_open }
     ensures phases { BreaksAlone Phases got_without_begin }
 {}
 
@@ -125,7 +126,8 @@ pub fn windows_are_needed()
 /// Reports that the disk's fault cut off: the fault is told outside the lines, or at a line of a session; a number doesn't fit its type; a get is answered
 /// outside a transaction; a transaction begins at a stamp that a wait printed, of a session that no line decides, and all else is there that is owed to the
 /// answers; a session is closed twice, or before its last line; a checkpoint tells a block that isn't decided below the place that a flush told. Of these
-/// three the parts are shown to break it, not the lines; and of the last one that all other answers have what they owe.
+/// three the parts are shown to break it, not the lines; and of the last one that all other answers have what they owe. Last, a snapshot that isn't ended is
+/// replied as on the state now, and all else is there that is owed to the answers.
 pub fn clauses_of_cut_reports_are_needed()
     ensures fault { BreaksCutAlone FaultAt fault_outside × IsNoCutReport fault_outside }
     ensures log { BreaksCutAlone AtLog fault_at_begin × IsNoCutReport fault_at_begin }
@@ -135,11 +137,14 @@ pub fn clauses_of_cut_reports_are_needed()
     ensures once { BreaksCutAlone Once closed_twice }
     ensures unseen { BreaksCutAlone Unseen closed_too_early }
     ensures unfilled { BreaksCutAlone Owing unfilled_below × OwesAllBut 3 unfilled_below }
+    ensures reply { BreaksCutAlone Owing cut_reply_of_now × OwesAllButSafe cut_reply_of_now × IsNoCutReport cut_reply_of_now }
 {}
 
 /// Snapshots that only read: a look of a safe one is refused; a reply is that on the state now; one waits for a session that is idle; one isn't safe by a
 /// commit that has its turn at its own stamp; one is told safe beside a transaction that began below; one begins further on than the lines can have moved
-/// the log, where the log stops, and at a commit told before; one that waited is told safe where the log has come since it began.
+/// the log, where the log stops, and at a commit told before; one that waited is told safe where the log has come since it began; one is told safe at the
+/// stamp of a commit whose turn is before; two aren't safe by one commit, though the second one begins behind it; one begins below an earlier one, and
+/// below a place told flushed before.
 pub fn snapshots_are_needed()
     ensures looks { BreaksAlone Phases look_refused }
     ensures replies { BreaksAlone Safe reply_of_now }
@@ -152,6 +157,8 @@ pub fn snapshots_are_needed()
     ensures moves { BreaksAlone Safe begin_moves }
     ensures back { BreaksAlone Safe safe_behind_one_that_went_back }
     ensures again { BreaksAlone Safe unsafe_again }
+    ensures fall { BreaksAlone Safe safes_fall }
+    ensures flushed { BreaksAlone Safe safe_below_the_flushed }
 {}
 
 /// Snapshots of sessions that run at once: a `safe` is answered by a wait; one is told safe at the stamp of a commit whose turn is before. And of what is

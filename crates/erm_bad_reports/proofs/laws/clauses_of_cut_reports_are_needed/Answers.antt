@@ -1,5 +1,6 @@
 use Rattle.erm_bad_reports.proofs.OfCutReports.{fault_breaks, fitting_breaks, log_breaks, once_breaks, owing_breaks, unfilled_breaks, unseen_breaks}
 use Rattle.erm_bad_reports.proofs.OfCutWaits.{wait_breaks}
+use Rattle.erm_bad_reports.proofs.OfCutSnapshots.{reply_breaks}
 use Rattle.erm_bad_reports.proofs.laws.clauses_of_cut_reports_are_needed.Goals as goal
 
 pub returns-clause-fault : goal.returns-clause-fault
@@ -25,3 +26,6 @@ returns-clause-unfilled c = unfilled_breaks
 
 pub returns-clause-begins_wait : goal.returns-clause-begins_wait
 returns-clause-begins_wait c = wait_breaks
+
+pub returns-clause-reply : goal.returns-clause-reply
+returns-clause-reply c = reply_breaks

@@ -1,4 +1,5 @@
 use Rattle.erm_bad_reports.proofs.OfLines.{answer_breaks, close_breaks, lines_refused, number_breaks, phase_breaks}
+use Rattle.erm_bad_reports.proofs.OfSafeBegins.{open_breaks}
 use Rattle.erm_bad_reports.proofs.laws.lines_are_needed.Goals as goal
 
 pub returns-clause-lines : goal.returns-clause-lines
@@ -15,3 +16,6 @@ returns-clause-closes c = close_breaks
 
 pub returns-clause-phases : goal.returns-clause-phases
 returns-clause-phases c = phase_breaks
+
+pub returns-clause-closes_safe : goal.returns-clause-closes_safe
+returns-clause-closes_safe c = open_breaks

@@ -1,3 +1,4 @@
+use Rattle.erm_bad_reports.proofs.OfSafeBegins.{fall_breaks, flushed_breaks}
 use Rattle.erm_bad_reports.proofs.OfSnapshots.{at_commit_breaks, early_breaks, idle_breaks, look_breaks, moves_breaks, now_breaks, safe_far_breaks, safe_stop_breaks, turn_breaks}
 use Rattle.erm_bad_reports.proofs.OfWentBack.{again_breaks, back_breaks}
 use Rattle.erm_bad_reports.proofs.laws.snapshots_are_needed.Goals as goal
@@ -34,3 +35,9 @@ returns-clause-back c = back_breaks
 
 pub returns-clause-again : goal.returns-clause-again
 returns-clause-again c = again_breaks
+
+pub returns-clause-fall : goal.returns-clause-fall
+returns-clause-fall c = fall_breaks
+
+pub returns-clause-flushed : goal.returns-clause-flushed
+returns-clause-flushed c = flushed_breaks
