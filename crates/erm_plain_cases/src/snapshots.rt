@@ -7,7 +7,7 @@ ghost use Rattle.erm_world.specs.Laws.{IsLawfulWork};
 ghost use Rattle.erm_world.specs.World.{IsSession, Work, phase_at};
 
 use crate::calls::{Call, Reply, Turn, is_answered, told_row};
-use crate::worlds::in_lists;
+use crate::worlds::{in_lists, over_words};
 use erm_model::{OID_LIMIT, Oid, Phase, Seat};
 use erm_world::{RowWorld, SafeStop, SafeWorld};
 use std::alloc::{AllocError, Global};
@@ -245,8 +245,8 @@ fn are_answered<W: SafeWorld>(world: &mut W, lists: &[&[Turn]]) -> bool
     true
 }
 
-// The name of the first case that isn't answered so.
-fn first_other(alloc: Global) -> Result<Option<&'static str>, AllocError> {
+// The name of the first case that the world in lists answers otherwise.
+fn first_in_lists(alloc: Global) -> Result<Option<&'static str>, AllocError> {
     for (name, lists) in CASES {
         if !are_answered(&mut in_lists(alloc, false)?, lists) {
             return Ok(Some(name));
@@ -255,8 +255,24 @@ fn first_other(alloc: Global) -> Result<Option<&'static str>, AllocError> {
     Ok(None)
 }
 
+// And that over the word table.
+fn first_over_words(alloc: Global) -> Result<Option<&'static str>, AllocError> {
+    for (name, lists) in CASES {
+        if !are_answered(&mut over_words(alloc)?, lists) {
+            return Ok(Some(name));
+        }
+    }
+    Ok(None)
+}
+
 #[test]
-fn snapshots_are_answered(rt: HostRuntime) -> Result<(), AllocError> {
-    assert_eq!(rt; first_other(rt.alloc())?, None);
+fn snapshots_are_answered_in_lists(rt: HostRuntime) -> Result<(), AllocError> {
+    assert_eq!(rt; first_in_lists(rt.alloc())?, None);
+    Ok(())
+}
+
+#[test]
+fn snapshots_are_answered_over_words(rt: HostRuntime) -> Result<(), AllocError> {
+    assert_eq!(rt; first_over_words(rt.alloc())?, None);
     Ok(())
 }
