@@ -2,7 +2,6 @@ use Rattle.std.proofs.Common.{Option, sym, ap, subst}
 use Rattle.std.proofs.lemmas.Result.{IfOk-weaker}
 use Rattle.erm_report.specs.declared.answer.Answer.{Answer}
 use Rattle.erm_script.specs.declared.script.Command.{Command}
-use Rattle.erm_script.specs.declared.script.Command.TheVariants as command
 use Rattle.erm_world.specs.World.{View, phase_at}
 use Rattle.erm_good_report.specs.Phases.{NeedsAny, NeedsReader, NeedsWriter, need_of}
 use Rattle.erm_lines.proofs.Watched.{active_in, idle_where, operates, settle_where, start_where}
