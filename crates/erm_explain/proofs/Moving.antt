@@ -327,6 +327,15 @@ pub ended_so : (script : List ScriptLine) (answers : List Answer) (books : Books
 ended_so script answers books s true ending p has = other_ended script answers books s ending p (option_map with_end p.snapshot) (sym (count_map with_end p.snapshot)) has
 ended_so script answers books s false ending p has = has
 
+pub refused_so : (script : List ScriptLine) (answers : List Answer) (books : Books) (s : ℕ) (b : Bool) (c : Command) (a : Answer) (p : Progress)
+    → HasProgress script answers books s (cond b (ended report.Aborts (record p { current = option_map (with_line (Some c) a) p.current })) p)
+    → HasProgress script answers books s
+    (cond b (ended report.Aborts (record p { current = option_map (with_line (Some c) a) p.current; snapshot = option_map (with_look (Some c) a) p.snapshot })) p)
+refused_so script answers books s true c a p has =
+    let q : Progress = record p { current = option_map (with_line (Some c) a) p.current } in
+    other_ended script answers books s report.Aborts q (option_map (with_look (Some c) a) p.snapshot) (sym (count_map (with_look (Some c) a) p.snapshot)) has
+refused_so script answers books s false c a p has = has
+
 pub heard_so : (script : List ScriptLine) (answers : List Answer) (books : Books) (s : ℕ) (b : Bool) (session : ℕ) (c : Command) (a : Answer) (p : Progress)
     → (HasProgress script answers books s (record p { current = option_map (with_line (Some c) a) p.current }) → HasProgress script answers books s (heard session (Some c) a p))
     → HasProgress script answers books s (cond b (record p { current = option_map (with_line (Some c) a) p.current }) p) → HasProgress script answers books s (cond b (heard session (Some c) a p) p)

@@ -112,6 +112,11 @@ abbrev pub Notes : ScriptLine → ℕ → Books → Books → Type 0
 Notes line place old new = (script : List ScriptLine) (answers : List Answer) (answer : Answer) → slice_get script place ≡ Some line → slice_get answers place ≡ Some answer
     → Moves script answers line.session (λ p. record p { current = option_map (with_line (Some line.command) answer) p.current }) old new
 
+-- so it is, and then this transaction is over
+abbrev pub Refuses : ScriptLine → ℕ → Books → Books → Type 0
+Refuses line place old new = (script : List ScriptLine) (answers : List Answer) (answer : Answer) → slice_get script place ≡ Some line → slice_get answers place ≡ Some answer
+    → Moves script answers line.session (λ p. ended report.Aborts (record p { current = option_map (with_line (Some line.command) answer) p.current })) old new
+
 -- the line at a place was answered
 abbrev pub Hears : ScriptLine → ℕ → Answer → Books → Books → Type 0
 Hears line place answer old new = (script : List ScriptLine) (answers : List Answer) → slice_get script place ≡ Some line → slice_get answers place ≡ Some answer

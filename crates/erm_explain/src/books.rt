@@ -4,7 +4,7 @@ ghost use Rattle.erm_report.specs.declared.answer.Answer.{Answer as AnyAnswer};
 ghost use Rattle.erm_script.specs.declared.script.ScriptLine.{ScriptLine as AnyLine};
 ghost use Rattle.erm_good_report.specs.Phases.{asks_safe};
 ghost use Rattle.erm_good_report.specs.Transactions.{nothing};
-ghost use Rattle.erm_explain.specs.Books.{ArePlaced, AreSeats, Begins, Ends, EndsOwn, EndsWatch, HasProgress, Hears, KeepsPlaces, Notes, Seals, Watches};
+ghost use Rattle.erm_explain.specs.Books.{ArePlaced, AreSeats, Begins, Ends, EndsOwn, EndsWatch, HasProgress, Hears, KeepsPlaces, Notes, Refuses, Seals, Watches};
 
 use crate::table_of;
 use crate::told::{Ending, Told};
@@ -92,14 +92,8 @@ impl Books {
                 let stamp = None;
                 self.end(session, Ending::Excludes { stamp, succ, pred })?;
             }
-            Answer::Owned { .. } => {
-                self.note(line, place)?;
-                self.end(session, Ending::Aborts)?;
-            }
-            Answer::Newer { .. } => {
-                self.note(line, place)?;
-                self.end(session, Ending::Aborts)?;
-            }
+            Answer::Owned { .. } => self.refuse(line, place)?,
+            Answer::Newer { .. } => self.refuse(line, place)?,
             Answer::Aborted => self.end(session, Ending::Aborts)?,
             Answer::NotIdle
             | Answer::NoTransaction
@@ -146,6 +140,17 @@ impl Books {
             told.lines.push(place)?;
         }
         Ok(())
+    }
+
+    // The line at a place is noted, and then its session's current transaction is over, and its snapshot.
+    fn refuse(&mut self, line: &ScriptLine, place: usize) -> Result<(), AllocError>
+        requires { AreSeats self.old }
+        ensures seats { OnOk result (AreSeats self.new) }
+        ensures refuses { OnOk result (Refuses line.now place self.old self.new) }
+        ensures placed { OnOk result ((answer : AnyAnswer) → KeepsPlaces line.now place answer self.old self.new) }
+    {
+        self.note(line, place)?;
+        self.end(line.session, Ending::Aborts)
     }
 
     // A session's current transaction is sealed.

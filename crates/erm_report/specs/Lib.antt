@@ -1,3 +1,4 @@
 pub mod Leads
 pub mod Printable
 pub mod Texts
+pub mod Turns

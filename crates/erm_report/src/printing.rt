@@ -5,6 +5,7 @@ ghost use Rattle.std.specs.Prelude.{◌≡◌, ◌++◌, ◌-◌, ◌<◌, ◌�
 ghost use Rattle.erm_report.specs.declared.line.Line.TheVariants as line;
 ghost use Rattle.erm_report.specs.Printable.{FitsAnswer, FitsTypes, IsInTables};
 ghost use Rattle.erm_report.specs.Texts.{line_text, words_text, fault_word, pair_text};
+ghost use Rattle.erm_report.specs.Turns.{IsTurn};
 
 mod answer;
 mod part;
@@ -53,18 +54,7 @@ fn push_words(out: &mut Vec<u8>, line: &Line) -> Result<(), AllocError>
         Line::Answer { line, answer } => push_numbered(out, *line, answer),
         Line::Close { session, answer } => push_closed(out, session, answer),
         Line::Order { commits } => push_count(out, b"order ", *commits as u64),
-        Line::Commit {
-            session,
-            number,
-            stamp,
-            succ,
-            pred,
-        } => push_commit(out, session, *number, (*stamp, *succ, *pred)),
-        Line::Safe {
-            session,
-            number,
-            at,
-        } => push_safe(out, session, *number, *at),
+        Line::Commit { .. } | Line::Safe { .. } => push_turn(out, line),
         Line::Map { pairs } => push_count(out, b"map ", *pairs as u64),
         Line::Pair(pair) => push_pair(out, pair),
         Line::End => out.extend_from_slice(b"end"),
@@ -127,6 +117,30 @@ fn push_closed(out: &mut Vec<u8>, session: &Name, answer: &Answer) -> Result<(),
 {
     push_name(out, b"close ", session)?;
     push_answer(out, answer)
+}
+
+// the words of a line that tells of a turn, without its end
+fn push_turn(out: &mut Vec<u8>, line: &Line) -> Result<(), AllocError>
+    requires { IsTurn line.now }
+    ensures ok { OnOk result (out.new.items ≡ out.old.items ++ words_text line.now) }
+    ensures fits { OnOk result (FitsTypes line.now) }
+    ensures front { OnErr result (take (length out.old.items) out.new.items ≡ out.old.items) }
+{
+    match line {
+        Line::Commit {
+            session,
+            number,
+            stamp,
+            succ,
+            pred,
+        } => push_commit(out, session, *number, (*stamp, *succ, *pred)),
+        Line::Safe {
+            session,
+            number,
+            at,
+        } => push_safe(out, session, *number, *at),
+        _ => unreachable!(),
+    }
 }
 
 fn push_commit(

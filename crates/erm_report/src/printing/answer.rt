@@ -4,8 +4,9 @@
 ghost use Rattle.std.specs.Prelude.{◌≡◌, ◌++◌, ◌∷◌, ◌^◌, ◌<◌, OnOk, OnErr, codes, decimal, length, take};
 ghost use Rattle.std.specs.List.{All, flat_map};
 ghost use Rattle.erm_model.specs.Spelling.{value_word};
+ghost use Rattle.erm_report.specs.declared.answer.Answer.TheVariants as answer;
 ghost use Rattle.erm_report.specs.Leads.{lead};
-ghost use Rattle.erm_report.specs.Printable.{FitsAnswer, FitsFound};
+ghost use Rattle.erm_report.specs.Printable.{FitsAnswer, FitsFound, FitsReply};
 ghost use Rattle.erm_report.specs.Texts.{answer_text, found_text};
 
 use super::part::{push_count, push_stamps, push_value};
@@ -30,11 +31,7 @@ fn lead(answer: &Answer) -> &'static [u8]
     match answer {
         Answer::Began(_) => b"begin ",
         Answer::Safe(_) => b"safe ",
-        Answer::Replied(Reply::Value(Some(_))) => b"value ",
-        Answer::Replied(Reply::Value(None) | Reply::Pair(None)) => b"none",
-        Answer::Replied(Reply::Done) => b"ok",
-        Answer::Replied(Reply::Pair(Some(_))) => b"pair ",
-        Answer::Replied(Reply::Found(_)) => b"pairs ",
+        Answer::Replied(reply) => lead_of_reply(reply),
         Answer::Cut(_) => b"cut ",
         Answer::Sealed(_) => b"sealed ",
         Answer::Committed { .. } => b"committed ",
@@ -70,6 +67,19 @@ fn lead(answer: &Answer) -> &'static [u8]
     }
 }
 
+// the words of a reply up to its first number or value
+fn lead_of_reply(reply: &Reply) -> &'static [u8]
+    ensures { result.now ≡ lead (answer.Replied reply.now) }
+{
+    match reply {
+        Reply::Value(Some(_)) => b"value ",
+        Reply::Value(None) | Reply::Pair(None) => b"none",
+        Reply::Done => b"ok",
+        Reply::Pair(Some(_)) => b"pair ",
+        Reply::Found(_) => b"pairs ",
+    }
+}
+
 // an answer, of which the words up to its first number or value are known
 fn push_told(out: &mut Vec<u8>, words: &[u8], answer: &Answer) -> Result<(), AllocError>
     requires { words.now ≡ lead answer.now }
@@ -92,9 +102,7 @@ fn push_told(out: &mut Vec<u8>, words: &[u8], answer: &Answer) -> Result<(), All
         | Answer::Unfilled(stamp) => push_count(out, words, *stamp),
         Answer::CellsFull { drawn } | Answer::OidsFull { drawn } => push_count(out, words, *drawn),
         Answer::Cut(count) => push_count(out, words, u64::from(*count)),
-        Answer::Replied(Reply::Value(Some(value))) => push_value(out, words, value),
-        Answer::Replied(Reply::Pair(Some((key, value)))) => push_found(out, words, *key, value),
-        Answer::Replied(Reply::Found(pairs)) => push_pairs(out, words, pairs),
+        Answer::Replied(reply) => push_reply(out, words, reply),
         Answer::Committed { stamp, succ, pred } | Answer::Excluded { stamp, succ, pred } => {
             push_stamps(out, words, *stamp, *succ, *pred)
         }
@@ -104,8 +112,7 @@ fn push_told(out: &mut Vec<u8>, words: &[u8], answer: &Answer) -> Result<(), All
         Answer::Owned { seat, number } => {
             push_two(out, words, u64::from(*seat), b" ", u64::from(*number))
         }
-        Answer::Replied(Reply::Value(None) | Reply::Pair(None) | Reply::Done)
-        | Answer::Aborted
+        Answer::Aborted
         | Answer::Ended
         | Answer::NotIdle
         | Answer::NoTransaction
@@ -118,6 +125,21 @@ fn push_told(out: &mut Vec<u8>, words: &[u8], answer: &Answer) -> Result<(), All
         | Answer::WritesFull
         | Answer::NoReceipt
         | Answer::DiskFault => out.extend_from_slice(words),
+    }
+}
+
+// a reply, of which the words up to its first number or value are known
+fn push_reply(out: &mut Vec<u8>, words: &[u8], reply: &Reply) -> Result<(), AllocError>
+    requires { words.now ≡ lead (answer.Replied reply.now) }
+    ensures ok { OnOk result (out.new.items ≡ out.old.items ++ answer_text (answer.Replied reply.now)) }
+    ensures fits { OnOk result (FitsReply reply.now) }
+    ensures front { OnErr result (take (length out.old.items) out.new.items ≡ out.old.items) }
+{
+    match reply {
+        Reply::Value(Some(value)) => push_value(out, words, value),
+        Reply::Pair(Some((key, value))) => push_found(out, words, *key, value),
+        Reply::Found(pairs) => push_pairs(out, words, pairs),
+        Reply::Value(None) | Reply::Pair(None) | Reply::Done => out.extend_from_slice(words),
     }
 }
 

@@ -1,9 +1,9 @@
-use Rattle.std.proofs.Common.{◌≡◌, ◌∙◌, ◌==◌, ap, cond, subst, sym, Some, None}
+use Rattle.std.proofs.Common.{◌∙◌, ◌==◌, ap, subst, sym, Some, None}
 use Rattle.std.specs.Option.{option_map}
 use Rattle.erm_report.specs.declared.answer.Answer.TheVariants as answer
-use Rattle.erm_good_report.specs.Transactions.{Aborts, Excludes, Progress, ended, goes_on, heard, own_snapshot, with_begin, with_line}
+use Rattle.erm_good_report.specs.Transactions.{Aborts, Excludes, Progress, ended, goes_on, own_snapshot, with_begin, with_line}
 use Rattle.erm_explain.specs.Books.{HasProgress}
-use Rattle.erm_explain.proofs.Moving.{begun_so, ended_so, goes_besides, heard_so, looked, twice, waits_still, went_on}
+use Rattle.erm_explain.proofs.Moving.{begun_so, ended_so, goes_besides, heard_so, looked, refused_so, twice, waits_still, went_on}
 use Rattle.erm_explain.proofs.books.Books.hear.Goals as goal
 
 pub returns-in-Began-clause-heard : goal.returns-in-Began-clause-heard
@@ -34,25 +34,19 @@ returns-in_ok-end-in-ExcludedEarly-clause-heard c script answers at told s p has
     (twice (line.session == s) (ended (Excludes None c.in-ExcludedEarly.succ c.in-ExcludedEarly.pred)) (goes_on (Some line.command) a) p)
     (c.in_ok-end-in-ExcludedEarly.ensures.ends script answers s _ (went_on script answers c.note-in-ExcludedEarly.new.self s (line.session == s) line.command a p (looked (Some line.command) a p.snapshot) noted)))
 
-pub returns-in_ok-end-in-Owned-clause-heard : goal.returns-in_ok-end-in-Owned-clause-heard
-returns-in_ok-end-in-Owned-clause-heard c script answers at told s p has =
+pub returns-in_ok-refuse-in-Owned-clause-heard : goal.returns-in_ok-refuse-in-Owned-clause-heard
+returns-in_ok-refuse-in-Owned-clause-heard c script answers at told s p has =
     let line = c.args.line.now in
     let a = answer.Owned c.in-Owned.seat c.in-Owned.number in
-    let noted = c.in_ok-note-in-Owned.ensures.notes script answers a at (told ∙ ap Some c.in-Owned.is) s p has in
-    rw c.in-Owned.is
-    (subst (λ (q : Progress). HasProgress script answers c.end-in-Owned.new.self s q)
-    (twice (line.session == s) (ended Aborts) (goes_on (Some line.command) a) p)
-    (c.in_ok-end-in-Owned.ensures.ends script answers s _ (went_on script answers c.note-in-Owned.new.self s (line.session == s) line.command a p (looked (Some line.command) a p.snapshot) noted)))
+    let refused = c.in_ok-refuse-in-Owned.ensures.refuses script answers a at (told ∙ ap Some c.in-Owned.is) s p has in
+    rw c.in-Owned.is (refused_so script answers c.refuse.new.self s (line.session == s) line.command a p refused)
 
-pub returns-in_ok-end-in-Newer-clause-heard : goal.returns-in_ok-end-in-Newer-clause-heard
-returns-in_ok-end-in-Newer-clause-heard c script answers at told s p has =
+pub returns-in_ok-refuse-in-Newer-clause-heard : goal.returns-in_ok-refuse-in-Newer-clause-heard
+returns-in_ok-refuse-in-Newer-clause-heard c script answers at told s p has =
     let line = c.args.line.now in
     let a = answer.Newer c.in-Newer.stamp in
-    let noted = c.in_ok-note-in-Newer.ensures.notes script answers a at (told ∙ ap Some c.in-Newer.is) s p has in
-    rw c.in-Newer.is
-    (subst (λ (q : Progress). HasProgress script answers c.end-in-Newer.new.self s q)
-    (twice (line.session == s) (ended Aborts) (goes_on (Some line.command) a) p)
-    (c.in_ok-end-in-Newer.ensures.ends script answers s _ (went_on script answers c.note-in-Newer.new.self s (line.session == s) line.command a p (looked (Some line.command) a p.snapshot) noted)))
+    let refused = c.in_ok-refuse-in-Newer.ensures.refuses script answers a at (told ∙ ap Some c.in-Newer.is) s p has in
+    rw c.in-Newer.is (refused_so script answers c.refuse-in-Newer.new.self s (line.session == s) line.command a p refused)
 
 pub returns-in_ok-note-in_default-clause-heard : goal.returns-in_ok-note-in_default-clause-heard
 returns-in_ok-note-in_default-clause-heard c script answers at told s p has =
