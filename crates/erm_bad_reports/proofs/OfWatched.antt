@@ -127,9 +127,13 @@ owned_good Phases = phases_by_line safe_below_its_owner (tt, (tt, (tt, (tt, (tt,
 owned_good Stamps = at_once safe_below_its_owner.opening owned_told (said_of safe_below_its_owner.script safe_below_its_owner.report.answers) (stamps_agree safe_below_its_owner.opening owned_told (said_of safe_below_its_owner.script safe_below_its_owner.report.answers) refl refl refl refl refl refl
     (each_in (λ t. 13 ≤ t.begin) owned_told (omega arith, (omega arith, (omega arith, tt)))) (each_in (λ t. IfSome (stamp_of t) (λ stamp. t.begin ≤ stamp)) owned_told (tt, (omega arith, (tt, tt))))
     (each_in (λ t. Told (λ a b. a ≡ b) t.sealed (stamp_of_ending t.ending)) owned_told (tt, (tt, (tt, tt)))))
-owned_good Snapshots = each_in (λ t. HasSnapshotReplies (history_of owned_told) empty t.begin (steps_of t)) owned_told
-    (first_snapshot (history_of owned_told) empty 13 [] refl tt, (first_snapshot (history_of owned_told) empty 13 [] refl tt,
-    (record { snapshot = empty; below_begin = record { order = below 18 (history_of owned_told); serial = one_commit_ordered _; state = refl }; replies = (refl, tt) }, tt)))
+owned_good Snapshots = each_in (λ t. HasSnapshotReplies (history_of owned_told) empty t.begin (steps_of t)) owned_told (
+  first_snapshot (history_of owned_told) empty 13 [] refl tt,
+  (
+    first_snapshot (history_of owned_told) empty 13 [] refl tt,
+    (record { snapshot = empty; below_begin = record { order = below 18 (history_of owned_told); serial = one_commit_ordered _; state = refl }; replies = (refl, tt) }, tt),
+  ),
+)
 owned_good Causes = each_in (λ t. HasCauseOf t.ending owned_told t) owned_told (tt, (record { opens = omega arith; closes = omega arith; succ_cause = inl refl; pred_cause = inl refl }, (tt, tt)))
 owned_good Refusals = refusals_kept safe_below_its_owner refl (record { own = λ t is. tt; log = tt; unfilled = tt }, (record { own = λ t is. record { another = λ same. omega (arith, same); other = _; in_progress = (2, refl); name = (refl, refl); table = 0; named = refl; writes = record { line = _; of = (0, refl); names = refl; writes = refl } }; log = tt; unfilled = tt }, (record { own = λ t is. tt; log = tt; unfilled = tt }, (record { own = λ t is. tt; log = tt; unfilled = tt }, (record { own = λ t is. tt; log = tt; unfilled = tt }, (record { own = λ t is. own_window _ t _; log = tt; unfilled = tt }, (record { own = λ t is. tt; log = tt; unfilled = tt }, (record { own = λ t is. tt; log = tt; unfilled = tt }, (record { own = λ t is. tt; log = tt; unfilled = tt }, tt)))))))))
 owned_good Safe = safe_by_line safe_below_its_owner (λ session number. 13) refl (λ is. absurd (cc), (λ is. absurd (cc), ((λ is. (refl, safe_there _ 13 refl)), (λ is. absurd (cc), (λ is. absurd (cc), (λ is. absurd (cc), (λ is. absurd (cc), (λ is. absurd (cc), (λ is. absurd (cc), tt))))))))) (owned_owes, (owned_owes, (owned_owes, (owned_owes, (tt, (tt, (tt, (tt, (tt, tt)))))))))

@@ -124,31 +124,11 @@ own_causes = each_in (λ t. HasCauseOf t.ending told t) told (
       opens = omega arith;
       closes = omega arith;
       succ_cause = inl refl;
-      pred_cause = inr (_, (0, refl), omega arith, record {
-        succ = 13;
-        pred = 0;
-        ending = refl;
-        table = 0;
-        line = record { line = _; of = (0, refl); names = refl };
-        other = record { line = _; of = (0, refl); names = refl };
-        writes = inl (record { line = _; of = (0, refl); names = refl; writes = refl });
-      });
-    },
-    (
-      record {
-        opens = omega arith;
-        closes = omega arith;
-        succ_cause = inr (_, (1, refl), record {
-          own = 38;
-          pred = 13;
-          ending = refl;
-          after = omega arith;
-          before = omega arith;
-          table = 0;
-          line = record { line = _; of = (0, refl); names = refl; writes = refl };
-          other = record { line = _; of = (0, refl); names = refl };
-        });
-        pred_cause = inr (_, (0, refl), omega arith, record {
+      pred_cause = inr (
+        _,
+        (0, refl),
+        omega arith,
+        record {
           succ = 13;
           pred = 0;
           ending = refl;
@@ -156,7 +136,41 @@ own_causes = each_in (λ t. HasCauseOf t.ending told t) told (
           line = record { line = _; of = (0, refl); names = refl };
           other = record { line = _; of = (0, refl); names = refl };
           writes = inl (record { line = _; of = (0, refl); names = refl; writes = refl });
-        });
+        },
+      );
+    },
+    (
+      record {
+        opens = omega arith;
+        closes = omega arith;
+        succ_cause = inr (
+          _,
+          (1, refl),
+          record {
+            own = 38;
+            pred = 13;
+            ending = refl;
+            after = omega arith;
+            before = omega arith;
+            table = 0;
+            line = record { line = _; of = (0, refl); names = refl; writes = refl };
+            other = record { line = _; of = (0, refl); names = refl };
+          },
+        );
+        pred_cause = inr (
+          _,
+          (0, refl),
+          omega arith,
+          record {
+            succ = 13;
+            pred = 0;
+            ending = refl;
+            table = 0;
+            line = record { line = _; of = (0, refl); names = refl };
+            other = record { line = _; of = (0, refl); names = refl };
+            writes = inl (record { line = _; of = (0, refl); names = refl; writes = refl });
+          },
+        );
       },
       tt,
     ),

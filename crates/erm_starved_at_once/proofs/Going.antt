@@ -31,7 +31,6 @@ goes_rest f seat next v t (rest.aborted u active waited did) =
 goes_rest f seat next v t (rest.drew l stamp active is commits (u, passes, did)) =
     continues_then (v.session seat) (u.session seat) (t.session seat) (continues_itself (v.session seat) (u.session seat) passes.own)
     (turn_sealed u seat stamp (Some command.Commit) t (ap (λ (s : Session). phase_of s.stand) passes.own ∙ active) did).goes
-
 goes_rest f seat next v t (rest.watched l begin idle is asks (u, passes, did)) =
     continues_then (v.session seat) (u.session seat) (t.session seat) (continues_itself (v.session seat) (u.session seat) passes.own)
     (continues_from (u.session seat) (t.session seat) world.idle (idle_in (u.session seat).stand (ap (λ (s : Session). phase_of s.stand) passes.own ∙ idle)) []
