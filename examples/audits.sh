@@ -2,6 +2,7 @@
 # Audits of ten thousand accounts, beside sessions that move money: each audit is a snapshot that only reads, and none is refused. It runs in a folder of
 # its own, which it removes at the end.
 #   examples/audits.sh [PROGRAM]     PROGRAM is the launcher at the top, unless another is given
+#   KEPT=FOLDER examples/audits.sh ..   leaves the script in turn and its report there, as turns.erm and turns.out: docs/runs/audits.svg is their picture
 set -u
 examples=$(cd "$(dirname "$(readlink -f "${BASH_SOURCE[0]}")")" && pwd)
 program=$(readlink -f "${1:-$examples/../erm}")
@@ -63,6 +64,7 @@ SCRIPT
 show 'cat turns.erm'
 show 'erm run < turns.erm > report; totals report; cut -d " " -f 1-7 report | head -n 12'
 show 'diff <(grep "^2 " report | cut -d " " -f 2-) <(grep "^7 " report | cut -d " " -f 2-) && echo the same'
+[[ -z ${KEPT:-} ]] || { cp turns.erm "$KEPT/turns.erm" && cp report "$KEPT/turns.out"; }
 # At once: two sessions make a thousand transfers each, beside three audits. Which of them an audit sees depends on when it begins; what all accounts
 # have in all doesn't.
 show '(transfers ann 2; transfers bob 5000; audits) > day.erm; wc -l < day.erm'

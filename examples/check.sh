@@ -33,7 +33,7 @@ for script in "$examples"/*.erm; do
     count "$name, the gate's report" cmp <(echo 0; cat "$examples/$name.out") "$data/example_$name.report"
 done
 for script in crash checkpoint stream threads audits; do
-    "$examples/$script.sh" "$program" >"$folder/$script.out"
+    KEPT="$folder" "$examples/$script.sh" "$program" >"$folder/$script.out"
     count "$script" cmp "$folder/$script.out" "$examples/$script.out"
 done
 
@@ -50,6 +50,7 @@ if command -v python3 >/dev/null; then
         count "$name, no bad line" says_nothing "$top/tools/bad_line.py" "$script"
         [[ $name == empty ]] || count "$name, its picture" cmp <("$top/tools/picture" "$script" "$examples/$name.out") "$top/docs/runs/$name.svg"
     done
+    count "audits, its picture" cmp <("$top/tools/picture" "$folder/turns.erm" "$folder/turns.out") "$top/docs/runs/audits.svg"
     printf 'a begin\na get 16 1\n' >"$folder/bad.erm"
     count "a bad line" grep -q "line 2.*a table is 0 to 15" <("$top/tools/bad_line.py" "$folder/bad.erm")
     count "the documents" python3 -B "$top/tools/docs.py" --check
