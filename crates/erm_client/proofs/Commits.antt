@@ -68,18 +68,18 @@ module _ (Kind : List Step → Type 0) where
   all_told c each t stamp succ pred there commits = each (commit_by stamp succ pred t) (in_history (dealings_of c).over t stamp succ pred there commits)
 
   -- of a kind they stay where those in between are
-  pub all_went : {n : ℕ} {xs : List Committed} {c d : Transcript} → Went n xs c d → ((x : Committed) → x ∈ xs → Kind x.steps) → AllCommitted Kind c → AllCommitted Kind d
-  all_went {n} {xs} {c} {d} went are all =
+  pub all_went : {n : ℕ} {xs ss : List Committed} {c d : Transcript} → Went n xs ss c d → ((x : Committed) → x ∈ xs → Kind x.steps) → AllCommitted Kind c → AllCommitted Kind d
+  all_went {xs = xs} {c = c} {d = d} went are all =
       all_told d (λ x there. elim (in_either (commits_told c) xs x (subst (λ (l : List Committed). x ∈ l) went.commits_are there)) as (λ _. Kind x.steps) [
         | inl before ↦ each_told c all x before
         | inr now ↦ are x now
       ])
 
-  pub all_still : {n : ℕ} {c d : Transcript} → Went n [] c d → AllCommitted Kind c → AllCommitted Kind d
+  pub all_still : {n : ℕ} {ss : List Committed} {c d : Transcript} → Went n [] ss c d → AllCommitted Kind c → AllCommitted Kind d
   all_still went all = all_went went (λ x there. absurd (none_in_nil x there)) all
 
-  pub all_one : {n : ℕ} {x : Committed} {c d : Transcript} → Went n (x ∷ []) c d → Kind x.steps → AllCommitted Kind c → AllCommitted Kind d
-  all_one {n} {x} went is all = all_went went (λ y there. subst (λ (z : Committed). Kind z.steps) (only y there) is) all
+  pub all_one : {n : ℕ} {x : Committed} {ss : List Committed} {c d : Transcript} → Went n (x ∷ []) ss c d → Kind x.steps → AllCommitted Kind c → AllCommitted Kind d
+  all_one {x = x} went is all = all_went went (λ y there. subst (λ (z : Committed). Kind z.steps) (only y there) is) all
     where
       only : (y : Committed) → y ∈ (x ∷ []) → x ≡ y
       only y (zero, at) = cc

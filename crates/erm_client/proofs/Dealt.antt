@@ -1,17 +1,18 @@
 -- A session's transactions, after one more line of its transcript.
-use Rattle.std.proofs.Common.{◌≡◌, ℕ, Bool, cond, ◌==◌, List, [], ◌∷◌, ◌++◌, length, Option, Some, None, IsSome, inl, inr, refl, sym, ap, ◌∙◌, subst, arith}
+use Rattle.std.proofs.Common.{◌≡◌, ℕ, Bool, cond, false, ◌==◌, List, [], ◌∷◌, ◌++◌, length, Option, Some, None, IsSome, inl, inr, refl, sym, ap, ◌∙◌, subst, arith}
 use Rattle.std.proofs.lemmas.Bool.Decides.{eqb_tells}
 use Rattle.std.proofs.lemmas.List.Elements.{filter_map-append}
 use Rattle.std.proofs.lemmas.List.Sums.{fold-append}
-use Rattle.std.specs.Option.{option_map, option_to_list}
+use Rattle.std.specs.List.{filter_map}
+use Rattle.std.specs.Option.{option_map, option_map_or, option_to_list}
 use Rattle.erm_client.proofs.Grown.{open_each}
-use Rattle.erm_client.specs.Dealings.{AllCommitted, AllOver, IsAt, dealings_of}
+use Rattle.erm_client.specs.Dealings.{AllCommitted, AllOver, IsAt, IsSafeAt, dealings_of}
 use Rattle.erm_client.specs.declared.transcript.Transcript.{Transcript}
 use Rattle.erm_client.specs.declared.refusal.Refusal.{Refusal}
 use Rattle.erm_client.specs.Refusals.{refusal_told}
 use Rattle.erm_client.specs.Transcripts.{EndsWith, HasMore, IsAnswered, IsRefused, IsSame, IsTranscript, Starves}
 use Rattle.erm_client.specs.Transcripts as refused
-use Rattle.erm_good_report.specs.Transactions.{Commits, Ending, Progress, Said, Transaction, begun, ended, heard, nothing, op_of, progress_of, said_of, step_of, steps_of, with_ending, with_line}
+use Rattle.erm_good_report.specs.Transactions.{Commits, Ending, Exchange, Progress, Said, Snapshot, Transaction, begun, ended, exchange_of, heard, looks_of, next_number, nothing, op_of, own_snapshot, progress_of, said_of, step_of, steps_of, with_begin, with_ending, with_line, with_look}
 use Rattle.erm_good_report.specs.Transactions as dealt
 use Rattle.erm_model.proofs.Members.{∈-push}
 use Rattle.erm_model.specs.declared.operation.Op.{Op}
@@ -157,25 +158,48 @@ at_begun c d stamp ok answered = record {
   current = begun c.seat stamp (dealings_of c);
   is = ap (λ (p : Progress). p.current) (dealt_answered c d command.Begin (answer.Began stamp) ok answered);
   steps_are = refl;
+  alone = ap (λ (p : Progress). p.snapshot) (dealt_answered c d command.Begin (answer.Began stamp) ok answered) ∙ answered.comes;
 }
+
+-- a snapshot that was told nothing of has looked at nothing
+pub safe_begun : (c d : Transcript) (begin : ℕ) → IsTranscript c → IsAnswered c command.Safe (answer.Safe begin) d → IsSafeAt d begin []
+safe_begun c d begin ok answered =
+    let p = dealings_of c in record {
+      current = with_begin begin (own_snapshot p);
+      is = ap (λ (p : Progress). p.snapshot) (dealt_answered c d command.Safe (answer.Safe begin) ok answered);
+      begin_is = refl;
+      steps_are = ap (λ (o : Option Snapshot). looks_of (option_map_or (λ (s : Snapshot). s) o (record { number = next_number p; begin = None; lines = []; placed = false }))) answered.comes;
+    }
 
 unnamed : (o : Option Op) → o ≡ None → IsSome o → ⊥
 unnamed o is named = cc
 
 -- the step of an operation with its reply
-steps_told : (asked : Command) (r : Reply) (t : Transaction) → IsSome (op_of asked)
-    → steps_of (with_line (Some asked) (answer.Replied r) t) ≡ steps_of t ++ option_to_list (option_map (λ op. record { op = op; reply = r }) (op_of asked))
-steps_told (command.Get table key) r t named = filter_map-append step_of t.lines (record { asked = command.Get table key; answer = answer.Replied r } ∷ [])
-steps_told (command.Put table key value) r t named = filter_map-append step_of t.lines (record { asked = command.Put table key value; answer = answer.Replied r } ∷ [])
-steps_told (command.Del table key) r t named = filter_map-append step_of t.lines (record { asked = command.Del table key; answer = answer.Replied r } ∷ [])
-steps_told (command.Next table from) r t named = filter_map-append step_of t.lines (record { asked = command.Next table from; answer = answer.Replied r } ∷ [])
-steps_told (command.Scan table low high) r t named = filter_map-append step_of t.lines (record { asked = command.Scan table low high; answer = answer.Replied r } ∷ [])
-steps_told c r t named = absurd (unnamed None refl named)
+steps_told : (asked : Command) (r : Reply) (lines : List Exchange) → IsSome (op_of asked)
+    → filter_map step_of (lines ++ option_to_list (exchange_of (Some asked) (answer.Replied r)))
+    ≡ filter_map step_of lines ++ option_to_list (option_map (λ op. record { op = op; reply = r }) (op_of asked))
+steps_told (command.Get table key) r lines named = filter_map-append step_of lines (record { asked = command.Get table key; answer = answer.Replied r } ∷ [])
+steps_told (command.Put table key value) r lines named = filter_map-append step_of lines (record { asked = command.Put table key value; answer = answer.Replied r } ∷ [])
+steps_told (command.Del table key) r lines named = filter_map-append step_of lines (record { asked = command.Del table key; answer = answer.Replied r } ∷ [])
+steps_told (command.Next table from) r lines named = filter_map-append step_of lines (record { asked = command.Next table from; answer = answer.Replied r } ∷ [])
+steps_told (command.Scan table low high) r lines named = filter_map-append step_of lines (record { asked = command.Scan table low high; answer = answer.Replied r } ∷ [])
+steps_told c r lines named = absurd (unnamed None refl named)
 
 pub at_replied : (c d : Transcript) (asked : Command) (r : Reply) (steps : List Step) → IsSome (op_of asked) → IsTranscript c → IsAt c steps → IsAnswered c asked (answer.Replied r) d
     → IsAt d (steps ++ option_to_list (option_map (λ op. record { op = op; reply = r }) (op_of asked)))
 at_replied c d asked r steps named ok at answered = record {
   current = with_line (Some asked) (answer.Replied r) at.current;
   is = ap (λ (p : Progress). p.current) (dealt_answered c d asked (answer.Replied r) ok answered) ∙ ap (λ (t : Option Transaction). option_map (with_line (Some asked) (answer.Replied r)) t) at.is;
-  steps_are = steps_told asked r at.current named ∙ ap (λ (s : List Step). s ++ option_to_list (option_map (λ op. record { op = op; reply = r }) (op_of asked))) at.steps_are;
+  steps_are = steps_told asked r at.current.lines named ∙ ap (λ (s : List Step). s ++ option_to_list (option_map (λ op. record { op = op; reply = r }) (op_of asked))) at.steps_are;
+  alone = ap (λ (p : Progress). p.snapshot) (dealt_answered c d asked (answer.Replied r) ok answered) ∙ ap (λ (s : Option Snapshot). option_map (with_look (Some asked) (answer.Replied r)) s) at.alone;
+}
+
+-- and of a snapshot
+pub safe_replied : (c d : Transcript) (asked : Command) (r : Reply) (begin : ℕ) (steps : List Step) → IsSome (op_of asked) → IsTranscript c → IsSafeAt c begin steps → IsAnswered c asked (answer.Replied r) d
+    → IsSafeAt d begin (steps ++ option_to_list (option_map (λ op. record { op = op; reply = r }) (op_of asked)))
+safe_replied c d asked r begin steps named ok at answered = record {
+  current = with_look (Some asked) (answer.Replied r) at.current;
+  is = ap (λ (p : Progress). p.snapshot) (dealt_answered c d asked (answer.Replied r) ok answered) ∙ ap (λ (s : Option Snapshot). option_map (with_look (Some asked) (answer.Replied r)) s) at.is;
+  begin_is = at.begin_is;
+  steps_are = steps_told asked r at.current.lines named ∙ ap (λ (s : List Step). s ++ option_to_list (option_map (λ op. record { op = op; reply = r }) (op_of asked))) at.steps_are;
 }

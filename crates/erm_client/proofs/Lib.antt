@@ -1,5 +1,6 @@
 pub mod Commits
 pub mod Dealt
+pub mod Ended
 pub mod Grown
 pub mod Joined
 pub mod Onward
@@ -8,3 +9,4 @@ pub mod Runs
 pub mod Steps
 pub mod Stretched
 pub mod Told
+pub mod Watched

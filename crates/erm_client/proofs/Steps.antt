@@ -1,24 +1,31 @@
 -- One step of a client: a line was answered, it was told to stop, memory ran out, or nothing was asked.
-use Rattle.std.proofs.Common.{◌≡◌, ℕ, length, Option, Some, None, Result, Ok, Err, IfErr, IfOk, OnOk, List, [], ◌∷◌, ◌++◌, ◌⊎◌, ⊎_elim, sym, ap, ◌∙◌, subst}
+use Rattle.std.proofs.Common.{◌≡◌, ◌≢◌, ℕ, length, Option, Some, None, Result, Ok, Err, IfErr, IfOk, IsErr, IsErrAnd, List, [], ◌∷◌, ◌++◌, ◌⊎◌, ⊎_elim, sym, ap, ◌∙◌, subst}
 use Rattle.erm_beside.specs.Laws.{GoesOnward}
+use Rattle.erm_client.proofs.Dealt.{dealt_more, dealt_same}
 use Rattle.erm_client.proofs.Grown.{ended_transcript, more_transcript, open_each, run_ends, run_more, run_same, run_starves, same_transcript}
 use Rattle.erm_client.proofs.Told.{line_tells}
-use Rattle.erm_client.specs.Clients.{GoesOn, HasRun, IsClient}
+use Rattle.erm_client.proofs.Watched.{watched_line}
+use Rattle.erm_client.specs.Clients.{GoesOn, HasRun, IsClient, IsSafeWhereTold}
+use Rattle.erm_client.specs.Dealings.{ComesAlone, dealings_of}
 use Rattle.erm_client.specs.declared.client.Client.{Client}
 use Rattle.erm_client.specs.declared.transcript.Standing.{Standing}
 use Rattle.erm_client.specs.declared.transcript.Standing.TheVariants as standing
 use Rattle.erm_client.specs.declared.transcript.Transcript.{Transcript}
 use Rattle.erm_client.specs.declared.refusal.Refusal.{Refusal}
+use Rattle.erm_client.specs.declared.refusal.Refusal.TheVariants as refusal
 use Rattle.erm_client.specs.Refusals.{IsUntold, MayTell, refusal_told}
-use Rattle.erm_client.specs.Transcripts.{EndsWith, HasAnswers, HasMore, IsAnswered, IsAsked, IsLine, IsRefused, IsSame, Starves, over_told}
+use Rattle.erm_client.specs.Transcripts.{EndsWith, HasAnswers, HasMore, IsAnswered, IsAsked, IsLine, IsRefused, IsSame, IsUnended, Starves, over_told}
 use Rattle.erm_client.specs.Transcripts as refused
+use Rattle.erm_good_report.specs.Transactions.{Progress, heard}
+use Rattle.erm_model.specs.declared.outcome.Phase.{Phase}
 use Rattle.erm_model.specs.declared.outcome.Receipt.{Receipt}
 use Rattle.erm_report.specs.declared.answer.Answer.{Answer}
 use Rattle.erm_report.specs.declared.answer.Answer.TheVariants as answer
 use Rattle.erm_script.specs.declared.script.Command.{Command}
+use Rattle.erm_script.specs.declared.script.Command.TheVariants as command
 use Rattle.erm_script.specs.declared.script.ScriptLine.{ScriptLine}
 use Rattle.erm_worker.specs.Work.{IsReady, RanLine}
-use Rattle.erm_world.specs.World.{View}
+use Rattle.erm_world.specs.World.{View, phase_at}
 
 differ : (s : Standing) → s ≡ standing.Open → s ≡ standing.Stopped → ⊥
 differ s opened stopped = cc
@@ -39,6 +46,22 @@ module _ {S T X : Type 0} (stands : X → S → Type 0) (seat : S → ℕ) (own 
       → ((f : View) × ends d.session f) → MayTell l.command a
   answer_tells l a line ran (f, end) = line_tells f l a (own c.session) (own d.session) line.of_client (ran f end)
 
+  -- of its session's snapshot
+  answer_watches : (l : ScriptLine) (a : Answer) → IsLine (seat c.session) l → ((f : View) → ends d.session f → RanLine f l (Some a) (own c.session) (own d.session))
+      → ((f : View) × ends d.session f) → HasMore c.transcript l a d.transcript → IsSafeWhereTold (phase_at (own d.session) (seat d.session)) (dealings_of d.transcript)
+  answer_watches l a line ran (f, end) more =
+      let v = own c.session in
+      let t = own d.session in
+      let p = dealings_of c.transcript in
+      let seated : c.transcript.seat ≡ l.session = client.seat_is ∙ sym line.own in
+      let before : IsSafeWhereTold (phase_at v l.session) p = subst (λ (n : ℕ). IsSafeWhereTold (phase_at v n) p) (sym line.own) (client.watches opened) in
+      let behind : IsSafeWhereTold (phase_at t l.session) (heard l.session (Some l.command) a p) =
+      watched_line f l a v t p line.of_client (line_tells f l a v t line.of_client (ran f end)) (ran f end) before in
+      let dealt : dealings_of d.transcript ≡ heard l.session (Some l.command) a p =
+      dealt_more c.transcript d.transcript l a (open_each c.transcript client.transcript_ok opened) (sym seated) more ∙ ap (λ (n : ℕ). heard n (Some l.command) a p) seated in
+      subst (λ (n : ℕ). IsSafeWhereTold (phase_at t n) (dealings_of d.transcript)) (line.own ∙ sym onward.seat_is)
+      (subst (λ (q : Progress). IsSafeWhereTold (phase_at t l.session) q) (sym dealt) behind)
+
   -- it was answered
   pub answered_goes : (l : ScriptLine) (a : Answer) → IsLine (seat c.session) l → ((f : View) → ends d.session f → RanLine f l (Some a) (own c.session) (own d.session))
       → ((f : View) × ends d.session f) → IsReady ((own d.session).session (seat c.session)) d.receipt → HasMore c.transcript l a d.transcript
@@ -49,6 +72,7 @@ module _ {S T X : Type 0} (stands : X → S → Type 0) (seat : S → ℕ) (own 
       seat_is = more.seat ∙ client.seat_is ∙ sym onward.seat_is;
       transcript_ok = more_transcript c.transcript d.transcript l a client.transcript_ok opened (own_line l line) (answer_tells l a line ran some) more;
       ready = λ now. subst (λ (n : ℕ). IsReady ((own d.session).session n) d.receipt) (sym onward.seat_is) ready;
+      watches = λ now. answer_watches l a line ran some more;
     };
     same = same;
     onward = onward;
@@ -67,6 +91,7 @@ module _ {S T X : Type 0} (stands : X → S → Type 0) (seat : S → ℕ) (own 
       seat_is = stops.seat ∙ client.seat_is ∙ sym onward.seat_is;
       transcript_ok = ended_transcript c.transcript d.transcript l client.transcript_ok opened (own_line l line) stops;
       ready = λ now. absurd (differ d.transcript.standing now stops.standing_so);
+      watches = λ now. absurd (differ d.transcript.standing now stops.standing_so);
     };
     same = same;
     onward = onward;
@@ -85,6 +110,7 @@ module _ {S T X : Type 0} (stands : X → S → Type 0) (seat : S → ℕ) (own 
       transcript_ok = same_transcript c.transcript d.transcript client.transcript_ok starves.seat starves.lines starves.answers
           (subst (λ (s : Standing). HasAnswers s (length c.transcript.lines.items) (length c.transcript.answers.items)) (sym starves.standing_so) (open_each c.transcript client.transcript_ok opened));
       ready = λ now. absurd (starved_open d.transcript.standing starves.standing_so now);
+      watches = λ now. absurd (starved_open d.transcript.standing starves.standing_so now);
     };
     same = same;
     onward = onward;
@@ -103,6 +129,8 @@ module _ {S T X : Type 0} (stands : X → S → Type 0) (seat : S → ℕ) (own 
           (subst (λ (s : Standing). HasAnswers s (length c.transcript.lines.items) (length c.transcript.answers.items)) (sym still.standing_so) client.transcript_ok.each);
       ready = λ now. subst (λ (r : Option Receipt). IsReady ((own d.session).session (seat d.session)) r) (sym receipt)
           (subst (λ (s : S). IsReady ((own s).session (seat s)) c.receipt) (sym session) (client.ready opened));
+      watches = λ now. subst (λ (q : Progress). IsSafeWhereTold (phase_at (own d.session) (seat d.session)) q) (sym (dealt_same c.transcript d.transcript still))
+          (subst (λ (s : S). IsSafeWhereTold (phase_at (own s) (seat s)) (dealings_of c.transcript)) (sym session) (client.watches opened));
     };
     same = same;
     onward = onward;
@@ -150,10 +178,8 @@ module _ (b c d : Transcript) (same : IsSame b c) (asked : Command) where
     number = it.number;
     more = subst (λ (n : ℕ). HasMore b (record { line = it.number; session = n; command = asked }) a d) same.seat (more_same (record { line = it.number; session = c.seat; command = asked }) a it.more);
     tells = it.tells;
+    comes = subst (λ (p : Progress). ComesAlone a p) (dealt_same b c same) it.comes;
   }
-
-  pub asked_same : IsAsked c asked d → IsAsked b asked d
-  asked_same it = record { answer = it.answer; answered = answered_same it.answer it.answered }
 
   pub refused_same : (why : Refusal) → IsRefused c asked why d → IsRefused b asked why d
   refused_same why (refused.answered a it is) = refused.answered a (answered_same a it) is
@@ -169,12 +195,8 @@ module _ (b c d : Transcript) (same : IsSame b c) (asked : Command) where
   if_refused (Ok y) it = tt
   if_refused (Err why) it = refused_same why it
 
-  pub if_asked : {Y E : Type 0} (result : Result Y E) → OnOk result (IsAsked c asked d) → OnOk result (IsAsked b asked d)
-  if_asked (Ok y) it = asked_same it
-  if_asked (Err e) it = tt
-
 -- WHAT IS TOLD of the last answer
-module _ (c d : Transcript) (asked : Command) (w : IsAsked c asked d) (last : Answer) (is : (front : List Answer) (a : Answer) → d.answers.items ≡ front ++ a ∷ [] → last ≡ a) where
+module _ {phase : Phase} (c d : Transcript) (asked : Command) (w : IsAsked phase c asked d) (last : Answer) (is : (front : List Answer) (a : Answer) → d.answers.items ≡ front ++ a ∷ [] → last ≡ a) where
   pub last_is : last ≡ w.answer
   last_is = is c.answers.items w.answer w.answered.more.answers
 
@@ -198,3 +220,14 @@ module _ (c d : Transcript) (asked : Command) (w : IsAsked c asked d) (last : An
   pub told_ok : {Y : Type 0} (P : Y → Answer) (result : Result Y Refusal) → IfOk result (λ y. last ≡ P y) → IfOk result (λ y. IsAnswered c asked (P y) d)
   told_ok P (Ok y) told = subst (λ (a : Answer). IsAnswered c asked a d) (sym last_is ∙ told) w.answered
   told_ok P (Err why) told = tt
+
+-- WHAT IS REFUSED to an end of a snapshot
+pub unended : {Y : Type 0} (c d : Transcript) (result : Result Y Refusal) → IfErr result (λ why. IsRefused c command.Commit why d) → IfErr result (λ why. why ≢ refusal.Ended)
+    → IfErr result (λ why. IsUnended c why d)
+unended c d (Ok y) it other = tt
+unended c d (Err why) it other = refused.refused it other
+
+pub unended_by : {Y : Type 0} (c d : Transcript) (result : Result Y Refusal) (why : Refusal) → IsErr result × IsErrAnd result (λ other. other ≡ why) → IsRefused c command.Commit why d
+    → why ≢ refusal.Ended → IfErr result (λ why. IsUnended c why d)
+unended_by c d (Ok y) why is it other = tt
+unended_by c d (Err w) why is it other = subst (λ (x : Refusal). IsUnended c x d) (sym is.1) (refused.refused it other)

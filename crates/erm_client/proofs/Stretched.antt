@@ -1,19 +1,21 @@
 -- A client's calls as stretches of its transcript, and stretches one behind another.
-use Rattle.std.proofs.Common.{◌≡◌, ℕ, ◌+◌, ◌≤◌, List, [], ◌∷◌, ◌++◌, append-nil, append_assoc, Option, Some, None, refl, sym, ap, ◌∙◌, subst, arith}
+use Rattle.std.proofs.Common.{◌≡◌, ◌≢◌, ℕ, ◌+◌, ◌≤◌, List, [], ◌∷◌, ◌++◌, append-nil, append_assoc, Option, Some, None, refl, sym, ap, ◌∙◌, subst, arith}
 use Rattle.std.proofs.lemmas.List.Elements.{filter_map-append}
 use Rattle.std.proofs.lemmas.List.Sums.{sum_by_push}
-use Rattle.std.specs.List.{cons_option, sum_by}
+use Rattle.std.specs.List.{cons_option, filter_map, sum_by}
 use Rattle.std.specs.Option.{option_map, option_to_list}
 use Rattle.erm_client.proofs.Dealt.{dealt_answered, dealt_ends, dealt_same, dealt_starves}
+use Rattle.erm_client.proofs.Ended.{are_unplaced, ended_more, none_ended}
 use Rattle.erm_client.proofs.Grown.{open_each}
-use Rattle.erm_client.specs.Dealings.{IsAt, begins_by, begins_in, commits_told, dealings_of}
+use Rattle.erm_client.specs.Dealings.{HasNone, IsAt, IsSafeAt, begins_by, begins_in, commits_told, dealings_of, snapshots_told}
 use Rattle.erm_client.specs.declared.refusal.Refusal.{Refusal}
+use Rattle.erm_client.specs.declared.refusal.Refusal.TheVariants as refusal
 use Rattle.erm_client.specs.declared.transcript.Transcript.{Transcript}
-use Rattle.erm_client.specs.Refusals.{refusal_told}
+use Rattle.erm_client.specs.Refusals.{MayTell, refusal_told}
 use Rattle.erm_client.specs.Stretches.{Grew, WasAt, WasRefused, Went}
-use Rattle.erm_client.specs.Transcripts.{EndsWith, HasMore, IsAnswered, IsRefused, IsSame, IsTranscript, Starves}
+use Rattle.erm_client.specs.Transcripts.{EndsWith, HasMore, IsAnswered, IsRefused, IsSame, IsTranscript, IsUnended, Starves}
 use Rattle.erm_client.specs.Transcripts as refused
-use Rattle.erm_good_report.specs.Transactions.{Commits, Ending, Progress, Transaction, committed_of, heard, history_of, with_ending, with_line}
+use Rattle.erm_good_report.specs.Transactions.{Commits, Ending, Progress, Transaction, committed_of, ended_as, heard, history_of, placed_at, said_of, with_end, with_ending, with_line}
 use Rattle.erm_good_report.specs.Transactions as dealt
 use Rattle.erm_model.specs.Committed.{Committed}
 use Rattle.erm_model.specs.declared.operation.Reply.{Reply}
@@ -38,18 +40,29 @@ grew_then {c} {d} {e} first second = record {
   answers = (first.answers.0 ++ second.answers.0, longer c.answers.items d.answers.items e.answers.items first.answers.0 second.answers.0 first.answers.1 second.answers.1);
 }
 
-pub went_itself : (c : Transcript) → Went 0 [] c c
-went_itself c = record { grew = grew_itself c; begins_are = omega arith; commits_are = sym (append-nil (commits_told c)) }
+pub went_itself : (c : Transcript) → Went 0 [] [] c c
+went_itself c = record {
+  grew = grew_itself c;
+  begins_are = omega arith;
+  commits_are = sym (append-nil (commits_told c));
+  snapshots_are = sym (append-nil (snapshots_told c));
+}
 
-pub went_then : {m n : ℕ} {xs ys : List Committed} {c d e : Transcript} → Went m xs c d → Went n ys d e → Went (m + n) (xs ++ ys) c e
-went_then {m} {n} {xs} {ys} {c} {d} {e} first second = record {
+pub went_then : {m n : ℕ} {xs ys ss ts : List Committed} {c d e : Transcript} → Went m xs ss c d → Went n ys ts d e → Went (m + n) (xs ++ ys) (ss ++ ts) c e
+went_then {m} {n} {xs} {ys} {ss} {ts} {c} {d} {e} first second = record {
   grew = grew_then first.grew second.grew;
   begins_are = omega (arith, first.begins_are, second.begins_are);
   commits_are = longer (commits_told c) (commits_told d) (commits_told e) xs ys first.commits_are second.commits_are;
+  snapshots_are = longer (snapshots_told c) (snapshots_told d) (snapshots_told e) ss ts first.snapshots_are second.snapshots_are;
 }
 
-pub went_within : {m n : ℕ} {xs : List Committed} {c d : Transcript} → m ≤ n → Went m xs c d → Went n xs c d
-went_within most went = record { grew = went.grew; begins_are = omega (arith, most, went.begins_are); commits_are = went.commits_are }
+pub went_within : {m n : ℕ} {xs ss : List Committed} {c d : Transcript} → m ≤ n → Went m xs ss c d → Went n xs ss c d
+went_within most went = record {
+  grew = went.grew;
+  begins_are = omega (arith, most, went.begins_are);
+  commits_are = went.commits_are;
+  snapshots_are = went.snapshots_are;
+}
 
 pub refused_amid : {why : Refusal} {b c d e : Transcript} → Grew b c → WasRefused why c d → Grew d e → WasRefused why b e
 refused_amid first was last = record {
@@ -111,15 +124,43 @@ heard_still session asked a p plain = refl
 commits_still : (c d : Transcript) → dealings_of d ≡ dealings_of c → commits_told d ≡ commits_told c ++ []
 commits_still c d same = ap (λ (p : Progress). history_of p.over) same ∙ sym (append-nil (commits_told c))
 
+-- SNAPSHOTS
+snapshots_still : (c d : Transcript) → d.seat ≡ c.seat → (p : Progress) → dealings_of d ≡ p → filter_map (ended_as c.seat) p.snapshots ≡ snapshots_told c → snapshots_told d ≡ snapshots_told c ++ []
+snapshots_still c d seat p dealt same =
+    ap (λ (q : Progress). filter_map (ended_as d.seat) q.snapshots) dealt
+    ∙ ap (λ (n : ℕ). filter_map (ended_as n) p.snapshots) seat
+    ∙ same
+    ∙ sym (append-nil (snapshots_told c))
+
+snapshots_same : (c d : Transcript) → d.seat ≡ c.seat → dealings_of d ≡ dealings_of c → snapshots_told d ≡ snapshots_told c ++ []
+snapshots_same c d seat same = snapshots_still c d seat (dealings_of c) same refl
+
+-- where a refusal tells that a snapshot has ended, there is none in progress: so none ended
+abbrev pub EndsNone : Transcript → Command → Refusal → Type 0
+EndsNone c asked why = (a : Answer) → MayTell asked a → refusal_told a ≡ Some why → a ≡ answer.Ended → HasNone c
+
+-- so it is of commands that are never refused so, and where the refusal is another
+pub never_ends : (c : Transcript) (asked : Command) (why : Refusal) → (MayTell asked answer.Ended → ⊥) → EndsNone c asked why
+never_ends c asked why never = λ a tells told is. absurd (never (subst (λ (x : Answer). MayTell asked x) is tells))
+
+pub ends_otherwise : (c : Transcript) (asked : Command) (why : Refusal) → why ≢ refusal.Ended → EndsNone c asked why
+ends_otherwise c asked why other = λ a tells told is.
+    let so : Some refusal.Ended ≡ Some why = sym (ap refusal_told is) ∙ told in
+    absurd (other (cc))
+
 module _ (c d : Transcript) (ok : IsTranscript c) where
-  -- an answer that is no commit
-  pub went_answered : (asked : Command) (a : Answer) → ((stamp succ pred : ℕ) → a ≡ answer.Committed stamp succ pred → ⊥) → IsAnswered c asked a d → Went (begins_by asked) [] c d
-  went_answered asked a plain answered =
+  -- an answer that is no commit, and no end of a snapshot
+  pub went_answered : (asked : Command) (a : Answer) → ((stamp succ pred : ℕ) → a ≡ answer.Committed stamp succ pred → ⊥) → (a ≡ answer.Ended → HasNone c) → IsAnswered c asked a d
+      → Went (begins_by asked) [] [] c d
+  went_answered asked a plain none answered =
       let line : ScriptLine = record { line = answered.number; session = c.seat; command = asked } in
+      let dealt = dealt_answered c d asked a ok answered in
       record {
         grew = more_grew c d line a answered.more;
         begins_are = omega (arith, begins_more c d line answered.more.lines);
-        commits_are = ap (λ (p : Progress). history_of p.over) (dealt_answered c d asked a ok answered) ∙ heard_still c.seat (Some asked) a (dealings_of c) plain ∙ sym (append-nil (commits_told c));
+        commits_are = ap (λ (p : Progress). history_of p.over) dealt ∙ heard_still c.seat (Some asked) a (dealings_of c) plain ∙ sym (append-nil (commits_told c));
+        snapshots_are = snapshots_still c d answered.more.seat (heard c.seat (Some asked) a (dealings_of c)) dealt
+            (none_ended c.seat (Some asked) a (dealings_of c) (are_unplaced c.seat (said_of c.lines.items c.answers.items)) none);
       }
 
   unrefused : (a : Answer) (stamp succ pred : ℕ) (why : Refusal) → a ≡ answer.Committed stamp succ pred → refusal_told a ≡ Some why → ⊥
@@ -128,27 +169,42 @@ module _ (c d : Transcript) (ok : IsTranscript c) where
   uncommitted : (r : Reply) (stamp succ pred : ℕ) → answer.Replied r ≡ answer.Committed stamp succ pred → ⊥
   uncommitted r stamp succ pred now = cc
 
+  unended : (r : Reply) → answer.Replied r ≡ answer.Ended → ⊥
+  unended r now = cc
+
+  -- nothing was asked
+  unasked : (asked : Command) → IsSame c d → Went (begins_by asked) [] [] c d
+  unasked asked same = record {
+    grew = same_grew c d same;
+    begins_are = omega (arith, begins_still c d same.lines);
+    commits_are = commits_still c d (dealt_same c d same);
+    snapshots_are = snapshots_same c d same.seat (dealt_same c d same);
+  }
+
   -- a refusal
-  pub went_refused : (asked : Command) (why : Refusal) → IsRefused c asked why d → Went (begins_by asked) [] c d
-  went_refused asked why (refused.answered a did is) = went_answered asked a (λ stamp succ pred now. unrefused a stamp succ pred why now is) did
-  went_refused asked why (refused.untold r did is) = went_answered asked (answer.Replied r) (uncommitted r) did
-  went_refused asked why (refused.stopped number opened is ends) =
+  pub went_refused : (asked : Command) (why : Refusal) → EndsNone c asked why → IsRefused c asked why d → Went (begins_by asked) [] [] c d
+  went_refused asked why none (refused.answered a did is) = went_answered asked a (λ stamp succ pred now. unrefused a stamp succ pred why now is) (none a did.tells is) did
+  went_refused asked why none (refused.untold r did is) = went_answered asked (answer.Replied r) (uncommitted r) (λ now. absurd (unended r now)) did
+  went_refused asked why none (refused.stopped number opened is ends) =
       let line : ScriptLine = record { line = number; session = c.seat; command = asked } in
       record {
         grew = ends_grew c d line ends;
         begins_are = omega (arith, begins_more c d line ends.lines);
         commits_are = commits_still c d (dealt_ends c d line (open_each c ok opened) ends);
+        snapshots_are = snapshots_same c d ends.seat (dealt_ends c d line (open_each c ok opened) ends);
       }
-  went_refused asked why (refused.starved opened is starves) =
-      record { grew = starves_grew c d starves; begins_are = omega (arith, begins_still c d starves.lines); commits_are = commits_still c d (dealt_starves c d starves) }
-  went_refused asked why (refused.unasked opened is same) =
-      record { grew = same_grew c d same; begins_are = omega (arith, begins_still c d same.lines); commits_are = commits_still c d (dealt_same c d same) }
-  went_refused asked why (refused.over is same) =
-      record { grew = same_grew c d same; begins_are = omega (arith, begins_still c d same.lines); commits_are = commits_still c d (dealt_same c d same) }
+  went_refused asked why none (refused.starved opened is starves) = record {
+    grew = starves_grew c d starves;
+    begins_are = omega (arith, begins_still c d starves.lines);
+    commits_are = commits_still c d (dealt_starves c d starves);
+    snapshots_are = snapshots_same c d starves.seat (dealt_starves c d starves);
+  }
+  went_refused asked why none (refused.unasked opened is same) = unasked asked same
+  went_refused asked why none (refused.over is same) = unasked asked same
 
   -- a commit
   pub went_committed : (stamp succ pred : ℕ) (steps : List Step) → IsAt c steps → IsAnswered c command.Commit (answer.Committed stamp succ pred) d
-      → (x : Committed) × (x.steps ≡ steps) × Went 0 (x ∷ []) c d
+      → (x : Committed) × (x.steps ≡ steps) × Went 0 (x ∷ []) [] c d
   went_committed stamp succ pred steps at answered =
       let line : ScriptLine = record { line = answered.number; session = c.seat; command = command.Commit } in
       let t = at.current in
@@ -162,8 +218,42 @@ module _ (c d : Transcript) (ok : IsTranscript c) where
               ap (λ (p : Progress). history_of p.over) (dealt_answered c d command.Commit (answer.Committed stamp succ pred) ok answered)
               ∙ ap (λ (o : Option Transaction). history_of ((dealings_of c).over ++ option_to_list (option_map (with_ending (Commits stamp succ pred)) o))) at.is
               ∙ filter_map-append committed_of (dealings_of c).over (with_ending (Commits stamp succ pred) t ∷ []);
+          snapshots_are = snapshots_still c d answered.more.seat (heard c.seat (Some command.Commit) (answer.Committed stamp succ pred) (dealings_of c))
+              (dealt_answered c d command.Commit (answer.Committed stamp succ pred) ok answered)
+              (none_ended c.seat (Some command.Commit) (answer.Committed stamp succ pred) (dealings_of c) (are_unplaced c.seat (said_of c.lines.items c.answers.items)) (λ is. absurd (apart is)));
         },
       )
+    where
+      apart : answer.Committed stamp succ pred ≡ answer.Ended → ⊥
+      apart is = cc
+
+  -- an end of a snapshot
+  pub went_ended : (begin : ℕ) (steps : List Step) → IsSafeAt c begin steps → IsAnswered c command.Commit answer.Ended d
+      → (x : Committed) × (x.steps ≡ steps) × (x.begin ≡ begin) × Went 0 [] (x ∷ []) c d
+  went_ended begin steps at answered =
+      let line : ScriptLine = record { line = answered.number; session = c.seat; command = command.Commit } in
+      let dealt = dealt_answered c d command.Commit answer.Ended ok answered in (
+        placed_at c.seat (with_end at.current) begin,
+        at.steps_are,
+        refl,
+        record {
+          grew = more_grew c d line answer.Ended answered.more;
+          begins_are = omega (arith, begins_more c d line answered.more.lines);
+          commits_are = ap (λ (p : Progress). history_of p.over) dealt ∙ heard_still c.seat (Some command.Commit) answer.Ended (dealings_of c) apart ∙ sym (append-nil (commits_told c));
+          snapshots_are =
+              ap (λ (q : Progress). filter_map (ended_as d.seat) q.snapshots) dealt
+              ∙ ap (λ (n : ℕ). filter_map (ended_as n) (heard c.seat (Some command.Commit) answer.Ended (dealings_of c)).snapshots) answered.more.seat
+              ∙ ended_more c.seat (dealings_of c) at.current begin at.is at.begin_is;
+        },
+      )
+    where
+      apart : (stamp succ pred : ℕ) → answer.Ended ≡ answer.Committed stamp succ pred → ⊥
+      apart stamp succ pred is = cc
+
+  -- or none
+  pub went_unended : (why : Refusal) → IsUnended c why d → Went 0 [] [] c d
+  went_unended why (refused.refused it other) = went_refused command.Commit why (ends_otherwise c command.Commit why other) it
+  went_unended why (refused.none is none same) = unasked command.Commit same
 
   pub refused_now : (asked : Command) (why : Refusal) → IsRefused c asked why d → WasRefused why c d
   refused_now asked why is = record { before = c; after = d; asked = asked; since = grew_itself c; refused = is; until = grew_itself d }

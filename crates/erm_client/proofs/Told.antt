@@ -1,8 +1,8 @@
 -- What a client's line is answered: what it asked for, or a refusal. It is never answered that it waits.
 use Rattle.std.proofs.Common.{◌≡◌, ℕ, Option, Some, None, refl, sym, subst}
-use Rattle.erm_client.specs.Refusals.{IsOfClient, MayTell, TellsAbort, TellsBegin, TellsCommit, TellsDone, TellsDurable, TellsFound, TellsPair, TellsValue}
+use Rattle.erm_client.specs.Refusals.{IsOfClient, MayTell, TellsAbort, TellsBegin, TellsCommit, TellsDone, TellsDurable, TellsFound, TellsPair, TellsSafe, TellsValue}
 use Rattle.erm_good_report.specs.Phases.{FitsPhase, IsAnswerTo, refusal_of}
-use Rattle.erm_lines_at_once.specs.Answers.{DidAskedBeside, DidCommandBeside, DidInBeside, DidLineBeside, DidOfSnapshotBeside}
+use Rattle.erm_lines_at_once.specs.Answers.{DidAskSafeBeside, DidAskSnapshotBeside, DidAskedBeside, DidCommandBeside, DidInBeside, DidLineBeside, DidOfSnapshotBeside}
 use Rattle.erm_lines_at_once.specs.Operations.{DidOperationBeside, told_at_once}
 use Rattle.erm_model.specs.declared.operation.Reply.TheVariants as reply
 use Rattle.erm_model.specs.declared.outcome.Phase.{Phase}
@@ -100,6 +100,17 @@ module _ (f : View) (seat : ℕ) (v t : View) where
   durable (answer.NotFlushed flushed) fits did = absurd did
   durable a fits did = absurd fits
 
+  -- a snapshot that was begun, and asked
+  asked : (u : View) (a : Answer) → DidAskSafeBeside f seat a u t → TellsSafe a
+  asked u (answer.Safe stamp) did = tt
+  asked u (answer.Unsafe other stamp) did = refl
+  asked u a did = absurd did
+
+  snapshot : (a : Answer) → DidAskSnapshotBeside f seat a v t → TellsSafe a
+  snapshot (answer.LogEnd tail) did = refl
+  snapshot answer.NumbersEnd did = refl
+  snapshot a did = asked did.between a did.asked
+
   -- of a session with a snapshot
   value_seen : (table key : ℕ) (a : Answer) → IsAnswerTo (command.Get table key) a → DidOfSnapshotBeside f seat (command.Get table key) a v t → TellsValue a
   value_seen table key (answer.Replied (reply.Value found)) fits did = tt
@@ -117,7 +128,7 @@ module _ (f : View) (seat : ℕ) (v t : View) where
   scan_seen table low high a fits did = absurd did
 
   ended : (a : Answer) → DidOfSnapshotBeside f seat command.Commit a v t → TellsCommit a
-  ended answer.Ended did = refl
+  ended answer.Ended did = tt
   ended a did = absurd did
 
   durable_seen : (a : Answer) → DidOfSnapshotBeside f seat command.Durable a v t → TellsDurable a
@@ -144,6 +155,11 @@ module _ (f : View) (seat : ℕ) (v t : View) where
   may_tell Sealed command.Begin a of fits did = refused TellsBegin answer.NotIdle a refl fits
   may_tell Pending command.Begin a of fits did = refused TellsBegin answer.NotIdle a refl fits
   may_tell Safe command.Begin a of fits did = refused TellsBegin answer.NotIdle a refl fits
+  may_tell Idle command.Safe a of fits did = snapshot a did
+  may_tell Active command.Safe a of fits did = refused TellsSafe answer.NotIdle a refl fits
+  may_tell Sealed command.Safe a of fits did = refused TellsSafe answer.NotIdle a refl fits
+  may_tell Pending command.Safe a of fits did = asked v a did
+  may_tell Safe command.Safe a of fits did = refused TellsSafe answer.NotIdle a refl fits
   may_tell Idle (command.Get table key) a of fits did = refused TellsValue answer.NoTransaction a refl fits
   may_tell Active (command.Get table key) a of fits did = value table key a fits did
   may_tell Sealed (command.Get table key) a of fits did = refused TellsValue answer.IsSealed a refl fits

@@ -1,18 +1,22 @@
 -- Clients: what is so of one between its calls, and how it goes on from one call to the next.
-use Rattle.std.specs.Prelude.{◌≡◌, ℕ, List, Option}
+use Rattle.std.specs.Prelude.{◌≡◌, ℕ, List, Option, IfSome}
 use Rattle.erm_beside.specs.Laws.{GoesOnward}
+use Rattle.erm_client.specs.Dealings.{dealings_of}
 use Rattle.erm_client.specs.declared.client.Client.{Client}
 use Rattle.erm_client.specs.declared.transcript.Standing.{Standing}
 use Rattle.erm_client.specs.declared.transcript.Standing.TheVariants as standing
 use Rattle.erm_client.specs.declared.transcript.Transcript.{Transcript}
 use Rattle.erm_client.specs.Transcripts.{IsTranscript}
+use Rattle.erm_good_report.specs.Transactions.{Progress}
 use Rattle.erm_lines.specs.Executions.{line_moves}
+use Rattle.erm_model.specs.declared.outcome.Phase.{Phase}
+use Rattle.erm_model.specs.declared.outcome.Phase.TheVariants.{Safe}
 use Rattle.erm_lines_at_once.specs.Executions.{IsOwnRun}
 use Rattle.erm_report.specs.declared.answer.Answer.{Answer}
 use Rattle.erm_script.specs.declared.script.ScriptLine.{ScriptLine}
 use Rattle.erm_threads.specs.Work.{DidWork}
 use Rattle.erm_worker.specs.Work.{IsReady, RanLines}
-use Rattle.erm_world.specs.World.{View}
+use Rattle.erm_world.specs.World.{View, phase_at}
 
 -- The lines were answered in order, with others going on between, and the session was left where its client was told to stop. Where memory ran out
 -- it did these lines, and no more is known.
@@ -29,13 +33,18 @@ HasRun f v c t = RanUpTo c.standing f c.seat c.lines.items c.answers.items v t
 abbrev pub RunsOn : (View → Type 0) → Transcript → View → (View → Type 0) → Transcript → View → Type 0
 RunsOn before c u after d t = (v : View) → ((f : View) → before f → HasRun f v c u) → (f : View) → after f → HasRun f v d t
 
+-- the session of a snapshot that is told to be in progress has a safe one
+abbrev pub IsSafeWhereTold : Phase → Progress → Type 0
+IsSafeWhereTold phase p = IfSome p.snapshot (λ _. phase ≡ Safe)
+
 -- Of sessions that stand so on what they share, are of such seats and know so much: a client between its calls. Where it isn't over, its session is ready
--- for the next line.
+-- for the next line, and has the snapshot that its transcript tells, if it tells one.
 pub record IsClient {S T X : Type 0} (stands : X → S → Type 0) (seat : S → ℕ) (own : S → View) (c : Client S T X) : Type 0 where
   pub stands_so : stands c.shared.now c.session
   pub seat_is : c.transcript.seat ≡ seat c.session
   pub transcript_ok : IsTranscript c.transcript
   pub ready : c.transcript.standing ≡ standing.Open → IsReady ((own c.session).session (seat c.session)) c.receipt
+  pub watches : c.transcript.standing ≡ standing.Open → IsSafeWhereTold (phase_at (own c.session) (seat c.session)) (dealings_of c.transcript)
 
 -- A client goes on, whatever it is answered. Where it is told to stop, it was so by what it waits by; and from then on it stays as it is.
 pub record GoesOn {S T X : Type 0} (stands : X → S → Type 0) (seat : S → ℕ) (own : S → View) (ends : S → View → Type 0) (told : T → Type 0) (c d : Client S T X) : Type 0 where

@@ -17,6 +17,7 @@ refusal_told answer.IsSealed = Some refusal.IsSealed
 refusal_told answer.ReadOnly = Some refusal.ReadOnly
 refusal_told answer.NotSafe = Some refusal.NotSafe
 refusal_told answer.Ended = Some refusal.Ended
+refusal_told (answer.Unsafe seat stamp) = Some (refusal.Unsafe seat stamp)
 refusal_told (answer.LogEnd tail) = Some (refusal.LogEnd tail)
 refusal_told answer.NumbersEnd = Some refusal.NumbersEnd
 refusal_told (answer.Owned seat number) = Some (refusal.Owned seat number)
@@ -30,14 +31,20 @@ refusal_told (answer.OidsFull drawn) = Some (refusal.OidsFull drawn)
 refusal_told answer.NoReceipt = Some refusal.NoReceipt
 refusal_told a = None
 
--- an answer tells a refusal
+-- an answer tells a refusal; that a snapshot has ended is one to a commit alone
 abbrev pub IsRefusal : Answer → Type 0
+IsRefusal answer.Ended = ⊥
 IsRefusal a = IsSome (refusal_told a)
 
--- an answer to a begin, a get, a put or del, a next, a scan, a commit, an abort, and to whether the last commit is on the disk: or a refusal
+-- an answer to a begin, a safe, a get, a put or del, a next, a scan, a commit, an end of a snapshot, an abort, and to whether the last commit is on the
+-- disk: or a refusal
 abbrev pub TellsBegin : Answer → Type 0
 TellsBegin (answer.Began begin) = Unit {0}
 TellsBegin a = IsRefusal a
+
+abbrev pub TellsSafe : Answer → Type 0
+TellsSafe (answer.Safe begin) = Unit {0}
+TellsSafe a = IsRefusal a
 
 abbrev pub TellsValue : Answer → Type 0
 TellsValue (answer.Replied (reply.Value value)) = Unit {0}
@@ -57,7 +64,12 @@ TellsFound a = IsRefusal a
 
 abbrev pub TellsCommit : Answer → Type 0
 TellsCommit (answer.Committed stamp succ pred) = Unit {0}
+TellsCommit answer.Ended = Unit {0}
 TellsCommit a = IsRefusal a
+
+abbrev pub TellsEnd : Answer → Type 0
+TellsEnd answer.Ended = Unit {0}
+TellsEnd a = IsRefusal a
 
 abbrev pub TellsAbort : Answer → Type 0
 TellsAbort answer.Aborted = Unit {0}
@@ -70,6 +82,7 @@ TellsDurable a = IsRefusal a
 -- what a client's line may be answered, by its command
 abbrev pub MayTell : Command → Answer → Type 0
 MayTell command.Begin a = TellsBegin a
+MayTell command.Safe a = TellsSafe a
 MayTell (command.Get table key) a = TellsValue a
 MayTell (command.Put table key value) a = TellsDone a
 MayTell (command.Del table key) a = TellsDone a
@@ -88,7 +101,6 @@ pub record IsUntold (a : Answer) (why : Refusal) : Type 0 where
 
 -- the commands that a client has
 abbrev pub IsOfClient : Command → Type 0
-IsOfClient command.Safe = ⊥
 IsOfClient (command.Tidy table key) = ⊥
 IsOfClient command.Seal = ⊥
 IsOfClient command.Settle = ⊥

@@ -1,6 +1,6 @@
 -- Stretches of a client's transcript, from one moment to a later one: what it has more, and what was so in between.
 use Rattle.std.specs.Prelude.{◌≡◌, ℕ, ◌+◌, ◌≤◌, List, ◌++◌}
-use Rattle.erm_client.specs.Dealings.{IsAt, begins_in, commits_told}
+use Rattle.erm_client.specs.Dealings.{IsAt, begins_in, commits_told, snapshots_told}
 use Rattle.erm_client.specs.declared.refusal.Refusal.{Refusal}
 use Rattle.erm_client.specs.declared.transcript.Transcript.{Transcript}
 use Rattle.erm_client.specs.Transcripts.{IsRefused}
@@ -16,11 +16,12 @@ pub record Grew (c d : Transcript) : Type 0 where
   pub lines : (more : List ScriptLine) × (d.lines.items ≡ c.lines.items ++ more)
   pub answers : (more : List Answer) × (d.answers.items ≡ c.answers.items ++ more)
 
--- In between at most so many lines were begins, and just these transactions committed.
-pub record Went (begins : ℕ) (commits : List Committed) (c d : Transcript) : Type 0 where
+-- In between at most so many lines were begins, just these transactions committed, and just these snapshots ended.
+pub record Went (begins : ℕ) (commits snapshots : List Committed) (c d : Transcript) : Type 0 where
   pub grew : Grew c d
   pub begins_are : begins_in d ≤ begins_in c + begins
   pub commits_are : commits_told d ≡ commits_told c ++ commits
+  pub snapshots_are : snapshots_told d ≡ snapshots_told c ++ snapshots
 
 -- In between a command was refused so.
 pub record WasRefused (why : Refusal) (c d : Transcript) : Type 0 where

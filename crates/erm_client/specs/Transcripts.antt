@@ -1,17 +1,21 @@
 -- What a client's transcript has: the lines that were asked of its session, in order, and their answers.
-use Rattle.std.specs.Prelude.{◌≡◌, ℕ, ◌+◌, ◌<◌, [], ◌∷◌, ◌++◌, length, Option, Some, None, vec_capacity, vec_len}
+use Rattle.std.specs.Prelude.{◌≡◌, ◌≢◌, ℕ, ◌+◌, ◌<◌, [], ◌∷◌, ◌++◌, length, Option, Some, None, true, vec_capacity, vec_len}
 use Rattle.std.specs.List.{slice_get}
+use Rattle.erm_client.specs.Dealings.{ComesAlone, HasNone, dealings_of}
 use Rattle.erm_client.specs.declared.refusal.Refusal.{Refusal}
 use Rattle.erm_client.specs.declared.refusal.Refusal.TheVariants as refusal
 use Rattle.erm_client.specs.declared.transcript.Standing.{Standing}
 use Rattle.erm_client.specs.declared.transcript.Standing.TheVariants as standing
 use Rattle.erm_client.specs.declared.transcript.Transcript.{Transcript}
-use Rattle.erm_client.specs.Refusals.{IsOfClient, MayTell, refusal_told}
+use Rattle.erm_client.specs.Refusals.{IsOfClient, MayTell, TellsEnd, refusal_told}
+use Rattle.erm_lines.specs.Whole.{is_snapshot}
 use Rattle.erm_model.specs.Member.{◌∈◌}
 use Rattle.erm_model.specs.declared.operation.Reply.{Reply}
+use Rattle.erm_model.specs.declared.outcome.Phase.{Phase}
 use Rattle.erm_report.specs.declared.answer.Answer.{Answer}
 use Rattle.erm_report.specs.declared.answer.Answer.TheVariants as answer
 use Rattle.erm_script.specs.declared.script.Command.{Command}
+use Rattle.erm_script.specs.declared.script.Command.TheVariants as command
 use Rattle.erm_script.specs.declared.script.ScriptLine.{ScriptLine}
 use Rattle.erm_script.specs.Script.{IsInRange}
 use Rattle.erm_worker.specs.Work.{MayBeAsked}
@@ -81,11 +85,13 @@ pub record IsAnswered (c : Transcript) (asked : Command) (a : Answer) (d : Trans
   pub number : ℕ
   pub more : HasMore c (record { line = number; session = c.seat; command = asked }) a d
   pub tells : MayTell asked a
+  pub comes : ComesAlone a (dealings_of c)
 
--- it was answered
-pub record IsAsked (c : Transcript) (asked : Command) (d : Transcript) : Type 0 where
+-- It was answered, in a session in this phase: where that has a snapshot, a commit ends it or is refused.
+pub record IsAsked (phase : Phase) (c : Transcript) (asked : Command) (d : Transcript) : Type 0 where
   pub answer : Answer
   pub answered : IsAnswered c asked answer d
+  pub ends : is_snapshot phase ≡ true → asked ≡ command.Commit → TellsEnd answer
 
 -- the refusal of a client that is asked no more
 abbrev pub over_told : Standing → Option Refusal
@@ -108,3 +114,10 @@ pub data IsRefused (c : Transcript) (asked : Command) (why : Refusal) (d : Trans
   unasked : c.standing ≡ standing.Open → why ≡ refusal.Memory → IsSame c d → IsRefused c asked why d
   -- the client is asked no more
   over : over_told c.standing ≡ Some why → IsSame c d → IsRefused c asked why d
+
+-- Why a snapshot wasn't ended, and what the transcript has of it.
+pub data IsUnended (c : Transcript) (why : Refusal) (d : Transcript) : Type 0 where
+  -- the commit that was to end it was refused, and not because it ended
+  refused : IsRefused c command.Commit why d → why ≢ refusal.Ended → IsUnended c why d
+  -- the session has none, and so nothing was asked
+  none : why ≡ refusal.NoSnapshot → HasNone c → IsSame c d → IsUnended c why d

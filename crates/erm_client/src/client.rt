@@ -1,10 +1,12 @@
 //! A client: a session with the transcript of what was asked of it.
-ghost use Rattle.std.specs.Prelude.{◌≡◌, ◌<◌, IfErr, IfOk, None, OnOk};
+ghost use Rattle.std.specs.Prelude.{◌≡◌, ◌≢◌, ◌<◌, IfErr, IfOk, None, OnOk, false, true};
 ghost use Rattle.std.specs.List.{All};
 ghost use Rattle.erm_beside.specs.Laws.{GoesOnward};
 ghost use Rattle.erm_client.specs.Clients.{FinishesWork, GoesOn, HasRun, IsClient};
+ghost use Rattle.erm_client.specs.Dealings.{HasNone};
 ghost use Rattle.erm_client.specs.Refusals.{IsOfClient};
-ghost use Rattle.erm_client.specs.Transcripts.{HasRoom, IsAnswered, IsAsked, IsLine, IsNew, IsRefused};
+ghost use Rattle.erm_client.specs.Transcripts.{HasRoom, IsAnswered, IsAsked, IsLine, IsNew, IsRefused, IsUnended};
+ghost use Rattle.erm_lines.specs.Whole.{is_snapshot};
 ghost use Rattle.erm_model.specs.declared.outcome.Phase.TheVariants.{Active, Sealed};
 ghost use Rattle.erm_model.specs.RowTransaction.{SameLaw};
 ghost use Rattle.erm_node.specs.Sound.{sound_law};
@@ -14,10 +16,12 @@ ghost use Rattle.erm_world.specs.World.{View, phase_at};
 
 use crate::line::{end, give_up, run_next};
 use crate::replies::{
-    Commit, abort_in, begin_in, commit_in, done_in, durable_in, found_in, pair_in, value_in,
+    Commit, abort_in, begin_in, commit_in, done_in, durable_in, end_in, found_in, pair_in, safe_in,
+    value_in,
 };
 use crate::{Refusal, Standing, Transcript};
 use erm_beside::{SafeSession, SharedSession};
+use erm_lines_at_once::has_snapshot;
 use erm_model::{Pairs, Receipt, Reply, Seat, Stamp, TABLES, Value};
 use erm_report::Answer;
 use erm_script::{Command, ScriptLine};
@@ -90,8 +94,9 @@ impl<'a, S: SafeSession, T: Turns> Client<'a, S, T> {
         requires room { HasRoom self.old.transcript }
         requires line { IsLine (S.seat self.old.session) line }
         ensures on { GoesOn S.stands S.seat S.own S.ends T.told self.old self.new }
-        ensures ok { OnOk result (IsAsked self.old.transcript line.command self.new.transcript) }
+        ensures ok { OnOk result (IsAsked (phase_at (S.own self.old.session) (S.seat self.old.session)) self.old.transcript line.command self.new.transcript) }
         ensures err { IfErr result (λ why. IsRefused self.old.transcript line.command why self.new.transcript) }
+        ensures other { IfErr result (λ why. why ≢ Refusal.Ended) }
     {
         match run_next(
             rt,
@@ -125,8 +130,9 @@ impl<'a, S: SafeSession, T: Turns> Client<'a, S, T> {
         requires of { IsOfClient command }
         requires range { IsInRange command }
         ensures on { GoesOn S.stands S.seat S.own S.ends T.told self.old self.new }
-        ensures ok { OnOk result (IsAsked self.old.transcript command self.new.transcript) }
+        ensures ok { OnOk result (IsAsked (phase_at (S.own self.old.session) (S.seat self.old.session)) self.old.transcript command self.new.transcript) }
         ensures err { IfErr result (λ why. IsRefused self.old.transcript command why self.new.transcript) }
+        ensures other { IfErr result (λ why. why ≢ Refusal.Ended) }
     {
         match self.transcript.standing {
             Standing::Open => {}
@@ -150,6 +156,19 @@ impl<'a, S: SafeSession, T: Turns> Client<'a, S, T> {
     {
         self.ask(rt, Command::Begin)?;
         begin_in(self.transcript.last())
+    }
+
+    /// Begins a snapshot, which only reads, and waits until it is known whether it is safe: its begin stamp. It sees what had committed by its begin, and
+    /// no more, and what is asked of it is never refused for others, nor is anything of others for it.
+    pub fn safe<R: Wait>(&mut self, rt: &R) -> Result<Stamp, Refusal>
+        requires law { SameLaw S.law sound_law }
+        requires client { IsClient S.stands S.seat S.own self.old }
+        ensures on { GoesOn S.stands S.seat S.own S.ends T.told self.old self.new }
+        ensures ok { IfOk result (λ begin. IsAnswered self.old.transcript Command.Safe (Answer.Safe begin) self.new.transcript) }
+        ensures err { IfErr result (λ why. IsRefused self.old.transcript Command.Safe why self.new.transcript) }
+    {
+        self.ask(rt, Command::Safe)?;
+        safe_in(self.transcript.last())
     }
 
     /// Reads the value of a key, if it has one.
@@ -241,7 +260,34 @@ impl<'a, S: SafeSession, T: Turns> Client<'a, S, T> {
         commit_in(self.transcript.last())
     }
 
-    /// Gives the transaction up: nothing of it stays.
+    // Whether it may be asked, and its session has no snapshot.
+    fn has_no_snapshot(&self) -> bool
+        requires client { IsClient S.stands S.seat S.own self.now }
+        ensures none { result ≡ true → HasNone self.now.transcript }
+        ensures some { result ≡ false → self.now.transcript.standing ≡ Standing.Open → is_snapshot (phase_at (S.own self.now.session) (S.seat self.now.session)) ≡ true }
+    {
+        match self.transcript.standing {
+            Standing::Open => !has_snapshot(self.session.phase(self.shared)),
+            _ => false,
+        }
+    }
+
+    /// Ends the snapshot: it has its place in the serial order, in front of all that commit at its begin stamp or later. A transaction isn't ended so.
+    pub fn end<R: Wait>(&mut self, rt: &R) -> Result<(), Refusal>
+        requires law { SameLaw S.law sound_law }
+        requires client { IsClient S.stands S.seat S.own self.old }
+        ensures on { GoesOn S.stands S.seat S.own S.ends T.told self.old self.new }
+        ensures ok { OnOk result (IsAnswered self.old.transcript Command.Commit Answer.Ended self.new.transcript) }
+        ensures err { IfErr result (λ why. IsUnended self.old.transcript why self.new.transcript) }
+    {
+        if self.has_no_snapshot() {
+            return Err(Refusal::NoSnapshot);
+        }
+        self.ask(rt, Command::Commit)?;
+        end_in(self.transcript.last())
+    }
+
+    /// Gives the transaction up: nothing of it stays. A snapshot is over then, without a place in the serial order.
     pub fn abort<R: Wait>(&mut self, rt: &R) -> Result<(), Refusal>
         requires law { SameLaw S.law sound_law }
         requires client { IsClient S.stands S.seat S.own self.old }

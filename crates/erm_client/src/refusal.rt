@@ -1,5 +1,5 @@
 //! Why a call is refused.
-ghost use Rattle.std.specs.Prelude.{◌≡◌, Some};
+ghost use Rattle.std.specs.Prelude.{◌≡◌, ◌≢◌, Some};
 ghost use Rattle.erm_client.specs.Refusals.{IsRefusal, refusal_told};
 
 use erm_model::{Seat, Stamp};
@@ -9,8 +9,8 @@ use thiserror::Error;
 /// Why a call of a client is refused.
 #[derive(Clone, Copy, Debug, PartialEq, Eq, Error)]
 pub enum Refusal {
-    /// A transaction is begun, and the last one isn't over. It goes on as before.
-    #[error("the session has a transaction already")]
+    /// A transaction is begun, or a snapshot, and the last one isn't over. It goes on as before.
+    #[error("the session has a transaction or a snapshot already")]
     NotIdle,
     /// There is no transaction.
     #[error("the session has no transaction")]
@@ -18,20 +18,27 @@ pub enum Refusal {
     /// The transaction is sealed, and isn't decided.
     #[error("the session's transaction is sealed")]
     IsSealed,
-    /// The session was given with a snapshot, which only reads. It goes on as before.
+    /// The session has a snapshot, which only reads. It goes on as before.
     #[error("the session has a snapshot, which only reads")]
     ReadOnly,
     /// The session was given with a snapshot, which isn't known to be safe. It goes on as before.
     #[error("the session's snapshot isn't known to be safe")]
     NotSafe,
-    /// The session was given with a snapshot, which has ended: there was nothing to commit.
+    /// A commit of a session with a safe snapshot: this has ended, and has its place in the serial order, but there was nothing to commit.
     #[error("the session's snapshot has ended, and committed nothing")]
     Ended,
-    /// No transaction begins any more, since the log has come as far as this, in words.
+    /// The session has no snapshot that could be ended. Nothing was asked; its transaction, if it has one, goes on as before.
+    #[error("the session has no snapshot")]
+    NoSnapshot,
+    /// The snapshot isn't known to be safe: the commit of this seat and stamp, not below the snapshot's begin, has its turn before its stamp. The
+    /// snapshot is over: it may be begun again.
+    #[error("the commit of session {seat} and stamp {stamp} has its turn before its stamp")]
+    Unsafe { seat: Seat, stamp: Stamp },
+    /// No transaction begins any more, and no snapshot, since the log has come as far as this, in words.
     #[error("the log has come to its end, at {tail}")]
     LogEnd { tail: Stamp },
-    /// The session has no number left for a transaction.
-    #[error("the session has no number left for a transaction")]
+    /// The session has no number left for a transaction or a snapshot.
+    #[error("the session has no number left for a transaction or a snapshot")]
     NumbersEnd,
     /// The transaction of this seat and number has written the key, or a node on the way to it. The own one has ended, and leaves nothing: it may be
     /// begun again.
@@ -60,7 +67,7 @@ pub enum Refusal {
     /// The session has committed nothing that could be on the disk.
     #[error("the session has committed nothing")]
     NoReceipt,
-    /// The client was told to stop. It is asked no more; its transaction was given up, unless it is sealed.
+    /// The client was told to stop. It is asked no more; its transaction was given up, unless it is sealed. A snapshot stays as it was.
     #[error("the client was told to stop")]
     Stopped,
     /// Memory ran out: for the line, which then wasn't asked; while it was run, and then the client is asked no more; or for what was found,
@@ -69,10 +76,11 @@ pub enum Refusal {
     Memory,
 }
 
-/// The refusal that an answer tells.
+/// The refusal that an answer tells. That a snapshot has ended is none here.
 pub fn refusal_in(answer: &Answer) -> Refusal
     requires { IsRefusal answer.now }
-    ensures { refusal_told answer.now ≡ Some result }
+    ensures told { refusal_told answer.now ≡ Some result }
+    ensures other { result ≢ Refusal.Ended }
 {
     match answer {
         Answer::NotIdle => Refusal::NotIdle,
@@ -80,7 +88,10 @@ pub fn refusal_in(answer: &Answer) -> Refusal
         Answer::IsSealed => Refusal::IsSealed,
         Answer::ReadOnly => Refusal::ReadOnly,
         Answer::NotSafe => Refusal::NotSafe,
-        Answer::Ended => Refusal::Ended,
+        Answer::Unsafe { seat, stamp } => Refusal::Unsafe {
+            seat: *seat,
+            stamp: *stamp,
+        },
         Answer::LogEnd { tail } => Refusal::LogEnd { tail: *tail },
         Answer::NumbersEnd => Refusal::NumbersEnd,
         Answer::Owned { seat, number } => Refusal::Owned {

@@ -1,6 +1,6 @@
 //! What an answer tells the caller: what was asked for, or why it is refused.
-ghost use Rattle.std.specs.Prelude.{◌≡◌, ◌⊎◌, IfErr, IfOk, OnOk, Some};
-ghost use Rattle.erm_client.specs.Refusals.{IsUntold, TellsAbort, TellsBegin, TellsCommit, TellsDone, TellsDurable, TellsFound, TellsPair, TellsValue, refusal_told};
+ghost use Rattle.std.specs.Prelude.{◌≡◌, ◌≢◌, ◌⊎◌, IfErr, IfOk, OnOk, Some};
+ghost use Rattle.erm_client.specs.Refusals.{IsUntold, TellsAbort, TellsBegin, TellsCommit, TellsDone, TellsDurable, TellsEnd, TellsFound, TellsPair, TellsSafe, TellsValue, refusal_told};
 
 use crate::Refusal;
 use crate::refusal::refusal_in;
@@ -27,6 +27,18 @@ pub fn begin_in(answer: &Answer) -> Result<Stamp, Refusal>
 {
     match answer {
         Answer::Began(begin) => Ok(*begin),
+        _ => Err(refusal_in(answer)),
+    }
+}
+
+/// The begin stamp of a safe snapshot.
+pub fn safe_in(answer: &Answer) -> Result<Stamp, Refusal>
+    requires { TellsSafe answer.now }
+    ensures ok { IfOk result (λ begin. answer.now ≡ Answer.Safe begin) }
+    ensures err { IfErr result (λ why. refusal_told answer.now ≡ Some why) }
+{
+    match answer {
+        Answer::Safe(begin) => Ok(*begin),
         _ => Err(refusal_in(answer)),
     }
 }
@@ -107,7 +119,7 @@ pub fn found_in(alloc: Global, answer: &Answer) -> Result<Pairs, Refusal>
     }
 }
 
-/// The stamps of the commit.
+/// The stamps of the commit. That a snapshot has ended is a refusal.
 pub fn commit_in(answer: &Answer) -> Result<Commit, Refusal>
     requires { TellsCommit answer.now }
     ensures ok { IfOk result (λ commit. answer.now ≡ Answer.Committed commit.stamp commit.succ commit.pred) }
@@ -119,6 +131,20 @@ pub fn commit_in(answer: &Answer) -> Result<Commit, Refusal>
             succ: *succ,
             pred: *pred,
         }),
+        Answer::Ended => Err(Refusal::Ended),
+        _ => Err(refusal_in(answer)),
+    }
+}
+
+/// Whether the snapshot has ended.
+pub fn end_in(answer: &Answer) -> Result<(), Refusal>
+    requires { TellsEnd answer.now }
+    ensures ok { OnOk result (answer.now ≡ Answer.Ended) }
+    ensures err { IfErr result (λ why. refusal_told answer.now ≡ Some why) }
+    ensures other { IfErr result (λ why. why ≢ Refusal.Ended) }
+{
+    match answer {
+        Answer::Ended => Ok(()),
         _ => Err(refusal_in(answer)),
     }
 }

@@ -20,6 +20,10 @@ pub enum Ask {
     Commit,
     Abort,
     Durable,
+    /// A safe snapshot.
+    Safe,
+    /// The end of one.
+    End,
 }
 
 /// What it is answered.
@@ -41,13 +45,13 @@ pub enum Told {
 /// A call: whose, what is asked, and what is to be answered.
 pub type Step = (Seat, Ask, Told);
 
-// The value that is this number.
-fn value(number: u64) -> Value {
+/// The value that is this number.
+pub fn value(number: u64) -> Value {
     Value::new(&number.to_be_bytes()).unwrap()
 }
 
-// The number that a value is: 0 where it hasn't eight bytes.
-fn number(value: &Value) -> u64 {
+/// The number that a value is: 0 where it hasn't eight bytes.
+pub fn number(value: &Value) -> u64 {
     match <[u8; 8]>::try_from(value.as_slice()) {
         Ok(bytes) => u64::from_be_bytes(bytes),
         Err(_) => 0,
@@ -126,7 +130,7 @@ fn write<'a, R: Wait>(rt: &R, client: &mut TableClient<'a>, ask: Ask) -> Option<
     }
 }
 
-// Calls that begin and end transactions.
+// Calls that begin and end transactions, and snapshots.
 fn deal<'a, R: Wait>(rt: &R, client: &mut TableClient<'a>, ask: Ask) -> Option<Told>
     requires client { IsClient (λ x s. Stands sound_law x s) seat_of own_of client.old }
     ensures client { IsClient (λ x s. Stands sound_law x s) seat_of own_of client.new }
@@ -136,12 +140,14 @@ fn deal<'a, R: Wait>(rt: &R, client: &mut TableClient<'a>, ask: Ask) -> Option<T
         Ask::Commit => Some(done(client.commit(rt))),
         Ask::Abort => Some(done(client.abort(rt))),
         Ask::Durable => Some(done(client.durable(rt))),
+        Ask::Safe => Some(done(client.safe(rt))),
+        Ask::End => Some(done(client.end(rt))),
         _ => None,
     }
 }
 
-// What a client is answered. `None` where there is no such table.
-fn call<'a, R: Wait>(rt: &R, client: &mut TableClient<'a>, ask: Ask) -> Option<Told>
+/// What a client is answered. `None` where there is no such table.
+pub fn call<'a, R: Wait>(rt: &R, client: &mut TableClient<'a>, ask: Ask) -> Option<Told>
     requires client { IsClient (λ x s. Stands sound_law x s) seat_of own_of client.old }
     ensures client { IsClient (λ x s. Stands sound_law x s) seat_of own_of client.new }
 {

@@ -8,7 +8,7 @@ ghost use Rattle.erm_tellers.specs.Tellers.{IsOfTellers};
 use crate::clients::{End, TableClient, finish, opened, two};
 use erm_engine::Opened;
 use erm_model::Seat;
-use erm_tellers::{Holder, Outcome, Side, Task, audit, serve, total_of};
+use erm_tellers::{Holder, Outcome, Side, Task, audit, audit_in_transaction, serve, total_of};
 use std::alloc::{AllocError, Global};
 use std::process::Abort;
 use std::sync::Wait;
@@ -51,8 +51,9 @@ const HUNDRED: u128 = (4 << 63) + 100;
 enum Ask {
     // A task, which is tried once.
     Serve(Task),
-    // The total of both customers that an audit shows.
+    // The total of both customers that an audit shows, and one in a transaction.
     Audit,
+    Track,
 }
 
 // What it is answered, unless it is refused.
@@ -70,12 +71,13 @@ const DONE: Told = Told::Served(Some(Outcome::Done));
 const SHORT: Told = Told::Served(Some(Outcome::Short));
 
 // What a customer's accounts cover is withdrawn by one teller, and then no more by the other. Behind another deposit a transfer leaves the total.
-const STEPS: [Step; 7] = [
+const STEPS: [Step; 8] = [
     (1, Ask::Serve(DEPOSIT), DONE),
     (2, Ask::Serve(WITHDRAWAL), DONE),
     (1, Ask::Serve(WITHDRAWAL), SHORT),
     (2, Ask::Serve(DEPOSIT), DONE),
     (1, Ask::Audit, Told::Shown(Some(HUNDRED))),
+    (2, Ask::Track, Told::Shown(Some(HUNDRED))),
     (2, Ask::Serve(TRANSFER), DONE),
     (1, Ask::Audit, Told::Shown(Some(HUNDRED))),
 ];
@@ -87,7 +89,18 @@ fn shown<'a, R: Wait>(rt: &R, client: &mut TableClient<'a>) -> Option<u128>
     ensures client { IsClient (λ x s. Stands sound_law x s) seat_of own_of client.new }
     ensures kept { AllCommitted IsOfTellers client.new.transcript }
 {
-    let found = audit(rt, client, 7, 8).ok()?;
+    let found = audit(rt, client, 7, 8, 1).ok()?;
+    total_of(7, 8, &found.0, &found.1)
+}
+
+// The same in a transaction.
+fn tracked<'a, R: Wait>(rt: &R, client: &mut TableClient<'a>) -> Option<u128>
+    requires client { IsClient (λ x s. Stands sound_law x s) seat_of own_of client.old }
+    requires kept { AllCommitted IsOfTellers client.old.transcript }
+    ensures client { IsClient (λ x s. Stands sound_law x s) seat_of own_of client.new }
+    ensures kept { AllCommitted IsOfTellers client.new.transcript }
+{
+    let found = audit_in_transaction(rt, client, 7, 8).ok()?;
     total_of(7, 8, &found.0, &found.1)
 }
 
@@ -101,6 +114,7 @@ fn answer<'a, R: Wait>(rt: &R, client: &mut TableClient<'a>, asked: Ask) -> Told
     match asked {
         Ask::Serve(task) => Told::Served(serve(rt, client, task, 1).ok()),
         Ask::Audit => Told::Shown(shown(rt, client)),
+        Ask::Track => Told::Shown(tracked(rt, client)),
     }
 }
 
@@ -168,6 +182,6 @@ fn run<R: Wait + Abort>(rt: &R, alloc: Global) -> Result<(Option<usize>, [End; 2
 fn of_two_withdrawals_one_is_covered(rt: HostRuntime) -> Result<(), AllocError> {
     let (other, ends) = run(&rt, rt.alloc())?;
     assert_eq!(rt; other, None);
-    assert!(rt; ends == [End::Closed(16, 16), End::Closed(16, 16)]);
+    assert!(rt; ends == [End::Closed(16, 16), End::Closed(20, 20)]);
     Ok(())
 }

@@ -32,28 +32,34 @@ const SEEN: [Step; 20] = [
     (2, Ask::Commit, Told::Refused(Refusal::NoTransaction)),
 ];
 
-// What is kept of an account whose balance is zero: 2 ^ 63 is added to each balance.
-const ZERO: u64 = 1 << 63;
-
-// Write skew: each client reads both accounts of a customer, which cover 100, and takes 100 from another one. The first one commits, and the second
-// is refused.
-const SKEWED: [Step; 16] = [
+// The second client's snapshot sees what was there when it began, beside one that commits; it only reads, and its session has nothing else meanwhile.
+// Once it has ended there is none to end, and a transaction isn't ended so.
+const WATCHED: [Step; 25] = [
+    (2, Ask::End, Told::Refused(Refusal::NoSnapshot)),
     (1, Ask::Begin, Told::Done),
-    (1, Ask::Put(0, 7, ZERO + 40), Told::Done),
-    (1, Ask::Put(1, 7, ZERO + 60), Told::Done),
+    (1, Ask::Put(0, 10, 1), Told::Done),
     (1, Ask::Commit, Told::Done),
     (1, Ask::Begin, Told::Done),
-    (2, Ask::Begin, Told::Done),
-    (1, Ask::Get(0, 7), Told::Value(Some(ZERO + 40))),
-    (2, Ask::Get(0, 7), Told::Value(Some(ZERO + 40))),
-    (1, Ask::Get(1, 7), Told::Value(Some(ZERO + 60))),
-    (2, Ask::Get(1, 7), Told::Value(Some(ZERO + 60))),
-    (1, Ask::Put(0, 7, ZERO - 60), Told::Done),
-    (2, Ask::Put(1, 7, ZERO - 40), Told::Done),
+    (1, Ask::Put(0, 10, 2), Told::Done),
+    (2, Ask::Safe, Told::Done),
+    (2, Ask::Get(0, 10), Told::Value(Some(1))),
+    (1, Ask::Put(0, 20, 2), Told::Done),
     (1, Ask::Commit, Told::Done),
-    (2, Ask::Commit, Told::Excluded),
+    (2, Ask::Get(0, 10), Told::Value(Some(1))),
+    (2, Ask::Next(0, 11), Told::Pair(None)),
+    (2, Ask::Scan(0), Told::Found(1)),
+    (2, Ask::Put(0, 10, 3), Told::Refused(Refusal::ReadOnly)),
+    (2, Ask::Begin, Told::Refused(Refusal::NotIdle)),
+    (2, Ask::End, Told::Done),
+    (2, Ask::Get(0, 10), Told::Refused(Refusal::NoTransaction)),
     (2, Ask::Begin, Told::Done),
-    (2, Ask::Get(1, 7), Told::Value(Some(ZERO + 60))),
+    (2, Ask::End, Told::Refused(Refusal::NoSnapshot)),
+    (2, Ask::Safe, Told::Refused(Refusal::NotIdle)),
+    (2, Ask::Get(0, 10), Told::Value(Some(2))),
+    (2, Ask::Abort, Told::Done),
+    (2, Ask::Safe, Told::Done),
+    (2, Ask::Commit, Told::Refused(Refusal::Ended)),
+    (2, Ask::Safe, Told::Done),
 ];
 
 // The clients set one key. The second one is refused, which ends its transaction: it begins again behind the first. Nobody writes the disk, so the first one
@@ -77,7 +83,7 @@ const CLAIMED: [Step; 12] = [
     (1, Ask::Get(0, 10), Told::Refused(Refusal::Stopped)),
 ];
 
-// What the calls show, the calls, and how both clients end. The second one of the skewed withdrawals is closed while its next transaction isn't over.
+// What the calls show, the calls, and how both clients end. The second one of the snapshots is closed while its last one isn't over.
 // The line at which a client was told to stop has no answer.
 const CASES: [(&str, &[Step], [End; 2]); 3] = [
     (
@@ -86,9 +92,9 @@ const CASES: [(&str, &[Step], [End; 2]); 3] = [
         [End::Closed(7, 7), End::Closed(13, 13)],
     ),
     (
-        "of two skewed withdrawals one commits",
-        &SKEWED,
-        [End::Closed(9, 9), End::Aborted(7, 7)],
+        "a snapshot sees what was there when it began",
+        &WATCHED,
+        [End::Closed(7, 7), End::Aborted(16, 16)],
     ),
     (
         "of two that set a key one begins again",

@@ -13,7 +13,7 @@ use Rattle.erm_client.specs.declared.transcript.Standing.TheVariants as standing
 use Rattle.erm_client.specs.declared.transcript.Transcript.{Transcript}
 use Rattle.erm_client.specs.Laws.{AreFrom, answers_of, lines_of}
 use Rattle.erm_good_report.specs.Phases.{Closed}
-use Rattle.erm_good_report.specs.Transactions.{Commits, Progress, Said, Transaction, begun, heard, nothing, progress_of, said_of, steps_of, with_line, with_seal}
+use Rattle.erm_good_report.specs.Transactions.{Progress, Said, Transaction, begun, heard, nothing, progress_of, said_of, with_line, with_seal}
 use Rattle.erm_good_report.specs.Transactions as dealt
 use Rattle.erm_model.proofs.Members.{none_in_nil, ∈-behind}
 use Rattle.erm_model.specs.Member.{◌∈◌}

@@ -3,6 +3,7 @@ use Rattle.std.proofs.Common.{◌≡◌, ℕ, zero, suc, ◌+◌, ◌==◌, Bool
 use Rattle.std.proofs.lemmas.List.Sums.{fold-append}
 use Rattle.std.specs.List.{fold, slice_get}
 use Rattle.erm_client.proofs.Grown.{open_each}
+use Rattle.erm_client.proofs.Watched.{never_seals, never_waits_seat}
 use Rattle.erm_client.specs.declared.transcript.Standing.TheVariants as standing
 use Rattle.erm_client.specs.declared.transcript.Transcript.{Transcript}
 use Rattle.erm_client.specs.Laws.{AreFrom, answers_of, lines_of}
@@ -21,32 +22,9 @@ use Rattle.erm_script.specs.declared.script.Command.TheVariants as command
 use Rattle.erm_script.specs.declared.script.ScriptLine.{ScriptLine}
 
 -- its lines are answered neither by a seal nor by a wait
-seals : (c : Command) (stamp : ℕ) → IsOfClient c → MayTell c (answer.Sealed stamp) → ⊥
-seals command.Begin stamp of tells = cc
-seals (command.Get table key) stamp of tells = cc
-seals (command.Put table key value) stamp of tells = cc
-seals (command.Del table key) stamp of tells = cc
-seals (command.Next table from) stamp of tells = cc
-seals (command.Scan table low high) stamp of tells = cc
-seals command.Commit stamp of tells = cc
-seals command.Abort stamp of tells = cc
-seals command.Durable stamp of tells = cc
-seals c stamp of tells = of
-
-waits_seat : (c : Command) (other seen : ℕ) → IsOfClient c → MayTell c (answer.WaitSeat other seen) → ⊥
-waits_seat command.Begin other seen of tells = cc
-waits_seat (command.Get table key) other seen of tells = cc
-waits_seat (command.Put table key value) other seen of tells = cc
-waits_seat (command.Del table key) other seen of tells = cc
-waits_seat (command.Next table from) other seen of tells = cc
-waits_seat (command.Scan table low high) other seen of tells = cc
-waits_seat command.Commit other seen of tells = cc
-waits_seat command.Abort other seen of tells = cc
-waits_seat command.Durable other seen of tells = cc
-waits_seat c other seen of tells = of
-
 waits_ring : (c : Command) (flushed : ℕ) → IsOfClient c → MayTell c (answer.WaitRing flushed) → ⊥
 waits_ring command.Begin flushed of tells = cc
+waits_ring command.Safe flushed of tells = cc
 waits_ring (command.Get table key) flushed of tells = cc
 waits_ring (command.Put table key value) flushed of tells = cc
 waits_ring (command.Del table key) flushed of tells = cc
@@ -62,8 +40,8 @@ unsealed c (answer.Began stamp) p of tells not is = cc
 unsealed c (answer.Safe stamp) p of tells not is = cc
 unsealed c (answer.Unsafe seat stamp) p of tells not is = cc
 unsealed c answer.Ended p of tells not is = cc
-unsealed c (answer.Sealed stamp) p of tells not is = seals c stamp of tells
-unsealed c (answer.WaitSeat other seen) p of tells not is = waits_seat c other seen of tells
+unsealed c (answer.Sealed stamp) p of tells not is = never_seals c stamp of tells
+unsealed c (answer.WaitSeat other seen) p of tells not is = never_waits_seat c other seen of tells
 unsealed c (answer.WaitRing flushed) p of tells not is = waits_ring c flushed of tells
 unsealed c (answer.Committed stamp succ pred) p of tells not is = cc
 unsealed c (answer.Excluded stamp succ pred) p of tells not is = cc

@@ -10,7 +10,7 @@ use Rattle.erm_client.specs.Dealings.{AllOver}
 use Rattle.erm_client.specs.Laws.{AreFrom, answers_of, lines_of}
 use Rattle.erm_client_invariant.proofs.Alone.{closes_keep, own_kept, progress_unfinished}
 use Rattle.erm_client_invariant.proofs.Unsealed.{all_unsealed, closes_none}
-use Rattle.erm_client_invariant.specs.Laws.{AreOfKind, ClientsAreSerial, ClientsKeep, CommitsAreOfKind, InvariantLastsForClients}
+use Rattle.erm_client_invariant.specs.Laws.{AreOfKind, ClientsAreSerial, ClientsAreSerialWithSnapshots, ClientsKeep, CommitsAreOfKind, InvariantLastsForClients}
 use Rattle.erm_good_report.specs.GoodReport.{places_of}
 use Rattle.erm_good_report.specs.Phases.{Closed, phase_of}
 use Rattle.erm_good_report.specs.Transactions.{Commits, Progress, Said, Transaction, heard, nothing, progress_of, said_of, steps_of, transactions_of}
@@ -18,7 +18,7 @@ use Rattle.erm_good_report.specs.Transactions as dealt
 use Rattle.erm_invariant.specs.Commits.{LastsInOrder}
 use Rattle.erm_invariant.specs.Invariant.{Keeps}
 use Rattle.erm_lines_at_once.specs.Executions.{IsRunAtOnce}
-use Rattle.erm_lines_at_once.specs.Laws.{RunsAtOnceAreSerial, RunsAtOnceCloseSessions}
+use Rattle.erm_lines_at_once.specs.Laws.{RunsAtOnceAreSerial, RunsAtOnceAreSerialWithSnapshots, RunsAtOnceCloseSessions}
 use Rattle.erm_machine.proofs.Listed.{∈-either}
 use Rattle.erm_model.proofs.Members.{none_in_nil}
 use Rattle.erm_model.specs.Committed.{Committed, state_after}
@@ -90,6 +90,9 @@ of_kind Kind closes v f all closed run kept x there =
 
 pub serial : RunsAtOnceAreSerial → ClientsAreSerial
 serial are v f all closed opening run is order in_order = are v f (lines_of all) (answers_of all) closed opening run is order in_order
+
+pub serial_with : RunsAtOnceAreSerialWithSnapshots → ClientsAreSerialWithSnapshots
+serial_with are v f all closed opening run is few order in_order = are v f (lines_of all) (answers_of all) closed opening run is few order in_order
 
 pub lasts : (Invariant : Database → Type 0) → ClientsKeep Invariant → RunsAtOnceAreSerial → LastsInOrder Invariant → InvariantLastsForClients Invariant
 lasts Invariant keep serial last v f all closed opening run is kept begins order in_order =

@@ -5,7 +5,7 @@ use Rattle.std.specs.List.Sorted.{IsPermutation}
 use Rattle.erm_accounts.proofs.Found.{All-from_in, in_all}
 use Rattle.erm_accounts.specs.Accounts.{Current, Savings, table_of}
 use Rattle.erm_accounts.specs.Totals.{FoundTotalsAreTotals}
-use Rattle.erm_client_invariant.specs.Laws.{ClientsAreSerial, CommitsAreOfKind, ToldCommitsAreThere, commits_of}
+use Rattle.erm_client_invariant.specs.Laws.{ClientsAreSerial, CommitsAreOfKind, SnapshotsStandAmongCommits, ToldCommitsAreThere, commits_of}
 use Rattle.erm_invariant.specs.Commits.{transactions_in}
 use Rattle.erm_model.proofs.Members.{none_in_nil, ∈-behind}
 use Rattle.erm_model.specs.Committed.{Committed, state_after}
@@ -15,7 +15,7 @@ use Rattle.erm_model.specs.declared.operation.Reply.TheVariants as reply
 use Rattle.erm_model.specs.Member.{◌∈◌}
 use Rattle.erm_model.specs.Run.{RunsAll, RunsOne, Step, after_all, ops_of}
 use Rattle.erm_tellers.proofs.Balance.{all_move}
-use Rattle.erm_tellers.specs.Laws.{AuditsShowTotals, ShowsTotal, TellersMoveTotals}
+use Rattle.erm_tellers.specs.Laws.{AuditsInTransactionsShowTotals, AuditsShowTotals, ShowsTotal, TellersMoveTotals}
 use Rattle.erm_tellers.specs.Moves.{AreOfTellers, TransactionsMoveTotals}
 use Rattle.erm_tellers.specs.Tellers.{Audits, IsOfTellers}
 
@@ -69,8 +69,13 @@ shows totals m low high current savings steps bound audits run =
     let other = scanned m (table_of Savings) low high savings runs.1.0 in
     record { current_is = one; savings_is = other; total_is = λ found is. totals m low high current savings found bound one other is }
 
-pub audits_show : FoundTotalsAreTotals → ToldCommitsAreThere → ClientsAreSerial → AuditsShowTotals
-audits_show totals told serial v f all closed opening run is are opened enough order in_order c there x commits low high current savings bound audits =
+pub audits_show : FoundTotalsAreTotals → SnapshotsStandAmongCommits → AuditsShowTotals
+audits_show totals stand v f all closed opening run is are opened order in_order c there x ended low high current savings bound audits =
+    let place = stand v f all closed opening run is are opened order in_order c there x ended in
+    (place, shows totals (state_after place.front opening.map) low high current savings x.steps bound audits place.answered)
+
+pub tracked_show : FoundTotalsAreTotals → ToldCommitsAreThere → ClientsAreSerial → AuditsInTransactionsShowTotals
+tracked_show totals told serial v f all closed opening run is are opened enough order in_order c there x commits low high current savings bound audits =
     let all_commits = commits_of v.opening.sessions all closed in
     let place = place_of order x (permuted all_commits order in_order.same x (told v.opening.sessions all closed are opened enough c there x commits)) in
     let runs = (serial v f all closed opening run is order in_order).run in

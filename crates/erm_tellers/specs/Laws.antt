@@ -2,11 +2,11 @@
 use Rattle.std.specs.Prelude.{◌≡◌, ℕ, ◌+◌, ◌<◌, ◌≤◌, ◌^◌, List, ◌∷◌, ◌++◌, length}
 use Rattle.erm_accounts.specs.Accounts.{AreSolvent, Current, Savings, table_of}
 use Rattle.erm_accounts.specs.Totals.{IsFoundTotal, total}
-use Rattle.erm_client.specs.Dealings.{AllCommitted, commits_told}
+use Rattle.erm_client.specs.Dealings.{AllCommitted, commits_told, snapshots_told}
 use Rattle.erm_client.specs.declared.transcript.Standing.TheVariants as standing
 use Rattle.erm_client.specs.declared.transcript.Transcript.{Transcript}
 use Rattle.erm_client.specs.Laws.{AreFrom, answers_of, lines_of}
-use Rattle.erm_client_invariant.specs.Laws.{commits_of}
+use Rattle.erm_client_invariant.specs.Laws.{StandsAmong, commits_of}
 use Rattle.erm_good_report.specs.Opening.{Opening}
 use Rattle.erm_good_report.specs.Phases.{Closed}
 use Rattle.erm_invariant.specs.Commits.{transactions_in}
@@ -59,9 +59,17 @@ pub record ShowsTotal (m : Database) (low high : ℕ) (current savings : List (�
   pub savings_is : AreFound m (table_of Savings) low high savings
   pub total_is : (found : ℕ) → IsFoundTotal low high current savings found → found ≡ total m low high
 
--- THE LAW of audits. Each audit that a transcript tells among its commits shows the map that the commits before it in their serial order leave.
+-- THE LAW of audits. Each audit that a transcript tells among its snapshots that ended shows the map that the commits before it in the serial order leave.
 abbrev pub AuditsShowTotals : Type 0
 AuditsShowTotals = (v f : View) (all : List Transcript) (closed : List Closed) (opening : Opening) → IsRunAtOnce v (lines_of all) (answers_of all) closed f → IsOpeningOf v opening
+    → AreFrom 1 all → ((c : Transcript) → c ∈ all → c.standing ≡ standing.Open) → (order : List Committed) → IsSerialOrder rank_of (commits_of v.opening.sessions all closed) order
+    → (c : Transcript) → c ∈ all → (x : Committed) → x ∈ snapshots_told c
+    → (low high : ℕ) (current savings : List (ℕ × List ℕ)) → high < 2 ^ 64 → Audits low high current savings x.steps
+    → (place : StandsAmong order opening.map x) × ShowsTotal (state_after place.front opening.map) low high current savings
+
+-- So does each one that a transcript tells among its commits.
+abbrev pub AuditsInTransactionsShowTotals : Type 0
+AuditsInTransactionsShowTotals = (v f : View) (all : List Transcript) (closed : List Closed) (opening : Opening) → IsRunAtOnce v (lines_of all) (answers_of all) closed f → IsOpeningOf v opening
     → AreFrom 1 all → ((c : Transcript) → c ∈ all → c.standing ≡ standing.Open) → length all ≤ v.opening.sessions
     → (order : List Committed) → IsSerialOrder rank_of (commits_of v.opening.sessions all closed) order
     → (c : Transcript) → c ∈ all → (x : Committed) → x ∈ commits_told c

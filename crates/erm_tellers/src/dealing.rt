@@ -1,13 +1,13 @@
-//! A client's calls, with what they say of the transaction in progress, and of the stretch of its transcript.
-ghost use Rattle.std.specs.Prelude.{◌≡◌, ◌++◌, ◌∷◌, [], List, IfErr, IfOk, OnOk};
+//! A client's calls, with what they say of the transaction or snapshot in progress, and of the stretch of its transcript.
+ghost use Rattle.std.specs.Prelude.{ℕ, ◌++◌, ◌∷◌, [], List, IfErr, IfOk, OnOk};
 ghost use Rattle.erm_accounts.specs.Accounts.{reads, writes};
 ghost use Rattle.erm_client.specs.Clients.{GoesOn, IsClient};
-ghost use Rattle.erm_client.specs.Dealings.{IsAt};
+ghost use Rattle.erm_client.specs.Dealings.{IsAt, IsSafeAt};
 ghost use Rattle.erm_client.specs.Stretches.{WasRefused, Went};
 ghost use Rattle.erm_model.specs.RowTransaction.{SameLaw};
 ghost use Rattle.erm_model.specs.Run.{Step};
 ghost use Rattle.erm_node.specs.Sound.{sound_law};
-ghost use Rattle.erm_tellers.specs.Served.{Commits};
+ghost use Rattle.erm_tellers.specs.Served.{Commits, Ends};
 ghost use Rattle.erm_tellers.specs.Tellers.{account_of, finds};
 
 use crate::Side;
@@ -25,7 +25,7 @@ pub fn begin<'a, S: SafeSession, T: Turns, R: Wait>(
     requires law { SameLaw S.law sound_law }
     requires client { IsClient S.stands S.seat S.own client.old }
     ensures on { GoesOn S.stands S.seat S.own S.ends T.told client.old client.new }
-    ensures went { Went 1 [] client.old.transcript client.new.transcript }
+    ensures went { Went 1 [] [] client.old.transcript client.new.transcript }
     ensures at { OnOk result (IsAt client.new.transcript []) }
     ensures err { IfErr result (λ why. WasRefused why client.old.transcript client.new.transcript) }
 {
@@ -42,7 +42,7 @@ pub fn read<'a, S: SafeSession, T: Turns, R: Wait>(
     requires law { SameLaw S.law sound_law }
     requires client { IsClient S.stands S.seat S.own client.old }
     ensures on { GoesOn S.stands S.seat S.own S.ends T.told client.old client.new }
-    ensures went { Went 0 [] client.old.transcript client.new.transcript }
+    ensures went { Went 0 [] [] client.old.transcript client.new.transcript }
     ensures at { IfOk result (λ value. (steps : List Step) → IsAt client.old.transcript steps → IsAt client.new.transcript (steps ++ reads (account_of side) customer value ∷ [])) }
     ensures err { IfErr result (λ why. WasRefused why client.old.transcript client.new.transcript) }
 {
@@ -60,8 +60,9 @@ pub fn find<'a, S: SafeSession, T: Turns, R: Wait>(
     requires law { SameLaw S.law sound_law }
     requires client { IsClient S.stands S.seat S.own client.old }
     ensures on { GoesOn S.stands S.seat S.own S.ends T.told client.old client.new }
-    ensures went { Went 0 [] client.old.transcript client.new.transcript }
+    ensures went { Went 0 [] [] client.old.transcript client.new.transcript }
     ensures at { IfOk result (λ found. (steps : List Step) → IsAt client.old.transcript steps → IsAt client.new.transcript (steps ++ finds (account_of side) low high found ∷ [])) }
+    ensures seen { IfOk result (λ found. (begin : ℕ) (steps : List Step) → IsSafeAt client.old.transcript begin steps → IsSafeAt client.new.transcript begin (steps ++ finds (account_of side) low high found ∷ [])) }
     ensures err { IfErr result (λ why. WasRefused why client.old.transcript client.new.transcript) }
 {
     client.scan(rt, side.table(), low, high)
@@ -78,7 +79,7 @@ pub fn write<'a, S: SafeSession, T: Turns, R: Wait>(
     requires law { SameLaw S.law sound_law }
     requires client { IsClient S.stands S.seat S.own client.old }
     ensures on { GoesOn S.stands S.seat S.own S.ends T.told client.old client.new }
-    ensures went { Went 0 [] client.old.transcript client.new.transcript }
+    ensures went { Went 0 [] [] client.old.transcript client.new.transcript }
     ensures at { OnOk result ((steps : List Step) → IsAt client.old.transcript steps → IsAt client.new.transcript (steps ++ writes (account_of side) customer value ∷ [])) }
     ensures err { IfErr result (λ why. WasRefused why client.old.transcript client.new.transcript) }
 {
@@ -93,14 +94,44 @@ pub fn commit<'a, S: SafeSession, T: Turns, R: Wait>(
     requires law { SameLaw S.law sound_law }
     requires client { IsClient S.stands S.seat S.own client.old }
     ensures on { GoesOn S.stands S.seat S.own S.ends T.told client.old client.new }
-    ensures undone { IfErr result (λ _. Went 0 [] client.old.transcript client.new.transcript) }
+    ensures undone { IfErr result (λ _. (steps : List Step) → IsAt client.old.transcript steps → Went 0 [] [] client.old.transcript client.new.transcript) }
     ensures done { OnOk result ((steps : List Step) → IsAt client.old.transcript steps → Commits steps client.old.transcript client.new.transcript) }
     ensures err { IfErr result (λ why. WasRefused why client.old.transcript client.new.transcript) }
 {
     client.commit(rt)
 }
 
-// Aborts the transaction.
+/// Begins a snapshot, and waits until it is known whether it is safe.
+pub fn begin_snapshot<'a, S: SafeSession, T: Turns, R: Wait>(
+    rt: &R,
+    client: &mut Client<'a, S, T>,
+) -> Result<Stamp, Refusal>
+    requires law { SameLaw S.law sound_law }
+    requires client { IsClient S.stands S.seat S.own client.old }
+    ensures on { GoesOn S.stands S.seat S.own S.ends T.told client.old client.new }
+    ensures went { Went 1 [] [] client.old.transcript client.new.transcript }
+    ensures at { IfOk result (λ begin. IsSafeAt client.new.transcript begin []) }
+    ensures err { IfErr result (λ why. WasRefused why client.old.transcript client.new.transcript) }
+{
+    client.safe(rt)
+}
+
+/// Ends the snapshot.
+pub fn end_snapshot<'a, S: SafeSession, T: Turns, R: Wait>(
+    rt: &R,
+    client: &mut Client<'a, S, T>,
+) -> Result<(), Refusal>
+    requires law { SameLaw S.law sound_law }
+    requires client { IsClient S.stands S.seat S.own client.old }
+    ensures on { GoesOn S.stands S.seat S.own S.ends T.told client.old client.new }
+    ensures undone { IfErr result (λ _. Went 0 [] [] client.old.transcript client.new.transcript) }
+    ensures done { OnOk result ((begin : ℕ) (steps : List Step) → IsSafeAt client.old.transcript begin steps → Ends steps client.old.transcript client.new.transcript) }
+    ensures err { IfErr result (λ why. (begin : ℕ) (steps : List Step) → IsSafeAt client.old.transcript begin steps → WasRefused why client.old.transcript client.new.transcript) }
+{
+    client.end(rt)
+}
+
+// Aborts the transaction, or gives the snapshot up.
 fn end<'a, S: SafeSession, T: Turns, R: Wait>(
     rt: &R,
     client: &mut Client<'a, S, T>,
@@ -108,17 +139,17 @@ fn end<'a, S: SafeSession, T: Turns, R: Wait>(
     requires law { SameLaw S.law sound_law }
     requires client { IsClient S.stands S.seat S.own client.old }
     ensures on { GoesOn S.stands S.seat S.own S.ends T.told client.old client.new }
-    ensures went { Went 0 [] client.old.transcript client.new.transcript }
+    ensures went { Went 0 [] [] client.old.transcript client.new.transcript }
 {
     client.abort(rt)
 }
 
-/// Gives the transaction up, where one is in progress.
+/// Gives the transaction up, or the snapshot, where one is in progress.
 pub fn give_up<'a, S: SafeSession, T: Turns, R: Wait>(rt: &R, client: &mut Client<'a, S, T>)
     requires law { SameLaw S.law sound_law }
     requires client { IsClient S.stands S.seat S.own client.old }
     ensures on { GoesOn S.stands S.seat S.own S.ends T.told client.old client.new }
-    ensures went { Went 0 [] client.old.transcript client.new.transcript }
+    ensures went { Went 0 [] [] client.old.transcript client.new.transcript }
 {
     let _ = end(rt, client);
 }

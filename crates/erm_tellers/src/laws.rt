@@ -2,7 +2,7 @@
 ghost use Rattle.erm_accounts.specs.Accounts.{AreSolvent};
 ghost use Rattle.erm_invariant.specs.Invariant.{Keeps};
 ghost use Rattle.erm_model.specs.Run.{Step};
-ghost use Rattle.erm_tellers.specs.Laws.{AuditsShowTotals, TellersMoveTotals, TellersStaySolvent, TransfersKeepTotals};
+ghost use Rattle.erm_tellers.specs.Laws.{AuditsInTransactionsShowTotals, AuditsShowTotals, TellersMoveTotals, TellersStaySolvent, TransfersKeepTotals};
 ghost use Rattle.erm_tellers.specs.Moves.{TransactionsMoveTotals};
 ghost use Rattle.erm_tellers.specs.Tellers.{IsOfTellers};
 ghost use Rattle.std.specs.Prelude.{List};
@@ -13,7 +13,7 @@ use erm_accounts::{
 };
 use erm_client_invariant::{
     Kind, clients_are_serial, commits_are_of_kind, invariants_last_for_clients,
-    told_commits_are_there,
+    snapshots_stand_among_commits, told_commits_are_there,
 };
 use erm_invariant::Invariant;
 
@@ -82,9 +82,17 @@ pub fn transfers_keep_totals()
     invariants_last_for_clients::<Total>();
 }
 
-/// Each audit that committed shows the customers' accounts, and so their total, as they were at its place in the serial order.
+/// Each audit by a snapshot that ended shows the customers' accounts, and so their total, as they were at its place in the serial order.
 pub fn audits_show_totals()
     ensures { AuditsShowTotals }
+{
+    snapshots_stand_among_commits();
+    found_totals_are_totals();
+}
+
+/// So does each audit in a transaction that committed.
+pub fn audits_in_transactions_show_totals()
+    ensures { AuditsInTransactionsShowTotals }
 {
     told_commits_are_there();
     clients_are_serial();

@@ -1,16 +1,18 @@
 //! A worked example of a program over the engine: tellers of a bank, whose customers each have two accounts that cover one another.
 #![tactic(auto)]
 
+mod audits;
 mod dealing;
 mod laws;
 mod shown;
 mod side;
 mod tellers;
 
+pub use audits::{audit, audit_in_transaction};
 pub use laws::{
-    Tellers, Total, audits_show_totals, tellers_keep_solvency, tellers_move_totals,
-    tellers_stay_solvent, transactions_move_totals, transfers_keep_totals,
+    Tellers, Total, audits_in_transactions_show_totals, audits_show_totals, tellers_keep_solvency,
+    tellers_move_totals, tellers_stay_solvent, transactions_move_totals, transfers_keep_totals,
 };
 pub use shown::total_of;
-pub use side::Side;
-pub use tellers::{Holder, Outcome, Task, audit, serve};
+pub use side::{Side, taken};
+pub use tellers::{Holder, Outcome, Task, serve};

@@ -1,20 +1,20 @@
 //! What a teller is asked for.
-ghost use Rattle.std.specs.Prelude.{◌≡◌, ◌≢◌, ◌+◌, ◌≤◌, ◌^◌, ◌⊎◌, IfNone, IfOk, IfSome, IsErr, Some, false, max, true};
+ghost use Rattle.std.specs.Prelude.{◌≡◌, ◌≢◌, ◌+◌, ◌≤◌, ◌^◌, ◌⊎◌, IfNone, IfSome, IsErr, Some, false, max, true};
 ghost use Rattle.erm_accounts.specs.Accounts.{raised};
 ghost use Rattle.erm_client.specs.Clients.{GoesOn, IsClient};
 ghost use Rattle.erm_client.specs.Dealings.{AllCommitted};
 ghost use Rattle.erm_model.specs.RowTransaction.{SameLaw};
 ghost use Rattle.erm_node.specs.Sound.{sound_law};
 ghost use Rattle.erm_tellers.specs.Denials.{MayNotAdd, MayNotTake};
-ghost use Rattle.erm_tellers.specs.Served.{Audited, Served};
-ghost use Rattle.erm_tellers.specs.Tellers.{Audits, IsOfTellers, Serves, WasDone};
+ghost use Rattle.erm_tellers.specs.Served.{Served};
+ghost use Rattle.erm_tellers.specs.Tellers.{IsOfTellers, Serves, WasDone};
 
 use crate::Side;
-use crate::dealing::{begin, commit, find, give_up, read, write};
+use crate::dealing::{begin, commit, give_up, read, write};
 use crate::side::{added, taken};
 use erm_beside::SafeSession;
 use erm_client::{Client, Refusal};
-use erm_model::{Pairs, Value};
+use erm_model::Value;
 use erm_worker::Turns;
 use std::sync::Wait;
 
@@ -233,48 +233,4 @@ pub fn serve<'a, S: SafeSession, T: Turns, R: Wait>(
         outcome = try_once(rt, client, task);
     }
     outcome
-}
-
-// Finds what is kept of both accounts of customers with numbers from `low` to `high`, and commits.
-fn look<'a, S: SafeSession, T: Turns, R: Wait>(
-    rt: &R,
-    client: &mut Client<'a, S, T>,
-    low: u64,
-    high: u64,
-) -> Result<(Pairs, Pairs), Refusal>
-    requires law { SameLaw S.law sound_law }
-    requires client { IsClient S.stands S.seat S.own client.old }
-    ensures on { GoesOn S.stands S.seat S.own S.ends T.told client.old client.new }
-    ensures ended { Audited low high result client.old.transcript client.new.transcript }
-{
-    begin(rt, client)?;
-    let current = find(rt, client, Side::Current, low, high)?;
-    let savings = find(rt, client, Side::Savings, low, high)?;
-    commit(rt, client)?;
-    Ok((current, savings))
-}
-
-/// Audits the customers with numbers from `low` to `high`, these two too: what is kept of the current accounts and of the savings, by customer, all as of
-/// one state of the serial order.
-pub fn audit<'a, S: SafeSession, T: Turns, R: Wait>(
-    rt: &R,
-    client: &mut Client<'a, S, T>,
-    low: u64,
-    high: u64,
-) -> Result<(Pairs, Pairs), Refusal>
-    requires law { SameLaw S.law sound_law }
-    requires client { IsClient S.stands S.seat S.own client.old }
-    requires kept { AllCommitted IsOfTellers client.old.transcript }
-    ensures on { GoesOn S.stands S.seat S.own S.ends T.told client.old client.new }
-    ensures kept { AllCommitted IsOfTellers client.new.transcript }
-    ensures ended { Audited low high result client.old.transcript client.new.transcript }
-    ensures done { IfOk result (λ both. WasDone (Audits low high both.0 both.1) client.new.transcript) }
-{
-    match look(rt, client, low, high) {
-        Ok(both) => Ok(both),
-        Err(why) => {
-            give_up(rt, client);
-            Err(why)
-        }
-    }
 }

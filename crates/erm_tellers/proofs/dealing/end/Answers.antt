@@ -5,4 +5,4 @@ use Rattle.erm_tellers.proofs.Kept.{done_by}
 
 pub returns-clause-went : goal.returns-clause-went
 returns-clause-went g c = done_by c.args.client.now.transcript c.abort.new.self.transcript c.requires.client.transcript_ok answer.Aborted command.Abort c.abort.result
-    (λ stamp succ pred is. cc) c.abort.ensures.ok c.abort.ensures.err
+    tt (λ no. no) c.abort.ensures.ok c.abort.ensures.err

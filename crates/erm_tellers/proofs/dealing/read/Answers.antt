@@ -8,7 +8,7 @@ use Rattle.erm_tellers.specs.Tellers.{account_of}
 
 pub returns-clause-went : goal.returns-clause-went
 returns-clause-went g c = went_by c.args.client.now.transcript c.get.new.self.transcript c.requires.client.transcript_ok (λ (value : Option (List ℕ)). answer.Replied (reply.Value value))
-    (command.Get c.table.result c.args.customer) c.get.result (λ y stamp succ pred is. cc) c.get.ensures.ok c.get.ensures.err
+    (command.Get c.table.result c.args.customer) c.get.result (λ y. tt) (λ no. no) c.get.ensures.ok c.get.ensures.err
 
 pub returns-clause-at : goal.returns-clause-at
 returns-clause-at g c = read_at c.args.client.now.transcript c.get.new.self.transcript c.requires.client.transcript_ok (account_of c.args.side) c.args.customer c.table.result c.get.result c.table.ensures c.get.ensures.ok

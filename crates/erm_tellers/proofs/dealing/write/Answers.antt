@@ -7,7 +7,7 @@ use Rattle.erm_tellers.specs.Tellers.{account_of}
 
 pub returns-clause-went : goal.returns-clause-went
 returns-clause-went g c = done_by c.args.client.now.transcript c.put.new.self.transcript c.requires.client.transcript_ok (answer.Replied reply.Done)
-    (command.Put c.table.result c.args.customer c.args.value) c.put.result (λ stamp succ pred is. cc) c.put.ensures.ok c.put.ensures.err
+    (command.Put c.table.result c.args.customer c.args.value) c.put.result tt (λ no. no) c.put.ensures.ok c.put.ensures.err
 
 pub returns-clause-at : goal.returns-clause-at
 returns-clause-at g c = written_at c.args.client.now.transcript c.put.new.self.transcript c.requires.client.transcript_ok (account_of c.args.side) c.args.customer c.table.result c.args.value c.put.result c.table.ensures c.put.ensures.ok

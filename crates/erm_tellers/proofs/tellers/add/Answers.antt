@@ -26,7 +26,15 @@ pub returns-in_err-commit-clause-on : goal.returns-in_err-commit-clause-on
 returns-in_err-commit-clause-on g c = goes (goes (goes c.begin.ensures.on c.read.ensures.on) c.write.ensures.on) c.commit.ensures.on
 
 pub returns-in_err-commit-clause-ended : goal.returns-in_err-commit-clause-ended
-returns-in_err-commit-clause-ended g c = served_no (task.Deposit c.args.holder c.args.amount) c.from_residual-in_err-commit.result c.from_residual-in_err-commit.ensures (gave_up (went_then (went_then c.begin.ensures.went c.read.ensures.went) c.write.ensures.went) c.in_err-commit.ensures.undone c.in_err-commit.ensures.err)
+returns-in_err-commit-clause-ended g c =
+    let holder = c.args.holder in
+    let account = account_of holder.side in
+    let one = reads account holder.customer c.in_ok-own.own in
+    let two = writes account holder.customer c.in-Some.more in
+    let second = c.in_ok-own.ensures.at [] c.in_ok-begin.ensures.at in
+    let third = c.in_ok-write.ensures.at (one ∷ []) second in
+    served_no (task.Deposit c.args.holder c.args.amount) c.from_residual-in_err-commit.result c.from_residual-in_err-commit.ensures
+    (gave_up (went_then (went_then c.begin.ensures.went c.read.ensures.went) c.write.ensures.went) (c.in_err-commit.ensures.undone (one ∷ two ∷ []) third) c.in_err-commit.ensures.err)
 
 pub returns-in_default-clause-on : goal.returns-in_default-clause-on
 returns-in_default-clause-on g c = goes c.begin.ensures.on c.read.ensures.on

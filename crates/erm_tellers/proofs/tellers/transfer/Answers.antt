@@ -44,7 +44,21 @@ pub returns-in_err-commit-clause-on : goal.returns-in_err-commit-clause-on
 returns-in_err-commit-clause-on g c = goes (goes (goes (goes (goes (goes c.begin.ensures.on c.read.ensures.on) c.read-2.ensures.on) c.read-3.ensures.on) c.write.ensures.on) c.write-2.ensures.on) c.commit.ensures.on
 
 pub returns-in_err-commit-clause-ended : goal.returns-in_err-commit-clause-ended
-returns-in_err-commit-clause-ended g c = served_no (task.Transfer c.args.payer c.args.payee c.args.amount) c.from_residual-in_err-commit.result c.from_residual-in_err-commit.ensures (gave_up (went_then (went_then (went_then (went_then (went_then c.begin.ensures.went c.read.ensures.went) c.read-2.ensures.went) c.read-3.ensures.went) c.write.ensures.went) c.write-2.ensures.went) c.in_err-commit.ensures.undone c.in_err-commit.ensures.err)
+returns-in_err-commit-clause-ended g c =
+    let payer = c.args.payer in
+    let payee = c.args.payee in
+    let one = reads (account_of payer.side) payer.customer c.in_ok-own.own in
+    let two = reads (account_of c.beside.result) payer.customer c.in_ok-other.other in
+    let three = reads (account_of payee.side) payee.customer c.in_ok-there.there in
+    let four = writes (account_of payer.side) payer.customer c.in-Some.both.0 in
+    let five = writes (account_of payee.side) payee.customer c.in-Some.both.1 in
+    let second = c.in_ok-own.ensures.at [] c.in_ok-begin.ensures.at in
+    let third = c.in_ok-other.ensures.at (one ∷ []) second in
+    let fourth = c.in_ok-there.ensures.at (one ∷ two ∷ []) third in
+    let fifth = c.in_ok-write.ensures.at (one ∷ two ∷ three ∷ []) fourth in
+    let sixth = c.in_ok-write-2.ensures.at (one ∷ two ∷ three ∷ four ∷ []) fifth in
+    served_no (task.Transfer c.args.payer c.args.payee c.args.amount) c.from_residual-in_err-commit.result c.from_residual-in_err-commit.ensures
+    (gave_up (went_then (went_then (went_then (went_then (went_then c.begin.ensures.went c.read.ensures.went) c.read-2.ensures.went) c.read-3.ensures.went) c.write.ensures.went) c.write-2.ensures.went) (c.in_err-commit.ensures.undone (one ∷ two ∷ three ∷ four ∷ five ∷ []) sixth) c.in_err-commit.ensures.err)
 
 pub returns-in_default-clause-on : goal.returns-in_default-clause-on
 returns-in_default-clause-on g c = goes (goes (goes c.begin.ensures.on c.read.ensures.on) c.read-2.ensures.on) c.read-3.ensures.on
