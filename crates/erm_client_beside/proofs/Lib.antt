@@ -1,0 +1,4 @@
+pub mod Ended
+pub mod Lists
+pub mod Made
+pub mod Worked

@@ -1,0 +1,5 @@
+pub mod Back
+pub mod Jobs
+pub mod Left
+pub mod Lists
+pub mod Ran

@@ -1,0 +1,9 @@
+pub mod Done
+pub mod Keeps
+pub mod Logs
+pub mod OnDisk
+pub mod Opened
+pub mod Outlive
+pub mod Ran
+pub mod Told
+pub mod Unrun

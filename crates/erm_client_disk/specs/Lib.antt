@@ -1,0 +1,5 @@
+pub mod Ends
+pub mod Invariants
+pub mod Laws
+pub mod Leaves
+pub mod Ran

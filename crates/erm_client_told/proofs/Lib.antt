@@ -1,0 +1,5 @@
+pub mod Commits
+pub mod Cut
+pub mod Lines
+pub mod Unsealed
+pub mod Whole
