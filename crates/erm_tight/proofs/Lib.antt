@@ -13,6 +13,7 @@ pub mod NewKeys
 pub mod NewLines
 pub mod NewRuns
 pub mod Objects
+pub mod OneKey
 pub mod Orderly
 pub mod Quiet
 pub mod Runs

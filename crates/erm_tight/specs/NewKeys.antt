@@ -1,9 +1,11 @@
 -- Objects are made by puts of new keys alone: the law, as a statement on runs so far.
-use Rattle.std.specs.Prelude.{◌≡◌, ℕ, suc, ◌+◌, ◌*◌, ◌<◌, ◌⊎◌, List, [], ◌∷◌, ◌++◌, take, Some}
+use Rattle.std.specs.Prelude.{◌≡◌, ℕ, suc, ◌+◌, ◌*◌, ◌<◌, ◌≤◌, ◌⊎◌, List, [], ◌∷◌, ◌++◌, take, Some}
 use Rattle.std.specs.List.{slice_get}
 use Rattle.erm_model.specs.declared.limits.TheConstants.{OID_LIMIT, PUT_OBJECTS}
 use Rattle.erm_report.specs.declared.answer.Answer.{Answer}
 use Rattle.erm_report.specs.declared.answer.Answer.TheVariants as answer
+use Rattle.erm_model.specs.declared.operation.Reply.TheVariants as reply
+use Rattle.erm_script.specs.declared.script.Command.{Command}
 use Rattle.erm_script.specs.declared.script.Command.TheVariants as command
 use Rattle.erm_script.specs.declared.script.ScriptLine.{ScriptLine}
 use Rattle.erm_world.specs.World.{View}
@@ -32,3 +34,16 @@ HaveNewKeys sessions before (s ∷ said) n =
 abbrev pub OidsAreFull : Type 0
 OidsAreFull = (v t : View) (script : List ScriptLine) (answers : List Answer) → IsCourse v script answers t → (i drawn : ℕ) → slice_get answers i ≡ Some (answer.OidsFull drawn)
     → (n : ℕ) × HaveNewKeys v.opening.sessions [] (take (i + 1) (said_of script answers)) n × (OID_LIMIT < v.opening.first + PUT_OBJECTS * n)
+
+abbrev pub said_by_first : Command → Answer → Said
+said_by_first c a = record { session = 1; asked = Some c; answer = a }
+
+-- A bad report: a key that a commit has put is put once more, and objects are told full for it, though there was room for those of one new key.
+abbrev pub put_once_more : List Said
+put_once_more = said_by_first command.Begin (answer.Began 13) ∷ said_by_first (command.Put 0 10 []) (answer.Replied reply.Done)
+    ∷ said_by_first command.Commit (answer.Committed 13 13 0) ∷ said_by_first command.Begin (answer.Began 38)
+    ∷ said_by_first (command.Put 0 10 []) (answer.OidsFull OID_LIMIT) ∷ []
+
+-- In it the key is new once at most.
+abbrev pub KeysAreNewOnce : Type 0
+KeysAreNewOnce = (n : ℕ) → HaveNewKeys 1 [] put_once_more n → n ≤ 1

@@ -3,7 +3,7 @@
 #![tactic(auto)]
 
 ghost use Rattle.erm_lines.specs.Laws.{RunsHaveTightWindows};
-ghost use Rattle.erm_tight.specs.NewKeys.{OidsAreFull};
+ghost use Rattle.erm_tight.specs.NewKeys.{KeysAreNewOnce, OidsAreFull};
 
 /// The window of each transaction that a run's report tells with its commit stamp is tight, whether it committed or was excluded: its
 /// predecessor stamp is at least that of each commit below its begin that put a key which it got, put or deleted, and its successor
@@ -40,3 +40,8 @@ pub fn oids_are_full()
     erm_maps::answers_stay();
     erm_told::executions_tell_sessions();
 }
+
+/// So many puts of one key that a commit has put make no objects: in a report that tells objects full behind a second one of them the key is new once.
+pub fn keys_are_new_once()
+    ensures { KeysAreNewOnce }
+{}
