@@ -3,10 +3,9 @@ ghost use Rattle.std.specs.Prelude.{◌≡◌, IfOk, map, vec_len};
 ghost use Rattle.erm_run_beside.specs.Jobs.{AreLines};
 
 use crate::meeting::Meeting;
-use crate::runs::{checked, line, put, ran};
-use erm_model::{Reply, Seat};
+use crate::runs::{are_first, checked, line, put, ran};
+use erm_model::Seat;
 use erm_outside::{Gate, Place};
-use erm_report::Answer;
 use erm_run_beside::SessionWork;
 use erm_script::{Command, ScriptLine};
 use std::alloc::{AllocError, Global};
@@ -85,25 +84,12 @@ fn parts(alloc: Global) -> Result<Vec<Vec<ScriptLine>>, Fail>
     checked(vec![in alloc; first, second]?)
 }
 
-// A letter for each kind of answer that a session may have.
-fn letter(answer: &Answer) -> u8 {
-    match answer {
-        Answer::Began(_) => b'b',
-        Answer::Replied(Reply::Done) => b'd',
-        Answer::Committed { .. } => b'c',
-        Answer::Sealed(_) => b's',
-        _ => b'?',
-    }
-}
-
 // Whether a session was answered just so, and then told to halt.
 fn was_cut(work: &SessionWork, letters: &[u8]) -> bool {
-    for (answer, want) in work.answers.iter().zip(letters) {
-        if letter(answer) != *want {
-            return false;
-        }
-    }
-    work.answers.len() == letters.len() && work.closed.is_none() && !work.lacked
+    work.answers.len() == letters.len()
+        && are_first(&work.answers, letters)
+        && work.closed.is_none()
+        && !work.lacked
 }
 
 // Whether both were: the first waits for the disk, and the second for the first.

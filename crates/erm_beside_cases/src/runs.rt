@@ -1,13 +1,17 @@
 //! Sessions that run on an empty disk in memory, and what it recovers to.
 ghost use Rattle.std.specs.Prelude.{◌≡◌, ◌≤◌, IfOk, map, vec_len};
-ghost use Rattle.erm_model.specs.declared.limits.TheConstants.{SESSIONS};
+ghost use Rattle.erm_model.specs.Rows.{rows_of};
+ghost use Rattle.erm_model.specs.declared.limits.TheConstants.{OID_LIMIT, SESSIONS};
+ghost use Rattle.erm_node.specs.Sound.{sound_law};
 ghost use Rattle.erm_run_beside.specs.Jobs.{AreLines};
+ghost use Rattle.erm_start.specs.Recovered.{IsFirstObject};
 
-use erm_model::{Map, Seat, Value};
+use erm_model::{Map, Reply, Seat, Value};
 use erm_node::{SoundRows, map_of, zero_rows_are_not_reached};
 use erm_outside::Gate;
 use erm_outside_mem::{MemDisk, Pick, Silent};
 use erm_recover::{Recovered, SoundTest, open_log, recover, zero_rows_are_sound};
+use erm_report::Answer;
 use erm_rule::Opening;
 use erm_run_beside::{Ran, run_sessions};
 use erm_script::{Command, ScriptLine};
@@ -44,6 +48,28 @@ pub fn has_put(map: &Map, table: u8) -> bool {
     }
 }
 
+// A letter for each kind of answer that a session of these cases may have.
+fn letter(answer: &Answer) -> u8 {
+    match answer {
+        Answer::Began(_) => b'b',
+        Answer::Replied(Reply::Done) => b'd',
+        Answer::Sealed(_) => b's',
+        Answer::Committed { .. } => b'c',
+        Answer::Durable(_) => b'l',
+        _ => b'?',
+    }
+}
+
+/// Whether a session was answered so from its first line on, as far as both go.
+pub fn are_first(answers: &[Answer], letters: &[u8]) -> bool {
+    for (answer, want) in answers.iter().zip(letters) {
+        if letter(answer) != *want {
+            return false;
+        }
+    }
+    true
+}
+
 /// The lines of each session, in the order of the seats, from 1 on, if they are lines of it alone.
 pub fn checked(parts: Vec<Vec<ScriptLine>>) -> Result<Vec<Vec<ScriptLine>>, Fail>
     requires few { vec_len parts ≤ SESSIONS }
@@ -74,6 +100,34 @@ pub fn left(alloc: Global, disk: &Silent<MemDisk>) -> Result<Map, Fail> {
     Ok(map_of(alloc, &found.rows)?)
 }
 
+// The opening of the log of an empty disk.
+fn opened_log(alloc: Global, disk: &mut Silent<MemDisk>) -> Result<Opening, Fail>
+    ensures none { IfOk result (λ o. o.sessions ≡ 0) }
+    ensures tail { IfOk result (λ o. o.tail ≡ 13) }
+    ensures run { IfOk result (λ o. o.run ≡ 1) }
+    ensures first { IfOk result (λ o. IsFirstObject (rows_of o.rows.items) o.first) }
+    ensures rows { IfOk result (λ o. vec_len o.rows ≡ OID_LIMIT) }
+    ensures meets { IfOk result (λ o. sound_law.meets (rows_of o.rows.items)) }
+{
+    zero_rows_are_sound();
+    let Ok(found) = recover(alloc, disk, &SoundTest) else {
+        return Err(Fail::new("the disk recovers to nothing"));
+    };
+    let Ok(tail) = open_log::<Silent<MemDisk>, SoundRows>(disk, &found) else {
+        return Err(Fail::new("the log isn't opened"));
+    };
+    if tail != 13 || found.run != 0 {
+        return Err(Fail::new("the disk wasn't empty"));
+    }
+    Ok(Opening {
+        sessions: 0,
+        tail: 13,
+        run: 1,
+        first: first_object(&found.rows),
+        rows: found.rows,
+    })
+}
+
 /// The sessions run, past this gate, on an empty disk of which this call fails: none where its number is 0.
 pub fn ran<G: Gate + Sync, R: Threads + Wait + Sync>(
     rt: &R,
@@ -85,26 +139,10 @@ pub fn ran<G: Gate + Sync, R: Threads + Wait + Sync>(
     requires few { vec_len parts ≤ SESSIONS }
     requires lines { AreLines (map (λ p. p.items) parts.items) }
 {
-    zero_rows_are_sound();
     zero_rows_are_not_reached();
     let disk = MemDisk::new(alloc).failing(vec![in alloc; fails; 1]?);
     let mut disk = Silent { disk };
-    let Ok(found) = recover(alloc, &mut disk, &SoundTest) else {
-        return Err(Fail::new("the disk recovers to nothing"));
-    };
-    let Ok(tail) = open_log::<Silent<MemDisk>, SoundRows>(&mut disk, &found) else {
-        return Err(Fail::new("the log isn't opened"));
-    };
-    if tail != 13 || found.run != 0 {
-        return Err(Fail::new("the disk wasn't empty"));
-    }
-    let opening = Opening {
-        sessions: 0,
-        tail,
-        run: 1,
-        first: first_object(&found.rows),
-        rows: found.rows,
-    };
+    let opening = opened_log(alloc, &mut disk)?;
     let (disk, ran) = run_sessions::<SoundRows, Silent<MemDisk>, G, R>(
         rt, alloc, &opening, disk, gate, parts,
     );

@@ -2,10 +2,9 @@
 ghost use Rattle.std.specs.Prelude.{◌≡◌, IfOk, map, vec_len};
 ghost use Rattle.erm_run_beside.specs.Jobs.{AreLines};
 
-use crate::runs::{checked, has_put, left, line, put, ran};
-use erm_model::{Map, Reply, Seat};
-use erm_outside_mem::OpenGate;
-use erm_report::Answer;
+use crate::runs::{are_first, checked, has_put, left, line, put, ran};
+use erm_model::Seat;
+use erm_outside_mem::{MemDisk, OpenGate, Silent};
 use erm_run_beside::SessionWork;
 use erm_script::{Command, ScriptLine};
 use std::alloc::Global;
@@ -51,39 +50,37 @@ fn parts(alloc: Global) -> Result<Vec<Vec<ScriptLine>>, Fail>
     checked(parts)
 }
 
-// Whether a session did its lines: all of them, or those up to the one that the disk's failure cut.
+// Whether a session did its lines: all of them, or those up to the one that the disk's failure cut, which waits for the disk.
 fn is_as(work: &SessionWork, failed: bool) -> bool {
-    if work.lacked || work.closed.is_some() {
-        return false;
-    }
-    match work.answers.as_slice() {
-        [
-            Answer::Began(_),
-            Answer::Replied(Reply::Done),
-            Answer::Committed { .. },
-            Answer::Durable(_),
-            Answer::Began(_),
-            rest @ ..,
-        ] => !failed && rest.len() + 5 == LINES,
-        [] | [Answer::Began(_)] | [Answer::Began(_), Answer::Replied(Reply::Done)] => failed,
-        [
-            Answer::Began(_),
-            Answer::Replied(Reply::Done),
-            Answer::Committed { .. },
-        ] => failed,
-        _ => false,
-    }
+    let answers = work.answers.as_slice();
+    let is_cut_so = if failed {
+        answers.len() <= 3
+    } else {
+        answers.len() == LINES
+    };
+    !work.lacked && work.closed.is_none() && is_cut_so && are_first(answers, b"bdclb")
 }
 
-// How many of the sessions' own keys have a value in the map.
-fn count_own(map: &Map) -> u32 {
+// Whether each session did.
+fn are_as(works: &[SessionWork], failed: bool) -> bool {
+    for work in works {
+        if !is_as(work, failed) {
+            return false;
+        }
+    }
+    works.len() == SESSIONS as usize
+}
+
+// How many of the sessions' own keys have a value in the map that a disk recovers to.
+fn count_own(alloc: Global, disk: &Silent<MemDisk>) -> Result<u32, Fail> {
+    let map = left(alloc, disk)?;
     let mut count: u32 = 0;
     for table in 1..11u8 {
-        if has_put(map, table) {
+        if has_put(&map, table) {
             count = count.saturating_add(1);
         }
     }
-    count
+    Ok(count)
 }
 
 // Each session's own key lasts, and is on the disk after a crash, unless the disk failed; and then all are told to halt.
@@ -92,15 +89,12 @@ fn ten_sessions_run(rt: HostRuntime) -> Result<(), Fail> {
     let alloc = rt.alloc();
     for (fails, failed) in CASES {
         let (disk, ran) = ran(&rt, alloc, fails, &OpenGate, parts(alloc)?)?;
-        assert!(rt; ran.failed == failed, "{fails}");
-        let works = ran.sessions;
-        assert!(rt; works.len() == SESSIONS as usize, "{fails}");
-        for work in &works {
-            assert!(rt; is_as(work, failed), "{fails}");
-        }
-        let own = count_own(&left(alloc, &disk)?);
-        let want = if failed { 0 } else { 10 };
-        assert!(rt; own == want, "{fails}: {own}");
+        assert!(rt;
+            ran.failed == failed && are_as(&ran.sessions, failed),
+            "{fails}"
+        );
+        let own = count_own(alloc, &disk)?;
+        assert!(rt; own == if failed { 0 } else { 10 }, "{fails}: {own}");
     }
     Ok(())
 }

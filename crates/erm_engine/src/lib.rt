@@ -7,8 +7,6 @@ mod giving;
 mod leaving;
 mod opening;
 mod taking;
-#[cfg(test)]
-mod tests;
 
 pub use closing::{close, close_joined, join_all};
 pub use leaving::{end_all, leave};

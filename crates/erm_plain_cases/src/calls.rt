@@ -9,13 +9,15 @@ use crate::snapshots::ask_snapshot;
 use erm_model::{OID_LIMIT, Oid, Outcome, Phase, ROW_WORDS, Receipt, Row, RowStop, Seat, Stamp};
 use erm_world::{BeginStop, NotFlushed, RowWorld, SafeStop, SafeWorld, Wait};
 
-// A call of a session; a row that is written has this first word, and zeros behind it. A receipt has this end.
+// A call of a session; a row that is written has this first word, and zeros behind it, or, where it is filled, this word everywhere. A receipt
+// has this end.
 #[derive(Clone, Copy)]
 pub(crate) enum Call {
     Begin,
     Read(Oid),
     Claim(Oid),
     Write(Oid, u64),
+    Fill(Oid, u64),
     Tidy(Oid),
     Fresh,
     Seal,
@@ -29,9 +31,9 @@ pub(crate) enum Call {
     EndSafe,
 }
 
-// Its answer: of a begin, a snapshot's begin or a seal, the stamp; of an object made, its number; of a row, the first word, where zeros stand behind it; of a
-// tidy, how many versions were cut off; of a commit, its number, stamp, end, successor and predecessor stamp; of an exclusion, the three
-// stamps.
+// Its answer: of a begin, a snapshot's begin or a seal, the stamp; of an object made, its number; of a row, the first word, where zeros stand behind
+// it, or the one that it has everywhere; of a tidy, how many versions were cut off; of a commit, its number, stamp, end, successor and predecessor
+// stamp; of an exclusion, the three stamps.
 #[derive(Clone, Copy, PartialEq, Eq)]
 pub(crate) enum Reply {
     OutOfPhase,
@@ -39,6 +41,7 @@ pub(crate) enum Reply {
     At(Stamp),
     Made(Oid),
     First(u64),
+    Filled(u64),
     OtherRow,
     Cut(u32),
     NotBegun(BeginStop),
@@ -73,10 +76,13 @@ fn begin<W: RowWorld>(world: &mut W, seat: Seat) -> Reply
 pub(crate) fn told_row(row: &Row) -> Reply {
     let mut want = [0; ROW_WORDS];
     want[0] = row[0];
-    if *row != want {
-        return Reply::OtherRow;
+    if *row == want {
+        return Reply::First(row[0]);
     }
-    Reply::First(row[0])
+    if *row == [row[0]; ROW_WORDS] {
+        return Reply::Filled(row[0]);
+    }
+    Reply::OtherRow
 }
 
 // What a read is answered.
@@ -111,8 +117,8 @@ fn claim<W: RowWorld>(world: &mut W, seat: Seat, oid: Oid) -> Reply
     }
 }
 
-// What a write is answered.
-fn write<W: RowWorld>(world: &mut W, seat: Seat, oid: Oid, first: u64) -> Reply
+// What a write of a row with this first word and that one behind it is answered.
+fn write<W: RowWorld>(world: &mut W, seat: Seat, oid: Oid, first: u64, behind: u64) -> Reply
     requires stands { W.stands world.old }
     requires sessions { (W.view world.old).opening.sessions ≡ 3 }
     requires session { IsSession (W.view world.old) seat }
@@ -121,7 +127,7 @@ fn write<W: RowWorld>(world: &mut W, seat: Seat, oid: Oid, first: u64) -> Reply
     ensures stands { W.stands world.new }
     ensures sessions { (W.view world.new).opening.sessions ≡ 3 }
 {
-    let mut row = [0; ROW_WORDS];
+    let mut row = [behind; ROW_WORDS];
     row[0] = first;
     match world.write(seat, oid, &row) {
         Ok(()) => Reply::Done,
@@ -173,7 +179,8 @@ fn ask_active<W: RowWorld>(world: &mut W, seat: Seat, call: Call) -> Reply
     match call {
         Call::Read(oid) if oid < OID_LIMIT => read(world, seat, oid),
         Call::Claim(oid) if oid < OID_LIMIT => claim(world, seat, oid),
-        Call::Write(oid, first) if oid < OID_LIMIT => write(world, seat, oid, first),
+        Call::Write(oid, first) if oid < OID_LIMIT => write(world, seat, oid, first, 0),
+        Call::Fill(oid, word) if oid < OID_LIMIT => write(world, seat, oid, word, word),
         Call::Tidy(oid) if oid < OID_LIMIT => tidy(world, seat, oid),
         Call::Fresh => fresh(world, seat),
         Call::Seal => Reply::At(world.seal(seat)),

@@ -1,25 +1,11 @@
-//! Limits of a transaction, of the objects and of the ring, worked out by hand.
-ghost use Rattle.std.specs.Prelude.{◌≡◌};
-ghost use Rattle.erm_world.specs.Laws.{IsLawfulWork};
-ghost use Rattle.erm_world.specs.World.{Work};
-
-use crate::calls::{Call, Reply, Turn, is_answered};
-use crate::worlds::in_lists;
+//! Limits of a transaction, and of the objects, the ring and the cells.
+use crate::calls::{Call, Reply, Turn};
+use crate::steps::{Case, Each, Step, first_in_lists, first_over_words};
 use erm_model::RowStop;
-use erm_world::SafeWorld;
+use erm_world::{Gathered, NotFlushed, Wait};
 use std::alloc::AllocError;
 
-// A call of the first session, on one object after another from 16 on.
-#[derive(Clone, Copy)]
-enum Each {
-    Claims,
-    Reads,
-    Makes,
-}
-
-// What follows on so many of these calls.
-#[derive(Clone, Copy)]
-struct Limit<'a>(Each, u16, &'a [Turn]);
+const BEGIN: [Turn; 1] = [Turn(1, Call::Begin, Reply::At(13))];
 
 // The 129th object claimed is one too many; the transaction goes on.
 const CLAIMS: [Turn; 5] = [
@@ -51,56 +37,128 @@ const OBJECTS: [Turn; 4] = [
     Turn(1, Call::Settle, Reply::Commits([1, 13, 20, 13, 0])),
 ];
 
-const LIMITS: [Limit<'static>; 3] = [
-    Limit(Each::Claims, 128, &CLAIMS),
-    Limit(Each::Reads, 512, &READS),
-    Limit(Each::Makes, 16_368, &OBJECTS),
+// A transaction that claims, reads and makes as many objects as it may is refused one more of each, and goes on.
+const ALL: [Turn; 5] = [
+    Turn(1, Call::Claim(656), Reply::Stopped(RowStop::WritesFull)),
+    Turn(1, Call::Read(656), Reply::Stopped(RowStop::ReadsFull)),
+    Turn(
+        1,
+        Call::Fresh,
+        Reply::Stopped(RowStop::OidsFull { drawn: 16_384 }),
+    ),
+    Turn(1, Call::Seal, Reply::At(13)),
+    Turn(1, Call::Settle, Reply::Commits([1, 13, 2_194, 13, 0])),
 ];
 
-// The call on the object at a place, and its answer.
-fn turn_at(each: Each, place: u16) -> Turn {
-    let oid = 16 + place as u32;
-    match each {
-        Each::Claims => Turn(1, Call::Claim(oid), Reply::Done),
-        Each::Reads => Turn(1, Call::Read(oid), Reply::First(0)),
-        Each::Makes => Turn(1, Call::Fresh, Reply::Made(oid)),
-    }
-}
+// The block behind the last that the ring has room for.
+const FULL: [Turn; 4] = [
+    Turn(1, Call::Begin, Reply::At(32_778)),
+    Turn(1, Call::Seal, Reply::At(32_778)),
+    Turn(1, Call::Settle, Reply::Waits(Wait::Ring { flushed: 13 })),
+    Turn(
+        1,
+        Call::Durable(18),
+        Reply::NotFlushed(NotFlushed { flushed: 13 }),
+    ),
+];
 
-// Whether so many calls are answered.
-fn are_answered<W: SafeWorld>(world: &mut W, each: Each, count: u16) -> bool
-    requires stands { W.stands world.old }
-    requires sessions { (W.view world.old).opening.sessions ≡ 3 }
-    requires lawful { (work : Work) → IsLawfulWork W.law work }
-    ensures stands { W.stands world.new }
-    ensures sessions { (W.view world.new).opening.sessions ≡ 3 }
-{
-    for place in 0..count {
-        if !is_answered(world, &[turn_at(each, place)]) {
-            return false;
-        }
-    }
-    true
-}
+// The same after a flush turn.
+const FREE: [Turn; 4] = [
+    Turn(1, Call::Durable(32_778), Reply::Done),
+    Turn(
+        1,
+        Call::Durable(32_779),
+        Reply::NotFlushed(NotFlushed { flushed: 32_778 }),
+    ),
+    Turn(
+        1,
+        Call::Settle,
+        Reply::Commits([6_554, 32_778, 32_783, 32_778, 0]),
+    ),
+    Turn(1, Call::Begin, Reply::At(32_783)),
+];
 
-// Whether a transaction comes up to a limit, and goes on.
-fn is_kept<W: SafeWorld>(world: &mut W, limit: &Limit<'_>) -> bool
-    requires stands { W.stands world.old }
-    requires sessions { (W.view world.old).opening.sessions ≡ 3 }
-    requires lawful { (work : Work) → IsLawfulWork W.law work }
-    ensures stands { W.stands world.new }
-    ensures sessions { (W.view world.new).opening.sessions ≡ 3 }
-{
-    is_answered(world, &[Turn(1, Call::Begin, Reply::At(13))])
-        && are_answered(world, limit.0, limit.1)
-        && is_answered(world, limit.2)
-}
+const RING: Gathered = Gathered::Words {
+    at: 13,
+    count: 32_765,
+};
+
+const LIMITS: [Case; 5] = [
+    (
+        "claims",
+        &[
+            Step::Turns(&BEGIN),
+            Step::Many(Each::Claims, 16, 128),
+            Step::Turns(&CLAIMS),
+        ],
+    ),
+    (
+        "reads",
+        &[
+            Step::Turns(&BEGIN),
+            Step::Many(Each::Reads, 16, 512),
+            Step::Turns(&READS),
+        ],
+    ),
+    (
+        "objects",
+        &[
+            Step::Turns(&BEGIN),
+            Step::Many(Each::Makes, 16, 16_368),
+            Step::Turns(&OBJECTS),
+        ],
+    ),
+    (
+        "claims, reads and objects",
+        &[
+            Step::Turns(&BEGIN),
+            Step::Many(Each::Fills, 16, 128),
+            Step::Many(Each::Reads, 144, 512),
+            Step::Many(Each::Makes, 16, 16_368),
+            Step::Turns(&ALL),
+        ],
+    ),
+    (
+        "the ring, which waits for a flush",
+        &[
+            Step::Commits(6_553),
+            Step::Turns(&FULL),
+            Step::Flush(RING),
+            Step::Turns(&FREE),
+        ],
+    ),
+];
 
 #[test]
 fn limits_are_kept(rt: HostRuntime) -> Result<(), AllocError> {
-    for (place, limit) in LIMITS.iter().enumerate() {
-        let mut world = in_lists(rt.alloc(), false)?;
-        assert!(rt; is_kept(&mut world, limit), "limit {place}");
-    }
+    assert_eq!(rt; first_in_lists(rt.alloc(), &LIMITS)?, None);
+    assert_eq!(rt; first_over_words(rt.alloc(), &LIMITS)?, None);
+    Ok(())
+}
+
+// A session stays active from before all commits, so that nothing is cut.
+const OLD: [Turn; 1] = [Turn(2, Call::Begin, Reply::At(13))];
+
+// All cells are drawn. A transaction that wants one more is refused, and goes on.
+const DRAWN: [Turn; 4] = [
+    Turn(1, Call::Begin, Reply::At(344_077)),
+    Turn(
+        1,
+        Call::Write(0, 2),
+        Reply::Stopped(RowStop::CellsFull { drawn: 65_536 }),
+    ),
+    Turn(1, Call::Read(0), Reply::First(1)),
+    Turn(1, Call::Abort, Reply::Done),
+];
+
+const CELLS: [Case; 1] = [(
+    "cells",
+    &[Step::Turns(&OLD), Step::Draws(49_152), Step::Turns(&DRAWN)],
+)];
+
+// The opening takes 16,384 cells, and each of 49,152 commits one.
+#[test]
+fn no_cell_is_left_at_65536(rt: HostRuntime) -> Result<(), AllocError> {
+    assert_eq!(rt; first_over_words(rt.alloc(), &CELLS)?, None);
     Ok(())
 }

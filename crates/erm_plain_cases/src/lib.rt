@@ -1,6 +1,6 @@
-//! Cases of worlds: calls of three sessions in turn, of the world in lists and of the world over the word table; and of the world in lists
-//! snapshots that only read, the limits of a transaction, of the objects and of the ring, and flush turns and pins between commits. They stand
-//! apart, so that no crate is proved a second time with its tests.
+//! Cases of worlds: calls of three sessions in turn, snapshots that only read among them, and the limits of a transaction, of the objects and of
+//! the ring, in lists and over the word table; what is cut, and cells that run out, over the word table; and flush turns and pins between
+//! commits, in lists. They stand apart, so that no crate is proved a second time with its tests.
 #![tactic(auto)]
 
 #[cfg(test)]
@@ -13,5 +13,7 @@ mod flushes;
 mod rows;
 #[cfg(test)]
 mod snapshots;
+#[cfg(test)]
+mod steps;
 #[cfg(test)]
 mod worlds;

@@ -3,14 +3,13 @@ ghost use Rattle.std.specs.Prelude.{◌≡◌, ◌<◌};
 ghost use Rattle.erm_model.specs.declared.limits.TheConstants.{OID_LIMIT};
 ghost use Rattle.erm_model.specs.declared.outcome.Phase.TheVariants.{Idle, Pending, Safe};
 ghost use Rattle.erm_world.specs.Safe.{HasSnapshot};
-ghost use Rattle.erm_world.specs.Laws.{IsLawfulWork};
-ghost use Rattle.erm_world.specs.World.{IsSession, Work, phase_at};
+ghost use Rattle.erm_world.specs.World.{IsSession, phase_at};
 
-use crate::calls::{Call, Reply, Turn, is_answered, told_row};
-use crate::worlds::{in_lists, over_words};
+use crate::calls::{Call, Reply, Turn, told_row};
+use crate::steps::{Case, Step, first_in_lists, first_over_words};
 use erm_model::{OID_LIMIT, Oid, Phase, Seat};
 use erm_world::{RowWorld, SafeStop, SafeWorld};
-use std::alloc::{AllocError, Global};
+use std::alloc::AllocError;
 
 // What an idle session that begins a snapshot is answered.
 fn begin<W: SafeWorld>(world: &mut W, seat: Seat) -> Reply
@@ -220,59 +219,54 @@ const SEALED: [Turn; 12] = [
     Turn(3, Call::BeginSafe, Reply::OutOfPhase),
 ];
 
-// Calls in turn, of which each list goes on where the one before it ends, and what they show.
-const CASES: [(&str, &[&[Turn]]); 4] = [
-    (
-        "wait, unsafe, the next one, and unsafe again",
-        &[&SKEWED, &UNSAFE, &NEXT, &AGAIN],
-    ),
-    ("reads beside a commit", &[&READS]),
-    ("two at one stamp", &[&AT_ONE_STAMP]),
-    ("a session sealed below", &[&SEALED]),
+// Two rows are filled by others at one time, of which one goes back behind the other; a snapshot waits for it, and isn't safe. The next one
+// reads both.
+const FILLED: [Turn; 17] = [
+    Turn(2, Call::Begin, Reply::At(13)),
+    Turn(2, Call::Read(5), Reply::First(0)),
+    Turn(1, Call::Begin, Reply::At(13)),
+    Turn(1, Call::Fill(5, 5), Reply::Done),
+    Turn(1, Call::Seal, Reply::At(13)),
+    Turn(1, Call::Settle, Reply::Commits([1, 13, 35, 13, 0])),
+    Turn(3, Call::BeginSafe, Reply::At(35)),
+    Turn(3, Call::Survey, BEHIND_SECOND),
+    Turn(2, Call::Fill(6, 6), Reply::Done),
+    Turn(2, Call::Seal, Reply::At(35)),
+    Turn(2, Call::Settle, Reply::Commits([1, 35, 57, 13, 0])),
+    Turn(3, Call::Survey, WENT_BEHIND),
+    Turn(3, Call::BeginSafe, Reply::At(57)),
+    Turn(3, Call::Survey, Reply::Done),
+    Turn(3, Call::SafeRead(5), Reply::Filled(5)),
+    Turn(3, Call::SafeRead(6), Reply::Filled(6)),
+    Turn(3, Call::EndSafe, Reply::Done),
 ];
 
-// Whether each call of some lists gets its answer.
-fn are_answered<W: SafeWorld>(world: &mut W, lists: &[&[Turn]]) -> bool
-    requires stands { W.stands world.old }
-    requires sessions { (W.view world.old).opening.sessions ≡ 3 }
-    requires lawful { (work : Work) → IsLawfulWork W.law work }
-{
-    for turns in lists {
-        if !is_answered(world, *turns) {
-            return false;
-        }
-    }
-    true
-}
+const WENT_BEHIND: Reply = Reply::NotSafe(SafeStop::Unsafe { seat: 2, stamp: 35 });
 
-// The name of the first case that the world in lists answers otherwise.
-fn first_in_lists(alloc: Global) -> Result<Option<&'static str>, AllocError> {
-    for (name, lists) in CASES {
-        if !are_answered(&mut in_lists(alloc, false)?, lists) {
-            return Ok(Some(name));
-        }
-    }
-    Ok(None)
-}
-
-// And that over the word table.
-fn first_over_words(alloc: Global) -> Result<Option<&'static str>, AllocError> {
-    for (name, lists) in CASES {
-        if !are_answered(&mut over_words(alloc)?, lists) {
-            return Ok(Some(name));
-        }
-    }
-    Ok(None)
-}
+const CASES: [Case; 5] = [
+    (
+        "wait, unsafe, the next one, and unsafe again",
+        &[
+            Step::Turns(&SKEWED),
+            Step::Turns(&UNSAFE),
+            Step::Turns(&NEXT),
+            Step::Turns(&AGAIN),
+        ],
+    ),
+    ("reads beside a commit", &[Step::Turns(&READS)]),
+    ("two at one stamp", &[Step::Turns(&AT_ONE_STAMP)]),
+    ("a session sealed below", &[Step::Turns(&SEALED)]),
+    ("whole rows", &[Step::Turns(&FILLED)]),
+];
 
 #[test]
 fn snapshots_are_answered_in_lists(rt: HostRuntime) -> Result<(), AllocError> {
-    assert_eq!(rt; first_in_lists(rt.alloc())?, None);
+    assert_eq!(rt; first_in_lists(rt.alloc(), &CASES)?, None);
     Ok(())
 }
 
 #[test]
 fn snapshots_are_answered_over_words(rt: HostRuntime) -> Result<(), AllocError> {
-    assert_eq!(rt; first_over_words(rt.alloc())?, None);
+    assert_eq!(rt; first_over_words(rt.alloc(), &CASES)?, None);
     Ok(())
 }

@@ -21,8 +21,8 @@ use erm_rule::{Opening, Pass, Table};
 use erm_shared_session::TableSession;
 use erm_threads::Done;
 
-// Joins the passes of sessions into the desk's, takes turns until one stops, and closes the table: the disk, and whether it failed.
-fn close_sessions<L: RowLaw, D: Disk + Drop, B: Naming>(
+/// Joins the passes of sessions into the desk's, takes turns until one stops, and closes the table: the disk, and whether it failed.
+pub fn close_sessions<L: RowLaw, D: Disk + Drop, B: Naming>(
     _opening: &Opening,
     table: Table<L>,
     desk: Desk<L, D, B>,

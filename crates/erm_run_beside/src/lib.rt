@@ -11,6 +11,7 @@ mod shared;
 mod turns;
 mod work;
 
+pub use end::close_sessions;
 pub use sessions::{run_opened, run_sessions};
 pub use shared::SharedDesk;
 pub use turns::DeskTurns;

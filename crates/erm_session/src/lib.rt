@@ -13,8 +13,6 @@ mod safe;
 mod sealing;
 mod session;
 mod settling;
-#[cfg(test)]
-mod tests;
 mod tidying;
 mod writing;
 

@@ -11,8 +11,6 @@ mod seals;
 mod settles;
 mod snapshots;
 mod table_world;
-#[cfg(test)]
-mod tests;
 pub mod turns;
 mod world;
 

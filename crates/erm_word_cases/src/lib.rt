@@ -10,3 +10,5 @@ mod precommit;
 mod readers;
 #[cfg(test)]
 mod seats;
+#[cfg(test)]
+mod skew;

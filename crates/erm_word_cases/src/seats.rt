@@ -15,12 +15,13 @@ use std::test::Fail;
 use std::thread;
 use std::thread::Threads;
 
-// A table whose rows may be any.
-type Table = erm_rule::Table<AnyRows>;
+/// A table whose rows may be any.
+pub type Table = erm_rule::Table<AnyRows>;
 
-// An opening on rows of zeros, whose log begins at this tail.
-fn opening_at(alloc: Global, tail: Stamp) -> Result<Opening, AllocError>
+/// An opening of run 1 on rows of zeros, whose log begins at this tail.
+pub fn opening_at(alloc: Global, tail: Stamp) -> Result<Opening, AllocError>
     ensures none { IfOk result (λ o. o.sessions ≡ 0) }
+    ensures run { IfOk result (λ o. o.run ≡ 1) }
     ensures tail { IfOk result (λ o. o.tail ≡ tail) }
     ensures first { IfOk result (λ o. o.first ≤ OBJECT_LIMIT) }
     ensures rows { IfOk result (λ o. vec_len o.rows ≡ OBJECT_LIMIT) }
@@ -35,8 +36,8 @@ fn opening_at(alloc: Global, tail: Stamp) -> Result<Opening, AllocError>
     })
 }
 
-// A table, the pass that is left, and the passes of sessions 1 and 2.
-fn open_two(alloc: Global, opening: &Opening) -> Result<(Table, Pass, Pass, Pass), AllocError>
+/// A table, the pass that is left, and the passes of sessions 1 and 2.
+pub fn open_two(alloc: Global, opening: &Opening) -> Result<(Table, Pass, Pass, Pass), AllocError>
     requires none { opening.now.sessions ≡ 0 }
     requires positive { 0 < opening.now.tail }
     requires low { opening.now.tail ≤ STOP + 4 }

@@ -1,0 +1,7 @@
+use Rattle.std.proofs.Common.{◌≡◌, vec_len}
+use Rattle.erm_model.specs.RowTransaction.{any_law}
+use Rattle.erm_engine.specs.Closed.{AreDone}
+use Rattle.erm_beside_cases.proofs.turns.first_other.Given as goal
+
+abbrev pub invariant-loop-at : goal.invariant-loop-at
+invariant-loop-at l = AreDone any_law l.table l.sessions.items × (vec_len l.sessions ≡ vec_len l.fn.sessions)

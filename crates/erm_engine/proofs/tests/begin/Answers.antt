@@ -1,4 +1,0 @@
-use Rattle.erm_engine.proofs.tests.begin.Goals as goal
-
-pub returns-in-Idle-clause-seat : goal.returns-in-Idle-clause-seat
-returns-in-Idle-clause-seat c = c.begin.ensures.onward.seat_is

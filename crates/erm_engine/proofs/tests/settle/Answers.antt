@@ -1,4 +1,0 @@
-use Rattle.erm_engine.proofs.tests.settle.Goals as goal
-
-pub returns-in-Sealed-clause-seat : goal.returns-in-Sealed-clause-seat
-returns-in-Sealed-clause-seat c = c.settle.ensures.onward.seat_is

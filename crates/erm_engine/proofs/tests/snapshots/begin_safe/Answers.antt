@@ -1,4 +1,0 @@
-use Rattle.erm_engine.proofs.tests.snapshots.begin_safe.Goals as goal
-
-pub returns-in-Idle-clause-seat : goal.returns-in-Idle-clause-seat
-returns-in-Idle-clause-seat c = c.begin_safe.ensures.onward.seat_is

@@ -1,4 +1,0 @@
-use Rattle.erm_engine.proofs.tests.snapshots.safe_row.Goals as goal
-
-pub returns-in-Safe-clause-seat : goal.returns-in-Safe-clause-seat
-returns-in-Safe-clause-seat c = c.safe_read.ensures.onward.seat_is

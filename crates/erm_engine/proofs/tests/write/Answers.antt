@@ -1,4 +1,0 @@
-use Rattle.erm_engine.proofs.tests.write.Goals as goal
-
-pub returns-in-Active-clause-seat : goal.returns-in-Active-clause-seat
-returns-in-Active-clause-seat c = c.write.ensures.onward.seat_is

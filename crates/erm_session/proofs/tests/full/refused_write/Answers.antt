@@ -1,8 +1,0 @@
-use Rattle.std.proofs.Common.{ℕ}
-use Rattle.erm_seats.specs.Calls.{DidBegin}
-use Rattle.erm_session.proofs.Skewing.{ok_says}
-use Rattle.erm_session.proofs.tests.full.refused_write.Goals as goal
-
-pub write-requires-clause-known : goal.write-requires-clause-known
-write-requires-clause-known c =
-    (ok_says (λ (begin : ℕ). DidBegin c.args.pass.now.me.0.view c.args.session.now.seat begin c.begin.new.p.me.0.view) c.begin.result c.in_ok-ok.field-0 c.in_ok-ok.ensures.value c.begin.ensures.begun).known
