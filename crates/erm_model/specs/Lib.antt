@@ -10,3 +10,4 @@ pub mod Run
 pub mod Safe
 pub mod SerialOrder
 pub mod Spelling
+pub mod Staying

@@ -16,6 +16,9 @@ pub const READ_LIMIT: usize = 512;
 /// The most objects that a transaction claims.
 pub const WRITE_LIMIT: usize = 128;
 
+/// The most savepoints that a transaction holds.
+pub const SAVES: usize = 8;
+
 /// The most objects that a put makes.
 pub const PUT_OBJECTS: usize = 14;
 

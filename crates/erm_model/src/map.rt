@@ -74,6 +74,15 @@ impl Map {
         Ok(())
     }
 
+    /// The same map once more.
+    pub fn copy(&self) -> Result<Map, AllocError>
+        ensures { IfOk result (λ copy. copy ≡ self.now) }
+    {
+        Ok(Map {
+            entries: self.entries.clone()?,
+        })
+    }
+
     /// Takes the value of a key away.
     pub fn remove(&mut self, table: u8, key: u64)
         ensures { self.new ≡ map.remove self.old (at table key) }

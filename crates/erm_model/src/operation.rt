@@ -1,7 +1,7 @@
-//! What a transaction asks of the database map, and what it is answered.
+//! What a transaction asks, and what it is answered.
 use crate::{Pairs, Value};
 
-/// An operation on the database map.
+/// An operation of a transaction: on the database map, or on its savepoints.
 #[derive(Drop)]
 pub enum Op {
     /// Reads the value of a key.
@@ -14,6 +14,11 @@ pub enum Op {
     Next { table: u8, from: u64 },
     /// Finds all keys from `low` to `high`, these two too, that have a value.
     Scan { table: u8, low: u64, high: u64 },
+    /// Saves the map as it is, as one more savepoint. The first is number 1.
+    Save,
+    /// Goes back to the savepoint of this number, which stays saved, and those made after it don't. Where there is none of the
+    /// number, nothing changes.
+    Back { n: u32 },
 }
 
 /// The answer to an operation.
@@ -21,7 +26,7 @@ pub enum Op {
 pub enum Reply {
     /// To a `Get`: the value, or none.
     Value(Option<Value>),
-    /// To a `Put` and a `Del`.
+    /// To a `Put`, a `Del`, a `Save` and a `Back`.
     Done,
     /// To a `Next`: the key found, with its value, or none.
     Pair(Option<(u64, Value)>),

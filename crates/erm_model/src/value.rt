@@ -8,7 +8,7 @@ use std::marker::Model;
 pub const VALUE_BYTES: usize = 112;
 
 /// A value: 0 to 112 bytes. Contracts see the list of its bytes.
-#[derive(Drop, PartialEq, Eq)]
+#[derive(Clone, Drop, PartialEq, Eq)]
 pub struct Value(ArrayVec<u8, VALUE_BYTES>);
 
 impl Model for Value {
