@@ -2,7 +2,7 @@
 use Rattle.std.specs.Prelude.{◌≡◌, ◌≢◌, ℕ, ◌+◌, ◌*◌, ◌<◌, ◌≤◌, ◌⊎◌, min, List, sum_by, take, Option, Some, None, IfSome}
 use Rattle.std.specs.List.{fold, slice_get}
 use Rattle.std.specs.Option.{option_map_or}
-use Rattle.erm_model.specs.declared.limits.TheConstants.{GREATEST_BLOCK, LEAST_BLOCK, MOST_CELLS, OID_LIMIT, PUT_OBJECTS, PUT_ROWS, READ_LIMIT, RING_WORDS, SESSIONS, STOP, TABLES, TABLE_CELLS, WRITE_LIMIT}
+use Rattle.erm_model.specs.declared.limits.TheConstants.{GREATEST_BLOCK, LEAST_BLOCK, MOST_CELLS, OID_LIMIT, PUT_OBJECTS, PUT_ROWS, READ_LIMIT, RING_WORDS, SAVES, SESSIONS, STOP, TABLES, TABLE_CELLS, WRITE_LIMIT}
 use Rattle.erm_model.specs.declared.outcome.Phase.TheVariants.{Sealed}
 use Rattle.erm_model.specs.Member.{◌∈◌}
 use Rattle.erm_report.specs.declared.answer.Answer.{Answer}
@@ -231,6 +231,25 @@ HasRefusalCause m c t (answer.CellsFull drawn) = IsCounted TABLE_CELLS MOST_CELL
 HasRefusalCause m c t (answer.OidsFull drawn) = IsCounted OID_LIMIT OID_LIMIT drawn × (OID_LIMIT < m.opening.first + total_of makes_of m.lines)
 HasRefusalCause m c t a = Unit {0}
 
+-- how many savepoints are held after an answer: one that was made is one more, and a way back keeps those up to its own
+abbrev pub held_after : Answer → ℕ → ℕ
+held_after (answer.Saved told) held = held + 1
+held_after (answer.Back n) held = n
+held_after a held = held
+
+-- how many savepoints a transaction holds, by its lines
+abbrev pub held_of : Transaction → ℕ
+held_of t = fold (λ held e. held_after e.answer held) 0 t.lines
+
+-- The cause of an answer to a line that makes a savepoint or goes back to one, where the transaction holds so many before it: the number of the
+-- savepoint made is the next one, where there are fewer than there may be; one goes back to a savepoint that is held.
+abbrev pub HasSaveCause : ℕ → Command → Answer → Type 0
+HasSaveCause held command.Save (answer.Saved told) = (held < SAVES) × (told ≡ held + 1)
+HasSaveCause held command.Save answer.SavesFull = held ≡ SAVES
+HasSaveCause held (command.Back n) (answer.Back told) = (1 ≤ n) × (n ≤ held)
+HasSaveCause held (command.Back n) (answer.NoSave told) = (told ≡ held) × ((n ≡ 0) ⊎ (held < n))
+HasSaveCause held c a = Unit {0}
+
 -- The cause of an answer to a line that needs no transaction.
 abbrev pub HasLogCause : Moment → Answer → Type 0
 HasLogCause m (answer.LogEnd tail) = (STOP ≤ tail) × (tail ≤ m.opening.stamp + LEAST_BLOCK + GREATEST_BLOCK * total_of draws_of m.lines)
@@ -252,6 +271,7 @@ HasUnfilledCause m c a = Unit {0}
 -- the cause of an answer
 pub record HasCause (m : Moment) (c : Command) (a : Answer) : Type 0 where
   pub own : (t : Transaction) → IsOwn m c a t → HasRefusalCause m c t a
+  pub saves : (t : Transaction) → current_of m m.session ≡ Some t → HasSaveCause (held_of t) c a
   pub log : HasLogCause m a
   pub unfilled : HasUnfilledCause m c a
 

@@ -5,6 +5,7 @@ use Rattle.std.specs.Option.{option_and_then, option_map, option_map_or, option_
 use Rattle.erm_model.specs.declared.operation.Op.{Op}
 use Rattle.erm_model.specs.declared.operation.Op.TheVariants as op
 use Rattle.erm_model.specs.declared.operation.Reply.{Reply}
+use Rattle.erm_model.specs.declared.operation.Reply.TheVariants as reply
 use Rattle.erm_model.specs.Run.{Step}
 use Rattle.erm_model.specs.Committed.{Committed}
 use Rattle.erm_model.specs.Member.{◌∈◌}
@@ -34,11 +35,15 @@ op_of (command.Put table key value) = Some (op.Put table key value)
 op_of (command.Del table key) = Some (op.Del table key)
 op_of (command.Next table from) = Some (op.Next table from)
 op_of (command.Scan table low high) = Some (op.Scan table low high)
+op_of command.Save = Some op.Save
+op_of (command.Back n) = Some (op.Back n)
 op_of c = None
 
--- the reply that an answer is, where it is one to an operation
+-- the reply that an answer is, where it is one to an operation: a savepoint that was made, and a way back, are done
 abbrev pub reply_in : Answer → Option Reply
 reply_in (answer.Replied r) = Some r
+reply_in (answer.Saved held) = Some reply.Done
+reply_in (answer.Back n) = Some reply.Done
 reply_in a = None
 
 -- the table that a command names
@@ -58,7 +63,19 @@ is_writer (command.Del table key) = true
 is_writer (command.Tidy table key) = true
 is_writer c = false
 
--- a line of a transaction or a snapshot that names a table, with its answer
+-- whether a command works on the database map: it names a table, makes a savepoint, or goes back to one
+abbrev pub works_on_map : Command → Bool
+works_on_map (command.Get table key) = true
+works_on_map (command.Put table key value) = true
+works_on_map (command.Del table key) = true
+works_on_map (command.Next table from) = true
+works_on_map (command.Scan table low high) = true
+works_on_map (command.Tidy table key) = true
+works_on_map command.Save = true
+works_on_map (command.Back n) = true
+works_on_map c = false
+
+-- a line of a transaction or a snapshot that works on the map, with its answer
 pub record Exchange : Type 0 where
   pub asked : Command
   pub answer : Answer
@@ -70,7 +87,7 @@ pub data Ending : Type 0 where
   Excludes : (stamp : Option ℕ) (succ pred : ℕ) → Ending
   Aborts : Ending
 
--- a transaction: its session and number, its begin stamp, its lines that name a table, its commit stamp where a line told that it was
+-- a transaction: its session and number, its begin stamp, its lines that work on the map, its commit stamp where a line told that it was
 -- sealed, and how it ended
 pub record Transaction : Type 0 where
   pub session : ℕ
@@ -81,7 +98,7 @@ pub record Transaction : Type 0 where
   pub ending : Ending
 
 -- A snapshot that only reads (Ports and Grittner, 2012): its number in its session, its begin stamp where a line told that it is safe there,
--- its lines that name a table, and whether it has its place in the serial order, since it ended.
+-- its lines that work on the map, and whether it has its place in the serial order, since it ended.
 pub record Snapshot : Type 0 where
   pub number : ℕ
   pub begin : Option ℕ
@@ -123,11 +140,11 @@ begun session begin p = record { session = session; number = next_number p; begi
 abbrev pub own_snapshot : Progress → Snapshot
 own_snapshot p = option_map_or (λ s. s) p.snapshot (record { number = next_number p; begin = None; lines = []; placed = false })
 
--- a line with its answer, where it names a table
+-- a line with its answer, where it works on the map
 abbrev pub exchange_of : Option Command → Answer → Option Exchange
-exchange_of asked a = option_and_then (λ c. option_map (λ table. record { asked = c; answer = a }) (table_of c)) asked
+exchange_of asked a = option_and_then (λ c. if works_on_map c then Some (record { asked = c; answer = a }) else None) asked
 
--- a transaction after one more of its lines that name a table, and a snapshot
+-- a transaction after one more of its lines that work on the map, and a snapshot
 abbrev pub with_line : Option Command → Answer → Transaction → Transaction
 with_line asked a t = record t { lines = t.lines ++ option_to_list (exchange_of asked a) }
 

@@ -1,12 +1,16 @@
 -- The ends of the exclusion window are tight where the lines show it: a key's record that a transaction touched was made by a commit
--- that put the key, and one that it read is overwritten by the next commit that writes the key.
-use Rattle.std.specs.Prelude.{◌≡◌, ℕ, ◌<◌, ◌≤◌, ◌⊎◌, List, ◌∷◌, ◌++◌, Some}
+-- that put the key, and one that it read is overwritten by the next commit that writes the key. A put that a way back has undone makes no
+-- record that stays; but where there was one, it is overwritten all the same, and what was read stays read.
+use Rattle.std.specs.Prelude.{◌≡◌, ℕ, ◌<◌, ◌≤◌, ◌⊎◌, List, ◌∷◌, ◌++◌, Option, Some}
+use Rattle.std.specs.Option.{option_map}
+use Rattle.erm_model.specs.declared.operation.Op.{Op}
 use Rattle.erm_model.specs.declared.operation.Reply.{Reply}
 use Rattle.erm_model.specs.Member.{◌∈◌}
+use Rattle.erm_model.specs.Run.{staying}
 use Rattle.erm_report.specs.declared.answer.Answer.{Answer}
 use Rattle.erm_report.specs.declared.answer.Answer.TheVariants as answer
 use Rattle.erm_script.specs.declared.script.Command.TheVariants as command
-use Rattle.erm_good_report.specs.Transactions.{Exchange, Ending, Commits, Excludes, Transaction, reply_in}
+use Rattle.erm_good_report.specs.Transactions.{Exchange, Ending, Commits, Excludes, Transaction, reply_in, step_of}
 
 -- a line that was answered; one that was answered how many versions were cut off
 abbrev pub IsReplied : Answer → Type 0
@@ -32,32 +36,49 @@ TidiesKey table key e = (e.asked ≡ command.Tidy table key) × IsTidied e.answe
 abbrev pub HasLine : (Exchange → Type 0) → Transaction → Type 0
 HasLine P t = (e : Exchange) × (e ∈ t.lines) × P e
 
+-- the operation of a line that was answered
+abbrev pub op_done : Exchange → Option Op
+op_done e = option_map (λ step. step.op) (step_of e)
+
+-- The lines of a transaction that stay: a way back takes away those since its savepoint.
+abbrev pub lines_kept : Transaction → List Exchange
+lines_kept t = staying op_done t.lines
+
+-- a transaction has such a line, and it stays
+abbrev pub HasKept : (Exchange → Type 0) → Transaction → Type 0
+HasKept P t = (e : Exchange) × (e ∈ lines_kept t) × P e
+
 -- a transaction that committed with these stamps is one of these
 pub record IsCommit (transactions : List Transaction) (u : Transaction) (stamp succ : ℕ) : Type 0 where
   pub of : u ∈ transactions
   pub pred : ℕ
   pub ending : u.ending ≡ Commits stamp succ pred
 
--- below a bound a commit put the key, which has a record from then on
+-- below a bound a commit put the key, and the put stayed: it has a record from then on
 pub record WasPut (transactions : List Transaction) (table key bound : ℕ) : Type 0 where
   pub by : Transaction
   pub stamp : ℕ
   pub succ : ℕ
   pub commit : IsCommit transactions by stamp succ
   pub below : stamp < bound
-  pub puts : HasLine (PutsKey table key) by
+  pub puts : HasKept (PutsKey table key) by
 
--- a commit overwrites the key's record: it put the key, or it deleted or tidied it where it had a record when it began
+-- it puts the key, deletes it or tidies it
+abbrev pub ChangesKey : ℕ → ℕ → Exchange → Type 0
+ChangesKey table key e = PutsKey table key e ⊎ DeletesKey table key e ⊎ TidiesKey table key e
+
+-- A commit overwrites the key's record: it put the key, and the put stayed; or it put, deleted or tidied it where it had a record when it began,
+-- also where that was undone.
 abbrev pub OverwritesKey : List Transaction → ℕ → ℕ → Transaction → Type 0
 OverwritesKey transactions table key v =
-    HasLine (PutsKey table key) v
-    ⊎ (HasLine (λ e. DeletesKey table key e ⊎ TidiesKey table key e) v × WasPut transactions table key v.begin)
+    HasKept (PutsKey table key) v
+    ⊎ (HasLine (ChangesKey table key) v × WasPut transactions table key v.begin)
 
--- The predecessor stamp is at least that of each commit below the begin that put a key which the transaction got, put or deleted.
+-- The predecessor stamp is at least that of each commit below the begin whose put of a key stayed which the transaction got, put or deleted.
 abbrev pub IsLowEnd : List Transaction → Transaction → ℕ → Type 0
 IsLowEnd transactions t pred = (table key stamp succ : ℕ) (u : Transaction)
     → HasLine (λ e. GetsKey table key e ⊎ PutsKey table key e ⊎ DeletesKey table key e) t
-    → IsCommit transactions u stamp succ → stamp < t.begin → HasLine (PutsKey table key) u → stamp ≤ pred
+    → IsCommit transactions u stamp succ → stamp < t.begin → HasKept (PutsKey table key) u → stamp ≤ pred
 
 -- the transaction got the key before any put or del of its own of it
 pub record GetsFirst (t : Transaction) (table key : ℕ) : Type 0 where

@@ -2,7 +2,7 @@
 use Rattle.std.specs.Prelude.{ℕ, List, Some, None, codes}
 use Rattle.erm_model.specs.declared.operation.Reply.TheVariants as reply
 use Rattle.erm_report.specs.declared.answer.Answer.{Answer}
-use Rattle.erm_report.specs.declared.answer.Answer.TheVariants.{Began, Safe, Replied, Cut, Sealed, Committed, Excluded, Aborted, Ended, Durable, Flushed, Empty, Checkpointed, NotIdle, NoTransaction, IsSealed, NotSealed, ReadOnly, NotSafe, LogEnd, NumbersEnd, WaitSeat, WaitRing, Unsafe, Owned, Newer, ExcludedEarly, ReadsFull, WritesFull, CellsFull, OidsFull, NotFlushed, NoReceipt, Unfilled, DiskFault}
+use Rattle.erm_report.specs.declared.answer.Answer.TheVariants.{Began, Safe, Replied, Cut, Saved, Back, Sealed, Committed, Excluded, Aborted, Ended, Durable, Flushed, Empty, Checkpointed, NotIdle, NoTransaction, IsSealed, NotSealed, ReadOnly, NotSafe, LogEnd, NumbersEnd, WaitSeat, WaitRing, Unsafe, Owned, Newer, ExcludedEarly, ReadsFull, WritesFull, CellsFull, OidsFull, SavesFull, NoSave, NotFlushed, NoReceipt, Unfilled, DiskFault}
 
 -- the words of an answer up to its first number or value
 abbrev pub lead : Answer → List ℕ
@@ -15,6 +15,8 @@ lead (Replied (reply.Pair None)) = codes "none"
 lead (Replied (reply.Pair (Some found))) = codes "pair "
 lead (Replied (reply.Found pairs)) = codes "pairs "
 lead (Cut count) = codes "cut "
+lead (Saved held) = codes "saved "
+lead (Back n) = codes "back "
 lead (Sealed stamp) = codes "sealed "
 lead (Committed stamp succ pred) = codes "committed "
 lead (Excluded stamp succ pred) = codes "excluded at "
@@ -42,6 +44,8 @@ lead ReadsFull = codes "reads full"
 lead WritesFull = codes "writes full"
 lead (CellsFull drawn) = codes "cells full "
 lead (OidsFull drawn) = codes "oids full "
+lead SavesFull = codes "saves full"
+lead (NoSave held) = codes "no save "
 lead (NotFlushed flushed) = codes "not flushed "
 lead NoReceipt = codes "no receipt"
 lead (Unfilled stamp) = codes "unfilled "

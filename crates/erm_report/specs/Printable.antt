@@ -5,7 +5,7 @@ use Rattle.erm_model.specs.declared.limits.TheConstants.{TABLES}
 use Rattle.erm_model.specs.declared.operation.Reply.{Reply}
 use Rattle.erm_model.specs.declared.operation.Reply.TheVariants as reply
 use Rattle.erm_report.specs.declared.answer.Answer.{Answer}
-use Rattle.erm_report.specs.declared.answer.Answer.TheVariants.{Began, Safe, Replied, Cut, Sealed, Committed, Excluded, Durable, Flushed, Empty, Checkpointed, LogEnd, WaitSeat, WaitRing, Unsafe, Owned, Newer, ExcludedEarly, CellsFull, OidsFull, NotFlushed, Unfilled}
+use Rattle.erm_report.specs.declared.answer.Answer.TheVariants.{Began, Safe, Replied, Cut, Saved, Back, Sealed, Committed, Excluded, Durable, Flushed, Empty, Checkpointed, LogEnd, WaitSeat, WaitRing, Unsafe, Owned, Newer, ExcludedEarly, CellsFull, OidsFull, NoSave, NotFlushed, Unfilled}
 use Rattle.erm_report.specs.declared.line.Line.{Line}
 use Rattle.erm_report.specs.declared.line.Line.TheVariants as line
 use Rattle.erm_script.specs.Script.{IsValue}
@@ -32,6 +32,8 @@ FitsAnswer (Began stamp) = stamp < 2 ^ 64
 FitsAnswer (Safe stamp) = stamp < 2 ^ 64
 FitsAnswer (Replied r) = FitsReply r
 FitsAnswer (Cut count) = count < 2 ^ 32
+FitsAnswer (Saved held) = held < 2 ^ 32
+FitsAnswer (Back n) = n < 2 ^ 32
 FitsAnswer (Sealed stamp) = stamp < 2 ^ 64
 FitsAnswer (Committed stamp succ pred) = (stamp < 2 ^ 64) × (succ < 2 ^ 64) × (pred < 2 ^ 64)
 FitsAnswer (Excluded stamp succ pred) = (stamp < 2 ^ 64) × (succ < 2 ^ 64) × (pred < 2 ^ 64)
@@ -48,6 +50,7 @@ FitsAnswer (Newer stamp) = stamp < 2 ^ 64
 FitsAnswer (ExcludedEarly succ pred) = (succ < 2 ^ 64) × (pred < 2 ^ 64)
 FitsAnswer (CellsFull drawn) = drawn < 2 ^ 64
 FitsAnswer (OidsFull drawn) = drawn < 2 ^ 64
+FitsAnswer (NoSave held) = held < 2 ^ 32
 FitsAnswer (NotFlushed flushed) = flushed < 2 ^ 64
 FitsAnswer (Unfilled stamp) = stamp < 2 ^ 64
 FitsAnswer answer = Unit {0}

@@ -8,7 +8,7 @@ use Rattle.erm_model.specs.declared.operation.Reply.TheVariants as reply
 use Rattle.erm_script.specs.declared.fault.FaultKind.{FaultKind}
 use Rattle.erm_script.specs.declared.fault.FaultKind.TheVariants as fault
 use Rattle.erm_report.specs.declared.answer.Answer.{Answer}
-use Rattle.erm_report.specs.declared.answer.Answer.TheVariants.{Began, Safe, Replied, Cut, Sealed, Committed, Excluded, Aborted, Ended, Durable, Flushed, Empty, Checkpointed, NotIdle, NoTransaction, IsSealed, NotSealed, ReadOnly, NotSafe, LogEnd, NumbersEnd, WaitSeat, WaitRing, Unsafe, Owned, Newer, ExcludedEarly, ReadsFull, WritesFull, CellsFull, OidsFull, NotFlushed, NoReceipt, Unfilled, DiskFault}
+use Rattle.erm_report.specs.declared.answer.Answer.TheVariants.{Began, Safe, Replied, Cut, Saved, Back, Sealed, Committed, Excluded, Aborted, Ended, Durable, Flushed, Empty, Checkpointed, NotIdle, NoTransaction, IsSealed, NotSealed, ReadOnly, NotSafe, LogEnd, NumbersEnd, WaitSeat, WaitRing, Unsafe, Owned, Newer, ExcludedEarly, ReadsFull, WritesFull, CellsFull, OidsFull, SavesFull, NoSave, NotFlushed, NoReceipt, Unfilled, DiskFault}
 use Rattle.erm_report.specs.declared.line.Line.{Line}
 use Rattle.erm_report.specs.declared.line.Line.TheVariants as line
 
@@ -31,6 +31,8 @@ answer_text (Replied (reply.Pair None)) = codes "none"
 answer_text (Replied (reply.Pair (Some found))) = codes "pair " ++ decimal found.0 ++ codes " " ++ value_word found.1
 answer_text (Replied (reply.Found pairs)) = codes "pairs " ++ decimal (length pairs) ++ flat_map found_text pairs
 answer_text (Cut count) = codes "cut " ++ decimal count
+answer_text (Saved held) = codes "saved " ++ decimal held
+answer_text (Back n) = codes "back " ++ decimal n
 answer_text (Sealed stamp) = codes "sealed " ++ decimal stamp
 answer_text (Committed stamp succ pred) = codes "committed " ++ stamps_text stamp succ pred
 answer_text (Excluded stamp succ pred) = codes "excluded at " ++ stamps_text stamp succ pred
@@ -58,6 +60,8 @@ answer_text ReadsFull = codes "reads full"
 answer_text WritesFull = codes "writes full"
 answer_text (CellsFull drawn) = codes "cells full " ++ decimal drawn
 answer_text (OidsFull drawn) = codes "oids full " ++ decimal drawn
+answer_text SavesFull = codes "saves full"
+answer_text (NoSave held) = codes "no save " ++ decimal held
 answer_text (NotFlushed flushed) = codes "not flushed " ++ decimal flushed
 answer_text NoReceipt = codes "no receipt"
 answer_text (Unfilled stamp) = codes "unfilled " ++ decimal stamp

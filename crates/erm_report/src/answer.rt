@@ -12,6 +12,14 @@ pub enum Answer {
     Replied(Reply),
     /// To a `tidy`: so many versions were cut off.
     Cut(u32),
+    /// The transaction has one more savepoint, and holds so many.
+    Saved {
+        held: u32,
+    },
+    /// The transaction went back to its savepoint of this number.
+    Back {
+        n: u32,
+    },
     /// The transaction is sealed, with this commit stamp.
     Sealed(Stamp),
     /// The transaction committed.
@@ -99,6 +107,12 @@ pub enum Answer {
     /// Refused: all objects were given out, so many. The transaction goes on as before.
     OidsFull {
         drawn: u64,
+    },
+    /// Refused: the transaction holds as many savepoints as it may. It goes on as before.
+    SavesFull,
+    /// Refused: the transaction has no savepoint of this number, but holds so many. It goes on as before.
+    NoSave {
+        held: u32,
     },
     /// Refused: the session's last commit is not synced, but the log up to this stamp.
     NotFlushed {

@@ -10,7 +10,7 @@ use Rattle.erm_script.specs.declared.script.TheConstants.{LAST_TABLE}
 use Rattle.erm_script.specs.declared.grammar.Grammar.{Grammar}
 use Rattle.erm_script.specs.declared.keyword.Keyword.{Keyword as AnyKeyword}
 use Rattle.erm_script.specs.Keywords.{Argument, arguments_of, word_of, names_session, has_command}
-use Rattle.erm_script.specs.Keywords.Argument.{TableArgument, KeyArgument, ValueArgument}
+use Rattle.erm_script.specs.Keywords.Argument.{TableArgument, KeyArgument, ValueArgument, SavepointArgument}
 use Rattle.erm_script.specs.Script.{IsName, IsValue, kept_lines, AreScript, IsScript}
 use Rattle.erm_script.specs.Words.{words_of}
 
@@ -19,12 +19,14 @@ abbrev pub IsNumberFor : Argument → List ℕ → Type 0
 IsNumberFor TableArgument word = (n : ℕ) × (n ≤ LAST_TABLE) × (word ≡ decimal n)
 IsNumberFor KeyArgument word = (n : ℕ) × (n < 2 ^ 64) × (word ≡ decimal n)
 IsNumberFor ValueArgument word = Unit {0}
+IsNumberFor SavepointArgument word = (n : ℕ) × (n < 2 ^ 32) × (word ≡ decimal n)
 
 -- a word is a value, where its place asks for one
 abbrev pub IsValueFor : Argument → List ℕ → Type 0
 IsValueFor TableArgument word = Unit {0}
 IsValueFor KeyArgument word = Unit {0}
 IsValueFor ValueArgument word = (value : List ℕ) × IsValue value × (word ≡ value_word value)
+IsValueFor SavepointArgument word = Unit {0}
 
 -- of each argument with its word P holds
 abbrev pub EachFor : (Argument → List ℕ → Type 0) → List Argument → List (List ℕ) → Type 0

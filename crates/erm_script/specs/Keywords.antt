@@ -2,7 +2,7 @@
 use Rattle.std.specs.Prelude.{ℕ, Bool, true, false, List, [], ◌∷◌, codes}
 use Rattle.erm_script.specs.declared.grammar.Grammar.{Grammar}
 use Rattle.erm_script.specs.declared.keyword.Keyword.{Keyword}
-use Rattle.erm_script.specs.declared.keyword.Keyword.TheVariants.{Begin, Safe, Get, Put, Del, Next, Scan, Tidy, Seal, Settle, Commit, Abort, Durable, Flush, Checkpoint}
+use Rattle.erm_script.specs.declared.keyword.Keyword.TheVariants.{Begin, Safe, Get, Put, Del, Next, Scan, Tidy, Save, Back, Seal, Settle, Commit, Abort, Durable, Flush, Checkpoint}
 
 -- the word of a command
 abbrev pub word_of : Keyword → List ℕ
@@ -14,6 +14,8 @@ word_of Del = codes "del"
 word_of Next = codes "next"
 word_of Scan = codes "scan"
 word_of Tidy = codes "tidy"
+word_of Save = codes "save"
+word_of Back = codes "back"
 word_of Seal = codes "seal"
 word_of Settle = codes "settle"
 word_of Commit = codes "commit"
@@ -43,6 +45,7 @@ pub data Argument : Type 0 where
   TableArgument : Argument
   KeyArgument : Argument
   ValueArgument : Argument
+  SavepointArgument : Argument
 
 -- the arguments that a command takes
 abbrev pub arguments_of : Keyword → List Argument
@@ -52,4 +55,5 @@ arguments_of Del = TableArgument ∷ KeyArgument ∷ []
 arguments_of Next = TableArgument ∷ KeyArgument ∷ []
 arguments_of Scan = TableArgument ∷ KeyArgument ∷ KeyArgument ∷ []
 arguments_of Tidy = TableArgument ∷ KeyArgument ∷ []
+arguments_of Back = SavepointArgument ∷ []
 arguments_of k = []

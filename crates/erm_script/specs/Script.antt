@@ -43,6 +43,8 @@ keyword_of (command.Del table key) = keyword.Del
 keyword_of (command.Next table from) = keyword.Next
 keyword_of (command.Scan table low high) = keyword.Scan
 keyword_of (command.Tidy table key) = keyword.Tidy
+keyword_of command.Save = keyword.Save
+keyword_of (command.Back n) = keyword.Back
 keyword_of command.Seal = keyword.Seal
 keyword_of command.Settle = keyword.Settle
 keyword_of command.Commit = keyword.Commit
@@ -51,7 +53,7 @@ keyword_of command.Durable = keyword.Durable
 keyword_of command.Flush = keyword.Flush
 keyword_of command.Checkpoint = keyword.Checkpoint
 
--- the words of a command's arguments: its table, its keys and its value
+-- the words of a command's arguments: its table, its keys and its value, or its savepoint
 abbrev pub given_words : Command → List (List ℕ)
 given_words (command.Get table key) = decimal table ∷ decimal key ∷ []
 given_words (command.Put table key value) = decimal table ∷ decimal key ∷ value_word value ∷ []
@@ -59,6 +61,7 @@ given_words (command.Del table key) = decimal table ∷ decimal key ∷ []
 given_words (command.Next table from) = decimal table ∷ decimal from ∷ []
 given_words (command.Scan table low high) = decimal table ∷ decimal low ∷ decimal high ∷ []
 given_words (command.Tidy table key) = decimal table ∷ decimal key ∷ []
+given_words (command.Back n) = decimal n ∷ []
 given_words command = []
 
 -- a table and a key that a command may name
@@ -77,6 +80,7 @@ IsInRange (command.Del table key) = IsKey table key
 IsInRange (command.Next table from) = IsKey table from
 IsInRange (command.Scan table low high) = IsKey table low × (high < 2 ^ 64)
 IsInRange (command.Tidy table key) = IsKey table key
+IsInRange (command.Back n) = n < 2 ^ 32
 IsInRange command = Unit {0}
 
 -- a command that a line may ask for

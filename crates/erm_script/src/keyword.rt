@@ -14,6 +14,8 @@ pub enum Keyword {
     Next,
     Scan,
     Tidy,
+    Save,
+    Back,
     Seal,
     Settle,
     Commit,
@@ -52,6 +54,10 @@ impl Keyword {
             Some(Keyword::Scan)
         } else if word == b"tidy".as_slice() {
             Some(Keyword::Tidy)
+        } else if word == b"save".as_slice() {
+            Some(Keyword::Save)
+        } else if word == b"back".as_slice() {
+            Some(Keyword::Back)
         } else if word == b"seal".as_slice() {
             Some(Keyword::Seal)
         } else if word == b"settle".as_slice() {

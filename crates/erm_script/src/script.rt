@@ -26,6 +26,10 @@ pub enum Command {
     Scan { table: u8, low: u64, high: u64 },
     /// Cuts off the versions of a key that nobody can read any more.
     Tidy { table: u8, key: u64 },
+    /// Makes one more savepoint of the transaction.
+    Save,
+    /// Goes back to the savepoint of this number: what the transaction has written since is undone, and later savepoints are gone.
+    Back { n: u32 },
     /// Draws the commit stamp: after this the transaction reads and writes no more.
     Seal,
     /// Decides a sealed transaction.

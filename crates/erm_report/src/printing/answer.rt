@@ -33,6 +33,8 @@ fn lead(answer: &Answer) -> &'static [u8]
         Answer::Safe(_) => b"safe ",
         Answer::Replied(reply) => lead_of_reply(reply),
         Answer::Cut(_) => b"cut ",
+        Answer::Saved { .. } => b"saved ",
+        Answer::Back { .. } => b"back ",
         Answer::Sealed(_) => b"sealed ",
         Answer::Committed { .. } => b"committed ",
         Answer::Excluded { .. } => b"excluded at ",
@@ -60,6 +62,8 @@ fn lead(answer: &Answer) -> &'static [u8]
         Answer::WritesFull => b"writes full",
         Answer::CellsFull { .. } => b"cells full ",
         Answer::OidsFull { .. } => b"oids full ",
+        Answer::SavesFull => b"saves full",
+        Answer::NoSave { .. } => b"no save ",
         Answer::NotFlushed { .. } => b"not flushed ",
         Answer::NoReceipt => b"no receipt",
         Answer::Unfilled(_) => b"unfilled ",
@@ -101,7 +105,10 @@ fn push_told(out: &mut Vec<u8>, words: &[u8], answer: &Answer) -> Result<(), All
         | Answer::NotFlushed { flushed: stamp }
         | Answer::Unfilled(stamp) => push_count(out, words, *stamp),
         Answer::CellsFull { drawn } | Answer::OidsFull { drawn } => push_count(out, words, *drawn),
-        Answer::Cut(count) => push_count(out, words, u64::from(*count)),
+        Answer::Cut(count)
+        | Answer::Saved { held: count }
+        | Answer::Back { n: count }
+        | Answer::NoSave { held: count } => push_count(out, words, u64::from(*count)),
         Answer::Replied(reply) => push_reply(out, words, reply),
         Answer::Committed { stamp, succ, pred } | Answer::Excluded { stamp, succ, pred } => {
             push_stamps(out, words, *stamp, *succ, *pred)
@@ -123,6 +130,7 @@ fn push_told(out: &mut Vec<u8>, words: &[u8], answer: &Answer) -> Result<(), All
         | Answer::NumbersEnd
         | Answer::ReadsFull
         | Answer::WritesFull
+        | Answer::SavesFull
         | Answer::NoReceipt
         | Answer::DiskFault => out.extend_from_slice(words),
     }

@@ -1,7 +1,7 @@
 //! One line of a script.
 ghost use Rattle.std.specs.Prelude.{◌≡◌, ◌≢◌, ◌∷◌, [], ℕ, ◌^◌, ◌<◌, ◌≤◌, ◌⊎◌, List, true, false, length, IfNone, IfSome, IfOk, IfErr, decimal};
 ghost use Rattle.erm_script.specs.Keywords.{word_of, names_session, has_command, arguments_of};
-ghost use Rattle.erm_script.specs.Keywords.Argument.{TableArgument, KeyArgument, ValueArgument};
+ghost use Rattle.erm_script.specs.Keywords.Argument.{TableArgument, KeyArgument, ValueArgument, SavepointArgument};
 ghost use Rattle.erm_script.specs.Script.{Spells, SpellsAlone, IsCommand, IsInRange, IsKey, IsValue, keyword_of, given_words};
 ghost use Rattle.erm_script.specs.Faults.{NamesNoSession, IsFirstFault, IsFaultOfCommand, IsFaultOfArguments};
 ghost use Rattle.erm_script.specs.Seats.{IsSeatOf};
@@ -146,6 +146,10 @@ fn with_arguments(keyword: Keyword, words: Option<&[u8]>) -> Result<Command, Fau
             let (table, key) = key(words)?;
             Ok(Command::Tidy { table, key })
         }
+        Keyword::Back => {
+            let n = savepoint(words)?;
+            Ok(Command::Back { n })
+        }
         bare => without_arguments(bare, words),
     }
 }
@@ -162,6 +166,7 @@ fn without_arguments(keyword: Keyword, words: Option<&[u8]>) -> Result<Command, 
     match keyword {
         Keyword::Begin => Ok(Command::Begin),
         Keyword::Safe => Ok(Command::Safe),
+        Keyword::Save => Ok(Command::Save),
         Keyword::Seal => Ok(Command::Seal),
         Keyword::Settle => Ok(Command::Settle),
         Keyword::Commit => Ok(Command::Commit),
@@ -223,6 +228,20 @@ fn pair(words: Option<&[u8]>) -> Result<(u8, u64, Value), FaultKind>
         return Err(FaultKind::Value);
     };
     Ok((table, key, value))
+}
+
+// the number of a savepoint
+fn savepoint(words: Option<&[u8]>) -> Result<u32, FaultKind>
+    ensures spelled { IfOk result (λ n. (n < 2 ^ 32) × (words_after words.entry ≡ decimal n ∷ [])) }
+    ensures fault { IfErr result (λ kind. IsFaultOfArguments (SavepointArgument ∷ []) (words_after words.entry) kind) }
+{
+    let Some(word) = word::one(words) else {
+        return Err(FaultKind::Args);
+    };
+    let Some(n) = word::savepoint(word) else {
+        return Err(FaultKind::Number);
+    };
+    Ok(n)
 }
 
 // the numbers of a table and of a key

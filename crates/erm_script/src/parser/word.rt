@@ -30,6 +30,18 @@ pub fn first(bytes: &[u8]) -> (&[u8], Option<&[u8]>)
     }
 }
 
+/// The word, where there is one.
+pub fn one(words: Option<&[u8]>) -> Option<&[u8]>
+    ensures others { IfNone result (length (words_after words.entry) ≢ 1) }
+    ensures word { IfSome result (λ w. words_after words.entry ≡ w.now ∷ []) }
+{
+    let (word, rest) = first(words?);
+    match rest {
+        None => Some(word),
+        Some(_) => None,
+    }
+}
+
 /// The words, where they are two.
 pub fn two(words: Option<&[u8]>) -> Option<(&[u8], &[u8])>
     ensures others { IfNone result (length (words_after words.entry) ≢ 2) }
@@ -95,6 +107,15 @@ pub fn table(word: &[u8]) -> Option<u8>
         return None;
     }
     Some(table as u8)
+}
+
+/// The number of a savepoint: it has 32 bits.
+pub fn savepoint(word: &[u8]) -> Option<u32>
+    ensures refused { IfNone result ((n : ℕ) → n < 2 ^ 32 → word.now ≢ decimal n) }
+    ensures spelled { IfSome result (λ n. (n < 2 ^ 32) × (word.now ≡ decimal n)) }
+{
+    let number = number(word)?;
+    u32::try_from(number).ok()
 }
 
 /// A value: its bytes in lower-case hexadecimal digits, or a dash where it has none.
