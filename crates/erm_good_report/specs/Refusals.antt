@@ -14,7 +14,7 @@ use Rattle.erm_good_report.specs.Causes.{CommitsBeside, EitherWrites, HasNoWindo
 use Rattle.erm_good_report.specs.Opening.{Mode, InTurn, AtOnce, Opening}
 use Rattle.erm_good_report.specs.Phases.{phase_of}
 use Rattle.erm_good_report.specs.Stamps.{DrawsUntold, begin_told, stamp_drawn}
-use Rattle.erm_good_report.specs.Transactions.{Said, said_of, Ending, Commits, Transaction, progress_of, stamp_of, stamp_of_ending, table_of, with_line}
+use Rattle.erm_good_report.specs.Transactions.{Said, said_of, Ending, Commits, Transaction, held_of, progress_of, stamp_of, stamp_of_ending, table_of, with_line}
 
 -- how many objects a command makes at most, and how many it claims at most
 abbrev pub makes_of : Command → ℕ
@@ -230,16 +230,6 @@ HasRefusalCause m c t answer.WritesFull = WRITE_LIMIT < sum_by (λ e. claims_of 
 HasRefusalCause m c t (answer.CellsFull drawn) = IsCounted TABLE_CELLS MOST_CELLS drawn × (TABLE_CELLS < OID_LIMIT + total_of claims_of m.lines)
 HasRefusalCause m c t (answer.OidsFull drawn) = IsCounted OID_LIMIT OID_LIMIT drawn × (OID_LIMIT < m.opening.first + total_of makes_of m.lines)
 HasRefusalCause m c t a = Unit {0}
-
--- how many savepoints are held after an answer: one that was made is one more, and a way back keeps those up to its own
-abbrev pub held_after : Answer → ℕ → ℕ
-held_after (answer.Saved told) held = held + 1
-held_after (answer.Back n) held = n
-held_after a held = held
-
--- how many savepoints a transaction holds, by its lines
-abbrev pub held_of : Transaction → ℕ
-held_of t = fold (λ held e. held_after e.answer held) 0 t.lines
 
 -- The cause of an answer to a line that makes a savepoint or goes back to one, where the transaction holds so many before it: the number of the
 -- savepoint made is the next one, where there are fewer than there may be; one goes back to a savepoint that is held.

@@ -7,6 +7,7 @@ use Rattle.erm_model.specs.declared.operation.Op.TheVariants as op
 use Rattle.erm_model.specs.declared.operation.Reply.{Reply}
 use Rattle.erm_model.specs.declared.operation.Reply.TheVariants as reply
 use Rattle.erm_model.specs.Run.{Step}
+use Rattle.erm_model.specs.Staying.{held_by, staying}
 use Rattle.erm_model.specs.Committed.{Committed}
 use Rattle.erm_model.specs.Member.{◌∈◌}
 use Rattle.erm_report.specs.declared.answer.Answer.{Answer}
@@ -108,6 +109,18 @@ pub record Snapshot : Type 0 where
 -- an operation that was answered, with its reply
 abbrev pub step_of : Exchange → Option Step
 step_of e = option_and_then (λ op. option_map (λ reply. record { op = op; reply = reply }) (reply_in e.answer)) (op_of e.asked)
+
+-- the operation of a line that was answered
+abbrev pub op_done : Exchange → Option Op
+op_done e = option_map (λ step. step.op) (step_of e)
+
+-- the lines of a transaction whose operations on the map stay: a way back takes those since its savepoint away
+abbrev pub lines_kept : Transaction → List Exchange
+lines_kept t = staying op_done t.lines
+
+-- how many savepoints it holds, by its lines
+abbrev pub held_of : Transaction → ℕ
+held_of t = held_by op_done t.lines
 
 -- a transaction's operations that were answered, with their replies
 abbrev pub steps_of : Transaction → List Step

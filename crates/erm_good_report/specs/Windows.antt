@@ -1,16 +1,13 @@
 -- The ends of the exclusion window are tight where the lines show it: a key's record that a transaction touched was made by a commit
 -- that put the key, and one that it read is overwritten by the next commit that writes the key. A put that a way back has undone makes no
 -- record that stays; but where there was one, it is overwritten all the same, and what was read stays read.
-use Rattle.std.specs.Prelude.{◌≡◌, ℕ, ◌<◌, ◌≤◌, ◌⊎◌, List, ◌∷◌, ◌++◌, Option, Some}
-use Rattle.std.specs.Option.{option_map}
-use Rattle.erm_model.specs.declared.operation.Op.{Op}
+use Rattle.std.specs.Prelude.{◌≡◌, ℕ, ◌<◌, ◌≤◌, ◌⊎◌, List, ◌∷◌, ◌++◌, Some}
 use Rattle.erm_model.specs.declared.operation.Reply.{Reply}
 use Rattle.erm_model.specs.Member.{◌∈◌}
-use Rattle.erm_model.specs.Run.{staying}
 use Rattle.erm_report.specs.declared.answer.Answer.{Answer}
 use Rattle.erm_report.specs.declared.answer.Answer.TheVariants as answer
 use Rattle.erm_script.specs.declared.script.Command.TheVariants as command
-use Rattle.erm_good_report.specs.Transactions.{Exchange, Ending, Commits, Excludes, Transaction, reply_in, step_of}
+use Rattle.erm_good_report.specs.Transactions.{Exchange, Ending, Commits, Excludes, Transaction, lines_kept, reply_in}
 
 -- a line that was answered; one that was answered how many versions were cut off
 abbrev pub IsReplied : Answer → Type 0
@@ -35,14 +32,6 @@ TidiesKey table key e = (e.asked ≡ command.Tidy table key) × IsTidied e.answe
 -- a transaction has such a line
 abbrev pub HasLine : (Exchange → Type 0) → Transaction → Type 0
 HasLine P t = (e : Exchange) × (e ∈ t.lines) × P e
-
--- the operation of a line that was answered
-abbrev pub op_done : Exchange → Option Op
-op_done e = option_map (λ step. step.op) (step_of e)
-
--- The lines of a transaction that stay: a way back takes away those since its savepoint.
-abbrev pub lines_kept : Transaction → List Exchange
-lines_kept t = staying op_done t.lines
 
 -- a transaction has such a line, and it stays
 abbrev pub HasKept : (Exchange → Type 0) → Transaction → Type 0
