@@ -1,5 +1,6 @@
 -- What the answer to a line of a script says of the world in which it was run.
 use Rattle.std.specs.Prelude.{◌≡◌, ℕ, ◌+◌, ◌<◌, ◌≤◌, List, [], ◌∷◌, ◌++◌, Option, Some, None}
+use Rattle.erm_model.specs.declared.limits.TheConstants.{SAVES}
 use Rattle.erm_model.specs.declared.operation.Op.{Op}
 use Rattle.erm_model.specs.declared.outcome.Outcome.TheVariants as outcome
 use Rattle.erm_model.specs.declared.outcome.Phase.{Phase}
@@ -15,9 +16,11 @@ use Rattle.erm_script.specs.declared.script.Command.TheVariants as command
 use Rattle.erm_script.specs.declared.script.ScriptLine.{ScriptLine}
 use Rattle.erm_world.specs.declared.stops.BeginStop.TheVariants as begin
 use Rattle.erm_world.specs.declared.stops.SafeStop.TheVariants as safe
+use Rattle.erm_world.specs.declared.stops.SaveStop.TheVariants as save
 use Rattle.erm_world.specs.declared.stops.Wait.TheVariants as wait
 use Rattle.erm_world.specs.Calls.{DidAbort, DidBegin, DidNotSettle, DidSeal, DidSettle, MayNotBegin}
 use Rattle.erm_world.specs.Safe.{DidBeginSafe, DidNotSafe, DidSafe}
+use Rattle.erm_world.specs.Saves.{DidNotSave, DidSave, HasNoSave, WentBack}
 use Rattle.erm_world.specs.World.{Fate, Finished, IsSession, View, phase_at, size_of, work_at}
 use Rattle.erm_world.specs.World as world
 use Rattle.erm_good_report.specs.Phases.{FitsPhase, refusal_of}
@@ -47,6 +50,18 @@ DidOperation v seat c (answer.Replied r) t =
     (op : Op) × (op_of c ≡ Some op) × DidCalls v seat (record { op = op; reply = r } ∷ []) (WholeOf c (answer.Replied r)) t
 DidOperation v seat c (answer.Cut cells) t = (op_of c ≡ None) × (cells ≤ v.opening.cuts) × DidCalls v seat [] (WholeOf c (answer.Cut cells)) t
 DidOperation v seat c a t = WasRefusedAs v seat c a t
+
+-- the transaction got one more savepoint, or holds as many as it may
+abbrev pub DidAskSave : View → ℕ → Answer → View → Type 0
+DidAskSave v seat (answer.Saved held) t = DidSave v seat held t
+DidAskSave v seat answer.SavesFull t = DidNotSave v seat (save.SavesFull SAVES) t
+DidAskSave v seat a t = ⊥
+
+-- it went back to its n-th savepoint, or has none of this number
+abbrev pub DidAskBack : View → ℕ → ℕ → Answer → View → Type 0
+DidAskBack v seat n (answer.Back m) t = (m ≡ n) × WentBack v seat n t
+DidAskBack v seat n (answer.NoSave held) t = HasNoSave v seat n held t
+DidAskBack v seat n a t = ⊥
 
 -- a sealed transaction was decided, or waits
 abbrev pub DidDecide : View → ℕ → Answer → View → Type 0
@@ -134,6 +149,8 @@ DidCommand v seat (command.Del table key) a t = DidOperation v seat (command.Del
 DidCommand v seat (command.Next table from) a t = DidOperation v seat (command.Next table from) a t
 DidCommand v seat (command.Scan table low high) a t = DidOperation v seat (command.Scan table low high) a t
 DidCommand v seat (command.Tidy table key) a t = DidOperation v seat (command.Tidy table key) a t
+DidCommand v seat command.Save a t = DidAskSave v seat a t
+DidCommand v seat (command.Back n) a t = DidAskBack v seat n a t
 DidCommand v seat c a t = ⊥
 
 -- the session has a snapshot, and its phase allowed the command, which was answered so

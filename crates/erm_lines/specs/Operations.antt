@@ -5,7 +5,7 @@ use Rattle.erm_model.specs.declared.row_stop.RowStop.{RowStop}
 use Rattle.erm_model.specs.Database.{IsNextAt}
 use Rattle.erm_model.specs.Rows.{Rows}
 use Rattle.erm_model.specs.RowTransaction.{Agrees, Asked, Event, KeepsLaw, OnlyReads, WritesNothing, after_all, did_claim, ends}
-use Rattle.erm_model.specs.Run.{IsReply, Step, after}
+use Rattle.erm_model.specs.Run.{IsReplyOn, Step, change}
 use Rattle.erm_node.specs.Sound.{IsSound, sound_law}
 use Rattle.erm_node.specs.TreeMap.{map_of_rows, record_in}
 use Rattle.erm_record.specs.Record.{absent_row, value_row}
@@ -14,8 +14,8 @@ use Rattle.erm_tree.specs.Change.{AreReadsThen, AsksDel, AsksPut, IsDel, IsPut}
 use Rattle.erm_tree.specs.Reads.{IsMetIn, IsOnWay, IsSought}
 use Rattle.erm_tree.specs.Walk.{IsMetByNext, last_sought}
 use Rattle.erm_world.specs.Face.{Answered, WasRefused}
-use Rattle.erm_world.specs.World.{View, work_at}
-use Rattle.erm_maps.specs.Runs.{IsRunOf}
+use Rattle.erm_world.specs.World.{View}
+use Rattle.erm_maps.specs.Runs.{IsRunOf, kept_at}
 use Rattle.erm_report.specs.declared.answer.Answer.{Answer}
 use Rattle.erm_report.specs.declared.answer.Answer.TheVariants as answer
 use Rattle.erm_script.specs.declared.script.Command.{Command}
@@ -72,20 +72,20 @@ abbrev pub Ran : View → ℕ → List Event → View → Type 0
 Ran v seat [] t = t ≡ v
 Ran v seat (event ∷ events) t = (u : View) × Answered v seat event u × Ran u seat events t
 
--- an operation and its reply are right on rows on which it was called
+-- an operation on the map and its reply are right on rows on which it was called
 pub record IsRightOn (step : Step) (events : List Event) (rows : Rows) : Type 0 where
-  pub reply : IsReply (map_of_rows rows) step.op step.reply
-  pub after_is : map_of_rows (after_all events rows) ≡ after step.op (map_of_rows rows)
+  pub reply : IsReplyOn (map_of_rows rows) step.op step.reply
+  pub after_is : map_of_rows (after_all events rows) ≡ change step.op (map_of_rows rows)
 
 -- Calls were answered: their events are of a kind and keep the law of rows, on each sound array that agrees with them; and they count as these
--- operations of the transaction, of which there is one or none.
+-- operations of the transaction on the map, of which there is one or none.
 pub record DidCalls (v : View) (seat : ℕ) (steps : List Step) (kind : Rows → List Event → Type 0) (t : View) : Type 0 where
   pub events : List Event
   pub ran : Ran v seat events t
   pub of : (rows : Rows) → IsSound rows → Agrees sound_law events rows → kind rows events × KeepsLaw sound_law events rows
   pub right : (step : Step) → steps ≡ step ∷ [] → (rows : Rows) → IsSound rows → Agrees sound_law events rows → IsRightOn step events rows
   pub none : steps ≡ [] → WritesNothing events
-  pub run : (before : List Step) → IsRunOf (work_at v seat) before → IsRunOf (work_at t seat) (before ++ steps)
+  pub run : (before : List Step) → IsRunOf (kept_at v seat) before → IsRunOf (kept_at t seat) (before ++ steps)
 
 -- Calls were answered, and then one was refused: the events before it set no row and are of a kind, what it asked for too, on each sound array
 -- that agrees with them; where the refusal doesn't end the transaction, this is the run of the same operations.
@@ -98,4 +98,4 @@ pub record WereCutOff (v : View) (seat : ℕ) (front : Rows → List Event → T
   pub asked : Asked
   pub asks_so : (rows : Rows) → IsSound rows → Agrees sound_law events rows → asks events rows asked
   pub refused : WasRefused at seat asked stop t
-  pub run : ends stop ≡ false → (before : List Step) → IsRunOf (work_at v seat) before → IsRunOf (work_at t seat) before
+  pub run : ends stop ≡ false → (before : List Step) → IsRunOf (kept_at v seat) before → IsRunOf (kept_at t seat) before

@@ -9,7 +9,7 @@ use Rattle.erm_world.specs.Going.{Extends}
 use Rattle.erm_world.specs.Safe.{IsSafeIn}
 use Rattle.erm_world.specs.World.{Fate, Finished, Session, Stand, View, Work, history_of, stamp_of}
 use Rattle.erm_world.specs.World as world
-use Rattle.erm_maps.specs.Runs.{IsAnswered, IsRunOf}
+use Rattle.erm_maps.specs.Runs.{IsAnswered, WasRun}
 use Rattle.erm_good_report.specs.Transactions.{Ending, Unfinished, Commits, Excludes, Aborts, Progress, Snapshot, Transaction, looks_of, steps_of}
 
 -- A transaction ended as it is told. One that was excluded before its seal is told as that, and is an aborted one of the world.
@@ -22,8 +22,8 @@ EndsAs ending fate = ⊥
 
 -- A transaction that was sealed is the run of the operations told; of one that was aborted the replies told are right.
 abbrev pub RanAs : Fate → Work → List Step → Type 0
-RanAs (world.commits s u p) w steps = IsRunOf w steps
-RanAs (world.excluded s u p) w steps = IsRunOf w steps
+RanAs (world.commits s u p) w steps = WasRun w steps
+RanAs (world.excluded s u p) w steps = WasRun w steps
 RanAs world.aborts w steps = IsAnswered w steps
 
 -- a transaction is told with its name and begin stamp
@@ -61,7 +61,7 @@ TellsOver seat ts ss (f ∷ fs) =
 pub record TellsCurrent (seat : ℕ) (t : Transaction) (w : Work) : Type 0 where
   pub work : TellsWork seat t w
   pub unfinished : t.ending ≡ Unfinished
-  pub ran : IsRunOf w (steps_of t)
+  pub ran : WasRun w (steps_of t)
 
 abbrev pub TellsNow : ℕ → Option Transaction → Stand → Type 0
 TellsNow seat None world.idle = Unit {0}

@@ -5,8 +5,8 @@ use Rattle.erm_model.specs.declared.outcome.Phase.TheVariants.{Active, Idle, Sea
 use Rattle.erm_model.specs.Run.{Step}
 use Rattle.erm_report.specs.declared.answer.Answer.{Answer}
 use Rattle.erm_script.specs.declared.script.Command.{Command}
-use Rattle.erm_world.specs.World.{IsSession, View, phase_at, work_at}
-use Rattle.erm_maps.specs.Runs.{IsRunOf}
+use Rattle.erm_world.specs.World.{IsSession, View, phase_at}
+use Rattle.erm_maps.specs.Runs.{IsRunOf, kept_at}
 use Rattle.erm_good_report.specs.Phases.{IsAnswerTo}
 use Rattle.erm_lines.specs.Answers.{DidCommand, DidOfSnapshot}
 
@@ -30,4 +30,4 @@ is_snapshot Safe = true
 
 -- each transaction in progress is the run of some operations
 abbrev pub AreRunsNow : View → Type 0
-AreRunsNow v = (seat : ℕ) → IsSession v seat → phase_at v seat ≡ Active → (steps : List Step) × IsRunOf (work_at v seat) steps
+AreRunsNow v = (seat : ℕ) → IsSession v seat → phase_at v seat ≡ Active → (steps : List Step) × IsRunOf (kept_at v seat) steps

@@ -4,10 +4,10 @@ ghost use Rattle.erm_model.specs.declared.outcome.Phase.TheVariants.{Active, Idl
 ghost use Rattle.erm_model.specs.RowTransaction.{SameLaw};
 ghost use Rattle.erm_model.specs.Run.{Step};
 ghost use Rattle.erm_node.specs.Sound.{sound_law};
-ghost use Rattle.erm_maps.specs.Runs.{IsRunOf};
+ghost use Rattle.erm_maps.specs.Runs.{IsRunOf, kept_at};
 ghost use Rattle.erm_good_report.specs.Phases.{Closes, IsOutcome};
 ghost use Rattle.erm_world.specs.Calls.{DidNotSettle};
-ghost use Rattle.erm_world.specs.World.{IsSession, phase_at, work_at};
+ghost use Rattle.erm_world.specs.World.{IsSession, phase_at};
 ghost use Rattle.erm_lines.specs.Answers.{DidCommit, DidDecide, KeepsReceipt};
 ghost use Rattle.erm_lines.specs.Executions.{DidEnd};
 ghost use Rattle.erm_lines.specs.Whole.{WasAnswered};
@@ -40,7 +40,7 @@ pub fn seal<W: RowWorld>(world: &mut W, seat: Seat) -> Answer
     requires stands { W.stands world.old }
     requires session { IsSession (W.view world.old) seat }
     requires active { phase_at (W.view world.old) seat ≡ Active }
-    requires ran { (steps : List Step) × IsRunOf (work_at (W.view world.old) seat) steps }
+    requires ran { (steps : List Step) × IsRunOf (kept_at (W.view world.old) seat) steps }
     ensures stands { W.stands world.new }
     ensures answered { WasAnswered (W.view world.old) seat Command.Seal result (W.view world.new) }
 {
@@ -122,7 +122,7 @@ pub fn commit<W: RowWorld>(world: &mut W, seat: Seat, receipt: &mut Option<Recei
     requires stands { W.stands world.old }
     requires session { IsSession (W.view world.old) seat }
     requires active { phase_at (W.view world.old) seat ≡ Active }
-    requires ran { (steps : List Step) × IsRunOf (work_at (W.view world.old) seat) steps }
+    requires ran { (steps : List Step) × IsRunOf (kept_at (W.view world.old) seat) steps }
     ensures stands { W.stands world.new }
     ensures answered { WasAnswered (W.view world.old) seat Command.Commit result (W.view world.new) }
     ensures kept { KeepsReceipt (W.view world.old) seat receipt.old (W.view world.new) receipt.new }

@@ -10,6 +10,7 @@ mod looks;
 mod operations;
 mod phases;
 mod safe_txn;
+mod saves;
 mod scans;
 mod snapshots;
 mod stops;

@@ -5,16 +5,17 @@ ghost use Rattle.erm_model.specs.declared.outcome.Phase.TheVariants.{Active};
 ghost use Rattle.erm_model.specs.RowTransaction.{SameLaw};
 ghost use Rattle.erm_model.specs.Run.{Step};
 ghost use Rattle.erm_node.specs.Sound.{sound_law};
-ghost use Rattle.erm_maps.specs.Runs.{IsRunOf};
+ghost use Rattle.erm_maps.specs.Runs.{IsRunOf, kept_at};
 ghost use Rattle.erm_good_report.specs.Phases.{HasNoSnapshot, need_of, refusal_of};
 ghost use Rattle.erm_good_report.specs.Transactions.{table_of};
-ghost use Rattle.erm_world.specs.World.{IsSession, phase_at, work_at};
+ghost use Rattle.erm_world.specs.World.{IsSession, phase_at};
 ghost use Rattle.erm_lines.specs.Answers.{DidLine, KeepsReceipt};
 ghost use Rattle.erm_lines.specs.Whole.{WasAnswered};
 
 use crate::ends::{abort, begin, commit, seal, settle};
 use crate::operations::{del, get, next, put, scan};
 use crate::phases::{is_snapshot, refusal_of};
+use crate::saves::{back, save};
 use crate::snapshots::{begin_snapshot, watch};
 use crate::tidy::tidy;
 use erm_model::{Receipt, RowRead, Seat};
@@ -31,7 +32,7 @@ fn operate_by<'a, W: RowWorld>(
 ) -> Result<Answer, AllocError>
     requires law { SameLaw W.law sound_law }
     requires active { ⟦<WorldTxn<'a, W> as RowRead>⟧.face.active txn.old }
-    requires ran { (steps : List Step) × IsRunOf (work_at (W.view txn.old.world.now) txn.old.seat) steps }
+    requires ran { (steps : List Step) × IsRunOf (kept_at (W.view txn.old.world.now) txn.old.seat) steps }
     requires named { IsSome (table_of command.now) }
     requires table { IfSome (table_of command.now) (λ table. table < TABLES) }
     ensures same { txn.new.world.ghost_name ≡ txn.old.world.ghost_name }
@@ -60,7 +61,7 @@ fn operate<W: RowWorld>(
     requires stands { W.stands world.old }
     requires session { IsSession (W.view world.old) seat }
     requires active { phase_at (W.view world.old) seat ≡ Active }
-    requires ran { (steps : List Step) × IsRunOf (work_at (W.view world.old) seat) steps }
+    requires ran { (steps : List Step) × IsRunOf (kept_at (W.view world.old) seat) steps }
     requires named { IsSome (table_of command.now) }
     requires table { IfSome (table_of command.now) (λ table. table < TABLES) }
     ensures stands { W.stands world.new }
@@ -84,7 +85,7 @@ fn run<W: SafeWorld>(
     requires plain { HasNoSnapshot (phase_at (W.view world.old) seat) }
     requires free { refusal_of (phase_at (W.view world.old) seat) command.now ≡ None }
     requires asks { IsSome (need_of command.now) }
-    requires ran { phase_at (W.view world.old) seat ≡ Active → (steps : List Step) × IsRunOf (work_at (W.view world.old) seat) steps }
+    requires ran { phase_at (W.view world.old) seat ≡ Active → (steps : List Step) × IsRunOf (kept_at (W.view world.old) seat) steps }
     requires table { IfSome (table_of command.now) (λ table. table < TABLES) }
     ensures stands { W.stands world.new }
     ensures answered { IfOk result (λ a. WasAnswered (W.view world.old) seat command.now a (W.view world.new)) }
@@ -93,6 +94,8 @@ fn run<W: SafeWorld>(
     match command {
         Command::Begin => begin(world, seat),
         Command::Safe => begin_snapshot(world, seat),
+        Command::Save => save(world, seat),
+        Command::Back { n } => Ok(back(world, seat, *n)),
         Command::Seal => Ok(seal(world, seat)),
         Command::Settle => Ok(settle(world, seat, receipt)),
         Command::Commit => Ok(commit(world, seat, receipt)),
@@ -115,7 +118,7 @@ pub fn answer_line<W: SafeWorld>(
     requires session { IsSession (W.view world.old) line.now.session }
     requires asks { IsSome (need_of line.now.command) }
     requires table { IfSome (table_of line.now.command) (λ table. table < TABLES) }
-    requires ran { phase_at (W.view world.old) line.now.session ≡ Active → (steps : List Step) × IsRunOf (work_at (W.view world.old) line.now.session) steps }
+    requires ran { phase_at (W.view world.old) line.now.session ≡ Active → (steps : List Step) × IsRunOf (kept_at (W.view world.old) line.now.session) steps }
     ensures stands { W.stands world.new }
     ensures answered { IfOk result (λ a. DidLine (W.view world.old) line.now a (W.view world.new)) }
     ensures kept { OnOk result (KeepsReceipt (W.view world.old) line.now.session receipt.old (W.view world.new) receipt.new) }

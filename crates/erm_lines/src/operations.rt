@@ -3,8 +3,7 @@ ghost use Rattle.std.specs.Prelude.{◌≡◌, ◌<◌, ℕ, List, IfOk};
 ghost use Rattle.erm_model.specs.RowTransaction.{SameLaw};
 ghost use Rattle.erm_model.specs.Run.{Step};
 ghost use Rattle.erm_node.specs.Sound.{sound_law};
-ghost use Rattle.erm_maps.specs.Runs.{IsRunOf};
-ghost use Rattle.erm_world.specs.World.{work_at};
+ghost use Rattle.erm_maps.specs.Runs.{IsRunOf, kept_at};
 ghost use Rattle.erm_lines.specs.Whole.{WasAnswered};
 
 use crate::stops::refusal;
@@ -22,7 +21,7 @@ pub fn get<'a, W: RowWorld>(
 ) -> Result<Answer, AllocError>
     requires law { SameLaw W.law sound_law }
     requires active { ⟦<WorldTxn<'a, W> as RowRead>⟧.face.active txn.old }
-    requires ran { (steps : List Step) × IsRunOf (work_at (W.view txn.old.world.now) txn.old.seat) steps }
+    requires ran { (steps : List Step) × IsRunOf (kept_at (W.view txn.old.world.now) txn.old.seat) steps }
     requires table { table < TABLES }
     ensures same { txn.new.world.ghost_name ≡ txn.old.world.ghost_name }
     ensures stands { W.stands txn.new.world.now }
@@ -46,7 +45,7 @@ pub fn put<'a, W: RowWorld>(
 ) -> Result<Answer, AllocError>
     requires law { SameLaw W.law sound_law }
     requires active { ⟦<WorldTxn<'a, W> as RowRead>⟧.face.active txn.old }
-    requires ran { (steps : List Step) × IsRunOf (work_at (W.view txn.old.world.now) txn.old.seat) steps }
+    requires ran { (steps : List Step) × IsRunOf (kept_at (W.view txn.old.world.now) txn.old.seat) steps }
     requires table { table < TABLES }
     ensures same { txn.new.world.ghost_name ≡ txn.old.world.ghost_name }
     ensures stands { W.stands txn.new.world.now }
@@ -69,7 +68,7 @@ pub fn del<'a, W: RowWorld>(
 ) -> Result<Answer, AllocError>
     requires law { SameLaw W.law sound_law }
     requires active { ⟦<WorldTxn<'a, W> as RowRead>⟧.face.active txn.old }
-    requires ran { (steps : List Step) × IsRunOf (work_at (W.view txn.old.world.now) txn.old.seat) steps }
+    requires ran { (steps : List Step) × IsRunOf (kept_at (W.view txn.old.world.now) txn.old.seat) steps }
     requires table { table < TABLES }
     ensures same { txn.new.world.ghost_name ≡ txn.old.world.ghost_name }
     ensures stands { W.stands txn.new.world.now }
@@ -92,7 +91,7 @@ pub fn next<'a, W: RowWorld>(
 ) -> Result<Answer, AllocError>
     requires law { SameLaw W.law sound_law }
     requires active { ⟦<WorldTxn<'a, W> as RowRead>⟧.face.active txn.old }
-    requires ran { (steps : List Step) × IsRunOf (work_at (W.view txn.old.world.now) txn.old.seat) steps }
+    requires ran { (steps : List Step) × IsRunOf (kept_at (W.view txn.old.world.now) txn.old.seat) steps }
     requires table { table < TABLES }
     ensures same { txn.new.world.ghost_name ≡ txn.old.world.ghost_name }
     ensures stands { W.stands txn.new.world.now }
@@ -117,7 +116,7 @@ pub fn scan<'a, W: RowWorld>(
 ) -> Result<Answer, AllocError>
     requires law { SameLaw W.law sound_law }
     requires active { ⟦<WorldTxn<'a, W> as RowRead>⟧.face.active txn.old }
-    requires ran { (steps : List Step) × IsRunOf (work_at (W.view txn.old.world.now) txn.old.seat) steps }
+    requires ran { (steps : List Step) × IsRunOf (kept_at (W.view txn.old.world.now) txn.old.seat) steps }
     requires table { table < TABLES }
     ensures same { txn.new.world.ghost_name ≡ txn.old.world.ghost_name }
     ensures stands { W.stands txn.new.world.now }

@@ -111,6 +111,8 @@ pub fn refusal_of(phase: Phase, command: &Command) -> Option<Answer>
         Command::Next { .. } => refusal_to_read(phase),
         Command::Scan { .. } => refusal_to_read(phase),
         Command::Tidy { .. } => refusal_to_write(phase),
+        Command::Save => refusal_to_write(phase),
+        Command::Back { .. } => refusal_to_write(phase),
         Command::Seal => refusal_to_write(phase),
         Command::Settle => refusal_to_settle(phase),
         Command::Commit => refusal_to_read(phase),

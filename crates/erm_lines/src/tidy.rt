@@ -3,8 +3,7 @@ ghost use Rattle.std.specs.Prelude.{◌≡◌, ◌<◌, ◌≤◌, ℕ, List, If
 ghost use Rattle.erm_model.specs.RowTransaction.{Does, IsRefused, SameLaw, StopsClaim, asked_claim, did_claim};
 ghost use Rattle.erm_model.specs.Run.{Step};
 ghost use Rattle.erm_node.specs.Sound.{sound_law};
-ghost use Rattle.erm_maps.specs.Runs.{IsRunOf};
-ghost use Rattle.erm_world.specs.World.{work_at};
+ghost use Rattle.erm_maps.specs.Runs.{IsRunOf, kept_at};
 ghost use Rattle.erm_lines.specs.Whole.{WasAnswered};
 
 use crate::stops::refusal;
@@ -34,7 +33,7 @@ pub fn tidy<'a, W: RowWorld>(
 ) -> Result<Answer, AllocError>
     requires law { SameLaw W.law sound_law }
     requires active { ⟦<WorldTxn<'a, W> as RowRead>⟧.face.active txn.old }
-    requires ran { (steps : List Step) × IsRunOf (work_at (W.view txn.old.world.now) txn.old.seat) steps }
+    requires ran { (steps : List Step) × IsRunOf (kept_at (W.view txn.old.world.now) txn.old.seat) steps }
     requires table { table < TABLES }
     ensures same { txn.new.world.ghost_name ≡ txn.old.world.ghost_name }
     ensures stands { W.stands txn.new.world.now }
