@@ -4,7 +4,7 @@ use Rattle.erm_model.specs.declared.row_stop.RowStop.{RowStop}
 use Rattle.erm_model.specs.Database.{Database}
 use Rattle.erm_model.specs.Rows.{Rows}
 use Rattle.erm_model.specs.RowTransaction.{Agrees, Asked, Event, Face, IsStopped, KeepsLaw, Law, Runs, SameLaw, TellsAll, WritesNothing, after, after_all, did_claim, did_make, did_read, did_write, ends}
-use Rattle.erm_model.specs.Run.{IsReply, Step}
+use Rattle.erm_model.specs.Run.{IsReplyOn, Step}
 use Rattle.erm_model.specs.Run as run
 use Rattle.erm_model.proofs.RowCalls.{WritesNothing-OnlyReads, after_all-OnlyReads, after_all-WritesNothing}
 use Rattle.erm_node.specs.Sound.{IsSound, reached, sound_law}
@@ -12,8 +12,8 @@ use Rattle.erm_node.specs.TreeMap.{map_of_rows}
 use Rattle.erm_tree.specs.Calls.{DidBy, SawIn}
 use Rattle.erm_tree.specs.Operations.{AreCalled, Call, Stutters, answered_steps, stuttered}
 use Rattle.erm_world.specs.Face.{WasRefused, world_face}
-use Rattle.erm_world.specs.World.{View, work_at}
-use Rattle.erm_maps.specs.Runs.{IsRunOf}
+use Rattle.erm_world.specs.World.{View}
+use Rattle.erm_maps.specs.Runs.{IsRunOf, kept_at}
 use Rattle.erm_lines.specs.Operations.{DidCalls, IsRightOn, Ran, ReadsOnly, WereCutOff}
 
 -- THE LAW. What is so by one law is so by one that says the same.
@@ -63,20 +63,20 @@ module _ {S : Type 0} (law : Law) (view : S → View) (seat : S → ℕ) (stands
       (view u, step.answered.1, subst (λ (q : ℕ). Ran (view u) q es (view t)) step.answered.0 (ran es u t rest))
 
   abbrev pub CallsAreRuns : Type 0
-  CallsAreRuns = (s t : S) (calls : List Call) (before : List Step) → IsRunOf (work_at (view s) (seat s)) before → AreCalled face s calls t
-      → IsRunOf (work_at (view t) (seat t)) (before ++ answered_steps calls)
+  CallsAreRuns = (s t : S) (calls : List Call) (before : List Step) → IsRunOf (kept_at (view s) (seat s)) before → AreCalled face s calls t
+      → IsRunOf (kept_at (view t) (seat t)) (before ++ answered_steps calls)
 
   abbrev pub RunsOn : S → List Step → S → Type 0
-  RunsOn s steps t = (before : List Step) → IsRunOf (work_at (view s) (seat s)) before → IsRunOf (work_at (view t) (seat s)) (before ++ steps)
+  RunsOn s steps t = (before : List Step) → IsRunOf (kept_at (view s) (seat s)) before → IsRunOf (kept_at (view t) (seat s)) (before ++ steps)
 
   -- the run after some calls
   pub runs_on : CallsAreRuns → (s t : S) (calls : List Call) → AreCalled face s calls t → seat t ≡ seat s → RunsOn s (answered_steps calls) t
   runs_on are_runs s t calls called is before run =
-      subst (λ (q : ℕ). IsRunOf (work_at (view t) q) (before ++ answered_steps calls)) is (are_runs s t calls before run called)
+      subst (λ (q : ℕ). IsRunOf (kept_at (view t) q) (before ++ answered_steps calls)) is (are_runs s t calls before run called)
 
   -- ANSWERED. Reads that saw the reply to an operation that leaves the map.
   pub seen : (objects : Rows → ℕ → Type 0) (s t : S) (fact : Rows → Type 0) (step : Step) → SawIn face objects s t fact
-      → ((rows : Rows) → fact rows → IsReply (map_of_rows rows) step.op step.reply) → ((m : Database) → run.after step.op m ≡ m) → RunsOn s (step ∷ []) t
+      → ((rows : Rows) → fact rows → IsReplyOn (map_of_rows rows) step.op step.reply) → ((m : Database) → run.change step.op m ≡ m) → RunsOn s (step ∷ []) t
       → DidCalls (view s) (seat s) (step ∷ []) (λ rows events. ReadsOnly (objects rows) events) (view t)
   seen objects s t fact step did replies leaves on =
       let es = did.saw.events in record {
@@ -97,7 +97,7 @@ module _ {S : Type 0} (law : Law) (view : S → View) (seat : S → ℕ) (stands
 
   -- Changes of the map that an operation asks for.
   pub changed : (kind : Rows → List Event → Type 0) (s t : S) (change : Rows → Rows → Type 0) (step : Step) → DidBy face kind s t change
-      → ((m : Database) → IsReply m step.op step.reply) → ((old new : Rows) → change old new → map_of_rows new ≡ run.after step.op (map_of_rows old)) → RunsOn s (step ∷ []) t
+      → ((m : Database) → IsReplyOn m step.op step.reply) → ((old new : Rows) → change old new → map_of_rows new ≡ run.change step.op (map_of_rows old)) → RunsOn s (step ∷ []) t
       → DidCalls (view s) (seat s) (step ∷ []) kind (view t)
   changed kind s t change step did replies changes on =
       let es = did.did.events in record {
@@ -135,6 +135,6 @@ module _ {S : Type 0} (law : Law) (view : S → View) (seat : S → ℕ) (stands
         asks_so = λ rows sound agrees. asking es rows stopped.asked (stopped.asks_so rows ((same.meets rows).1 sound) (tells_as law same es rows rows agrees));
         refused = subst (λ (q : ℕ). WasRefused (view stopped.at) q stopped.asked stop (view t)) at_seat stopped.refused.stopped;
         run = λ goes before runs.
-            subst (λ (steps : List Step). IsRunOf (work_at (view t) (seat s)) steps) (append-nil before)
+            subst (λ (steps : List Step). IsRunOf (kept_at (view t) (seat s)) steps) (append-nil before)
             (runs_on are_runs s t (stuttered ∷ []) (t, stutters goes, refl) (stopped.refused.follows.1 ∙ at_seat) before runs);
       }

@@ -60,6 +60,8 @@ module _ (v t : View) (seat : ℕ) where
   commanded (command.Next table from) a allowed plain did = operated (command.Next table from) a (active_where NeedsReader (phase_at v seat) tt plain allowed) did
   commanded (command.Scan table low high) a allowed plain did = operated (command.Scan table low high) a (active_where NeedsReader (phase_at v seat) tt plain allowed) did
   commanded (command.Tidy table key) a allowed plain did = operated (command.Tidy table key) a (active_where NeedsWriter (phase_at v seat) tt plain allowed) did
+  commanded command.Save a allowed plain did = let it = saved v t seat a did in (it.flushed, it.pinned)
+  commanded (command.Back n) a allowed plain did = let it = went_back v t seat n a did in (it.flushed, it.pinned)
   commanded command.Seal (answer.Sealed stamp) allowed plain did = sealed v t seat stamp did
   commanded command.Settle a allowed plain did = decided v t seat a did
   commanded command.Commit a allowed plain did = committed v t seat a did

@@ -94,6 +94,13 @@ begin_keeps v t seat r (answer.LogEnd tail) did = still_keeps v t seat r did.0
 begin_keeps v t seat r answer.NumbersEnd did = still_keeps v t seat r did.0
 begin_keeps v t seat r a did = absurd did
 
+-- a savepoint more, and a way back
+pub save_keeps : (v t : View) (seat : ℕ) (r : Option Receipt) (a : Answer) → DidAskSave v seat a t → KeepsReceipt v seat r t r
+save_keeps v t seat r a did = same_keeps v t seat r (ap (λ (s : Session). s.over) (saved v t seat a did).own)
+
+pub back_keeps : (v t : View) (seat : ℕ) (r : Option Receipt) (n : ℕ) (a : Answer) → DidAskBack v seat n a t → KeepsReceipt v seat r t r
+back_keeps v t seat r n a did = same_keeps v t seat r (went_back v t seat n a did).over
+
 pub sealed_keeps : (v t : View) (seat : ℕ) (r : Option Receipt) (a : Answer) → DidCommand v seat command.Seal a t → KeepsReceipt v seat r t r
 sealed_keeps v t seat r (answer.Sealed stamp) did = seal_keeps v t seat stamp r did
 sealed_keeps v t seat r a did = absurd did
@@ -157,6 +164,8 @@ line_keeps v t seat r (command.Del table key) a free plain not_settle not_commit
 line_keeps v t seat r (command.Next table from) a free plain not_settle not_commit did = operation_keeps v t seat r (command.Next table from) a (active_where NeedsReader (phase_at v seat) tt plain free) did
 line_keeps v t seat r (command.Scan table low high) a free plain not_settle not_commit did = operation_keeps v t seat r (command.Scan table low high) a (active_where NeedsReader (phase_at v seat) tt plain free) did
 line_keeps v t seat r (command.Tidy table key) a free plain not_settle not_commit did = operation_keeps v t seat r (command.Tidy table key) a (active_where NeedsWriter (phase_at v seat) tt plain free) did
+line_keeps v t seat r command.Save a free plain not_settle not_commit did = save_keeps v t seat r a did
+line_keeps v t seat r (command.Back n) a free plain not_settle not_commit did = back_keeps v t seat r n a did
 line_keeps v t seat r command.Durable a free plain not_settle not_commit did = still_keeps v t seat r (asked_still v t seat a did)
 line_keeps v t seat r c a free plain not_settle not_commit did = absurd did
 

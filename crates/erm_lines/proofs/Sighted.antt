@@ -12,7 +12,7 @@ use Rattle.erm_model.specs.Database.{AreFound, IsNextAt, value_at}
 use Rattle.erm_model.specs.History.{HasNewestRows, IsNewestBelow}
 use Rattle.erm_model.specs.Rows.{Rows}
 use Rattle.erm_model.specs.RowTransaction.{Does, Event, Face, IsPossible, IsStopped, Law, OnlyReads, Runs, SameLaw, StopsRead, TellsAll, did_claim, did_make, did_read, did_write}
-use Rattle.erm_model.specs.Run.{IsReply}
+use Rattle.erm_model.specs.Run.{IsReplyOn}
 use Rattle.erm_node.specs.Sound.{IsSound, sound_law}
 use Rattle.erm_node.specs.TreeMap.{map_of_rows}
 use Rattle.erm_report.specs.declared.answer.Answer.TheVariants as answer
@@ -118,7 +118,7 @@ module _ {S : Type 0} (law : Law) (view : S → View) (seat : S → ℕ) (stands
   agrees (did_make oid ∷ es) s t only runs rows below = absurd only
 
   looked : (objects : Rows → ℕ → Type 0) (s t : S) (fact : Rows → Type 0) (c : Command) (asked : Op) (r : Reply) → SameLaw law sound_law → op_of c ≡ Some asked
-      → SawIn face objects s t fact → ((rows : Rows) → fact rows → IsReply (map_of_rows rows) asked r) → DidLook (view s) (seat s) c r (view t)
+      → SawIn face objects s t fact → ((rows : Rows) → fact rows → IsReplyOn (map_of_rows rows) asked r) → DidLook (view s) (seat s) c r (view t)
   looked objects s t fact c asked r same is did replies = record {
     same = did.saw.follows.3;
     op = asked;

@@ -17,8 +17,8 @@ use Rattle.erm_tree.specs.Operations.{AnswersStutter, CutOffsStutter, LooksStutt
 use Rattle.erm_tree.specs.Reads.{IsOnWay}
 use Rattle.erm_tree.proofs.Calls.{Agrees-after_reads}
 use Rattle.erm_world.specs.Face.{WasRefused}
-use Rattle.erm_world.specs.World.{Opening, View, work_at}
-use Rattle.erm_maps.specs.Runs.{IsRunOf}
+use Rattle.erm_world.specs.World.{Opening, View}
+use Rattle.erm_maps.specs.Runs.{IsRunOf, kept_at}
 use Rattle.erm_lines.specs.Answers.{stop_told}
 use Rattle.erm_lines.specs.Operations.{IsTidy}
 use Rattle.erm_lines.specs.Whole.{WasAnswered}
@@ -118,7 +118,7 @@ module _ {S : Type 0} (law : Law) (view : S → View) (seat : S → ℕ) (stands
           asks_so = λ rows sound agrees. sym (did.saw.saw rows ((same.meets rows).1 sound) (tells_as law same es rows rows agrees));
           refused = subst (λ (q : ℕ). WasRefused (view u) q (asked_claim oid) stop (view t)) at_seat was.stopped;
           run = λ goes before runs.
-              subst (λ (steps : List Step). IsRunOf (work_at (view t) (seat s)) steps) (append-nil before)
+              subst (λ (steps : List Step). IsRunOf (kept_at (view t) (seat s)) steps) (append-nil before)
               (runs_on law view seat stands one same are_runs s t (stuttered ∷ stuttered ∷ []) (u, looks s u did, (t, refusals u t stop was goes, refl)) (was.follows.1 ∙ at_seat) before runs);
         }) (λ a did. did)
 

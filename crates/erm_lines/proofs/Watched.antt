@@ -24,6 +24,7 @@ pub record Watches (v : View) (seat : ℕ) (t : View) : Type 0 where
   pub over : ((t.session seat).over ≡ (v.session seat).over)
       ⊎ ((w : Work) × ((t.session seat).over ≡ (v.session seat).over ++ record { work = w; fate = world.aborts } ∷ []))
   pub others : (q : ℕ) → q ≢ seat → t.session q ≡ v.session q
+  pub saves : (q : ℕ) → q ≢ seat → t.saves q ≡ v.saves q
   pub opening : t.opening ≡ v.opening
   pub flushed : t.flushed ≡ v.flushed
   pub pinned : t.pinned ≡ v.pinned
@@ -33,6 +34,7 @@ still v t seat rests is = record {
   inactive = λ active. rests (sym (ap (λ (x : View). phase_at x seat) is) ∙ active);
   over = inl (ap (λ (x : View). (x.session seat).over) is);
   others = λ q another. ap (λ (x : View). x.session q) is;
+  saves = λ q another. ap (λ (x : View). x.saves q) is;
   opening = ap (λ (x : View). x.opening) is;
   flushed = ap (λ (x : View). x.flushed) is;
   pinned = ap (λ (x : View). x.pinned) is;
@@ -43,6 +45,7 @@ goes_on v t seat s did = record {
   inactive = λ active. snapshot_not_active s (subst (λ (x : Session). phase_of x.stand ≡ Active) did.own active);
   over = inl (ap (λ (x : Session). x.over) did.own);
   others = did.others;
+  saves = did.saves;
   opening = did.opening;
   flushed = did.flushed;
   pinned = did.pinned;
@@ -53,6 +56,7 @@ ends v t seat w did = record {
   inactive = λ active. let at = ap (λ (x : Session). phase_of x.stand) did.own in cc;
   over = inr (w, ap (λ (x : Session). x.over) did.own);
   others = did.others;
+  saves = did.saves;
   opening = did.opening;
   flushed = did.flushed;
   pinned = did.pinned;
@@ -68,6 +72,7 @@ begun_then v u t seat begin began asked =
         | inr more ↦ inr (more.0, more.1 ∙ ap (λ (fs : List Finished). fs ++ record { work = more.0; fate = world.aborts } ∷ []) over)
       ];
       others = λ q another. asked.others q another ∙ began.3.others q another;
+      saves = λ q another. asked.saves q another ∙ began.3.saves q another;
       opening = asked.opening ∙ began.3.opening;
       flushed = asked.flushed ∙ began.3.flushed;
       pinned = asked.pinned ∙ began.3.pinned;
@@ -237,22 +242,25 @@ pub record Operates (c : Command) : Type 0 where
   pub of : IsOfActive need
   pub named : IsSome (table_of c)
 
-pub operates : (c : Command) → IsSome (need_of c) → c ≢ command.Begin → c ≢ command.Safe → c ≢ command.Seal → c ≢ command.Settle → c ≢ command.Commit → c ≢ command.Abort → Operates c
-operates command.Begin asks a b d e f g = absurd (a refl)
-operates command.Safe asks a b d e f g = absurd (b refl)
-operates command.Seal asks a b d e f g = absurd (d refl)
-operates command.Settle asks a b d e f g = absurd (e refl)
-operates command.Commit asks a b d e f g = absurd (f refl)
-operates command.Abort asks a b d e f g = absurd (g refl)
-operates (command.Get table key) asks a b d e f g = record { need = NeedsReader; needs = refl; of = tt; named = refl }
-operates (command.Put table key value) asks a b d e f g = record { need = NeedsWriter; needs = refl; of = tt; named = refl }
-operates (command.Del table key) asks a b d e f g = record { need = NeedsWriter; needs = refl; of = tt; named = refl }
-operates (command.Next table from) asks a b d e f g = record { need = NeedsReader; needs = refl; of = tt; named = refl }
-operates (command.Scan table low high) asks a b d e f g = record { need = NeedsReader; needs = refl; of = tt; named = refl }
-operates (command.Tidy table key) asks a b d e f g = record { need = NeedsWriter; needs = refl; of = tt; named = refl }
-operates command.Durable asks a b d e f g = absurd (cc)
-operates command.Flush asks a b d e f g = absurd (cc)
-operates command.Checkpoint asks a b d e f g = absurd (cc)
+pub operates : (c : Command) → IsSome (need_of c) → c ≢ command.Begin → c ≢ command.Safe → c ≢ command.Save → ((n : ℕ) → c ≢ command.Back n) → c ≢ command.Seal → c ≢ command.Settle → c ≢ command.Commit → c ≢ command.Abort
+    → Operates c
+operates command.Begin asks a b save back d e f g = absurd (a refl)
+operates command.Safe asks a b save back d e f g = absurd (b refl)
+operates command.Save asks a b save back d e f g = absurd (save refl)
+operates (command.Back n) asks a b save back d e f g = absurd (back n refl)
+operates command.Seal asks a b save back d e f g = absurd (d refl)
+operates command.Settle asks a b save back d e f g = absurd (e refl)
+operates command.Commit asks a b save back d e f g = absurd (f refl)
+operates command.Abort asks a b save back d e f g = absurd (g refl)
+operates (command.Get table key) asks a b save back d e f g = record { need = NeedsReader; needs = refl; of = tt; named = refl }
+operates (command.Put table key value) asks a b save back d e f g = record { need = NeedsWriter; needs = refl; of = tt; named = refl }
+operates (command.Del table key) asks a b save back d e f g = record { need = NeedsWriter; needs = refl; of = tt; named = refl }
+operates (command.Next table from) asks a b save back d e f g = record { need = NeedsReader; needs = refl; of = tt; named = refl }
+operates (command.Scan table low high) asks a b save back d e f g = record { need = NeedsReader; needs = refl; of = tt; named = refl }
+operates (command.Tidy table key) asks a b save back d e f g = record { need = NeedsWriter; needs = refl; of = tt; named = refl }
+operates command.Durable asks a b save back d e f g = absurd (cc)
+operates command.Flush asks a b save back d e f g = absurd (cc)
+operates command.Checkpoint asks a b save back d e f g = absurd (cc)
 
 pub snapshot_rests : (v : View) (seat : ℕ) → is_snapshot (phase_at v seat) ≡ true → phase_at v seat ≡ Active → ⊥
 snapshot_rests v seat is active = let no = sym (ap (λ (p : Phase). is_snapshot p) active) ∙ is in cc

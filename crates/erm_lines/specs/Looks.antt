@@ -6,7 +6,7 @@ use Rattle.erm_model.specs.declared.outcome.Phase.TheVariants.{Safe}
 use Rattle.erm_model.specs.History.{HasNewestRows}
 use Rattle.erm_model.specs.Rows.{Rows}
 use Rattle.erm_model.specs.RowTransaction.{Event, Face, Law, SameLaw, did_claim, did_make, did_read, did_write}
-use Rattle.erm_model.specs.Run.{IsReply}
+use Rattle.erm_model.specs.Run.{IsReplyOn}
 use Rattle.erm_node.specs.Sound.{IsSound, sound_law}
 use Rattle.erm_node.specs.TreeMap.{map_of_rows}
 use Rattle.erm_script.specs.declared.script.Command.{Command}
@@ -23,7 +23,7 @@ pub record DidLook (v : View) (seat : ℕ) (c : Command) (r : Reply) (t : View) 
   pub same : t ≡ v
   pub op : Op
   pub asked : op_of c ≡ Some op
-  pub reply : (rows : Rows) → IsSound rows → AreBelow v seat rows → IsReply (map_of_rows rows) op r
+  pub reply : (rows : Rows) → IsSound rows → AreBelow v seat rows → IsReplyOn (map_of_rows rows) op r
 
 -- the call of which this was the event was answered, and nothing changed
 abbrev pub WasRead : View → ℕ → Event → Type 0

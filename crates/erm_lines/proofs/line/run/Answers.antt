@@ -4,7 +4,7 @@ use Rattle.erm_script.specs.declared.script.Command.TheVariants as command
 use Rattle.erm_good_report.specs.Phases.{NeedsAny, NeedsReader, NeedsWriter, need_of, refusal_of}
 use Rattle.erm_world.specs.World.{phase_at}
 use Rattle.erm_lines.specs.Whole.{WasAnswered}
-use Rattle.erm_lines.proofs.Receipts.{abort_keeps, begin_keeps, if_answered, line_keeps, safe_keeps, sealed_keeps}
+use Rattle.erm_lines.proofs.Receipts.{abort_keeps, back_keeps, begin_keeps, if_answered, line_keeps, safe_keeps, save_keeps, sealed_keeps}
 use Rattle.erm_lines.proofs.Watched.{active_in, idle_where, operates, safe_rests, settle_where, start_where}
 use Rattle.erm_lines.proofs.line.run.Goals as goal
 
@@ -13,6 +13,12 @@ begin-requires-clause-idle g c = idle_where (phase_at (g.W.RowWorld.view c.args.
 
 pub begin_snapshot-requires-clause-idle : goal.begin_snapshot-requires-clause-idle
 begin_snapshot-requires-clause-idle g c = start_where (phase_at (g.W.RowWorld.view c.args.world.now) c.args.seat) c.args.command.now c.requires.free c.in-Safe.is c.requires.plain
+
+pub save-requires-clause-active : goal.save-requires-clause-active
+save-requires-clause-active g c = active_in (phase_at (g.W.RowWorld.view c.args.world.now) c.args.seat) c.args.command.now NeedsWriter (ap need_of c.in-Save.is) tt c.requires.plain c.requires.free
+
+pub back-requires-clause-active : goal.back-requires-clause-active
+back-requires-clause-active g c = active_in (phase_at (g.W.RowWorld.view c.args.world.now) c.args.seat) c.args.command.now NeedsWriter (ap need_of c.in-Back.is) tt c.requires.plain c.requires.free
 
 pub seal-requires-clause-active : goal.seal-requires-clause-active
 seal-requires-clause-active g c = active_in (phase_at (g.W.RowWorld.view c.args.world.now) c.args.seat) c.args.command.now NeedsWriter (ap need_of c.in-Seal.is) tt c.requires.plain c.requires.free
@@ -34,7 +40,7 @@ abort-requires-clause-active g c = active_in (phase_at (g.W.RowWorld.view c.args
 
 pub operate-requires : goal.operate-requires
 operate-requires g c =
-    let it = operates c.args.command.now c.requires.asks c.in_default.not-Begin c.in_default.not-Safe c.in_default.not-Seal c.in_default.not-Settle c.in_default.not-Commit c.in_default.not-Abort in
+    let it = operates c.args.command.now c.requires.asks c.in_default.not-Begin c.in_default.not-Safe c.in_default.not-Save c.in_default.not-Back c.in_default.not-Seal c.in_default.not-Settle c.in_default.not-Commit c.in_default.not-Abort in
     let active = active_in (phase_at (g.W.RowWorld.view c.args.world.now) c.args.seat) c.args.command.now it.need it.needs it.of c.requires.plain c.requires.free in
     record {
       law = c.requires.law;
@@ -58,6 +64,16 @@ returns-in-Safe-clause-kept g c =
     let t = g.W.RowWorld.view c.begin_snapshot.new.world in
     if_answered (λ a. WasAnswered v c.args.seat command.Safe a t) c.begin_snapshot.result
     (λ a it. safe_keeps v t c.args.seat c.args.receipt.now a (safe_rests (phase_at v c.args.seat) (sym (ap (λ (d : Command). refusal_of (phase_at v c.args.seat) d) c.in-Safe.is) ∙ c.requires.free)) it.did) c.begin_snapshot.ensures.answered
+
+pub returns-in-Save-clause-kept : goal.returns-in-Save-clause-kept
+returns-in-Save-clause-kept g c =
+    let v = g.W.RowWorld.view c.args.world.now in
+    let t = g.W.RowWorld.view c.save.new.world in
+    if_answered (λ a. WasAnswered v c.args.seat command.Save a t) c.save.result (λ a it. save_keeps v t c.args.seat c.args.receipt.now a it.did) c.save.ensures.answered
+
+pub returns-in-Back-clause-kept : goal.returns-in-Back-clause-kept
+returns-in-Back-clause-kept g c =
+    back_keeps (g.W.RowWorld.view c.args.world.now) (g.W.RowWorld.view c.back.new.world) c.args.seat c.args.receipt.now c.in-Back.n c.back.result c.back.ensures.answered.did
 
 pub returns-in-Seal-clause-kept : goal.returns-in-Seal-clause-kept
 returns-in-Seal-clause-kept g c =
