@@ -31,9 +31,10 @@ pub data Move : Type 0 where
   close : (seat : ℕ) → Answer → Move
   flush : Move
 
--- the log's flushed place went on, or not, and the sessions stay
+-- the log's flushed place went on, or not, and the sessions stay, with their savepoints
 pub record DidFlush (v t : View) : Type 0 where
   pub session : (seat : ℕ) → IsSession v seat → t.session seat ≡ v.session seat
+  pub saves : (seat : ℕ) → IsSession v seat → t.saves seat ≡ v.saves seat
   pub opening : t.opening ≡ v.opening
   pub tail : t.tail ≡ v.tail
   pub above : v.flushed ≤ t.flushed
