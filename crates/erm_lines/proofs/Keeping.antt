@@ -14,7 +14,7 @@ use Rattle.erm_report.specs.declared.answer.Answer.TheVariants as answer
 use Rattle.erm_script.specs.declared.script.Command.{Command}
 use Rattle.erm_script.specs.declared.script.Command.TheVariants as command
 use Rattle.erm_script.specs.declared.script.ScriptLine.{ScriptLine}
-use Rattle.erm_world.specs.Calls.{DidSeal, IsDone}
+use Rattle.erm_world.specs.Calls.{DidSeal, IsDone, KeepsOwnSaves}
 use Rattle.erm_world.specs.World.{Fate, IsSession, Opening, Session, Stand, View, Work, begun, phase_at, phase_of, work_at, work_of}
 use Rattle.erm_world.specs.World as world
 use Rattle.erm_world.proofs.Txns.{stopped, went}
@@ -25,8 +25,8 @@ use Rattle.erm_lines.specs.Executions.{DidEnd, DidFlush, DidLogLine}
 use Rattle.erm_lines.specs.Operations.{DidCalls, Ran}
 use Rattle.erm_lines.specs.Whole.{AreRunsNow}
 use Rattle.erm_lines.proofs.Moved.{active_where, asked_still, log_flushes}
-use Rattle.erm_lines.proofs.Saved.{back_runs, saved, saved_runs, went_back}
-use Rattle.erm_lines.proofs.Watched.{Watches, asked_snapshot, in_phase, safe_rests, watched}
+use Rattle.erm_lines.proofs.Saved.{IsRunAt, kept_is, saved, saved_runs, went_back, went_back_runs}
+use Rattle.erm_lines.proofs.Watched.{Watches, asked_snapshot, idle_where, in_phase, safe_rests, watched}
 
 -- where a session is active, its transaction is the run of some operations
 abbrev IsRunNow : View → ℕ → Type 0
@@ -35,12 +35,9 @@ IsRunNow v seat = phase_at v seat ≡ Active → (steps : List Step) × IsRunOf 
 -- so it is of one whose session and savepoints are the same
 run_same : (v t : View) (seat : ℕ) → t.session seat ≡ v.session seat → t.saves seat ≡ v.saves seat → IsRunNow v seat → IsRunNow t seat
 run_same v t seat session saves run active =
-    let same : kept_at t seat ≡ kept_at v seat = kept_same (work_at t seat) (work_at v seat) (t.saves seat) (v.saves seat) (ap (λ (s : Session). work_of s.stand) session) saves in
+    let same : kept_at t seat ≡ kept_at v seat = kept_is (work_at t seat) (work_at v seat) (t.saves seat) (v.saves seat) (ap (λ (s : Session). work_of s.stand) session) saves in
     let was = run (sym (ap (λ (s : Session). phase_of s.stand) session) ∙ active) in
     (was.0, subst (λ (k : Kept). IsRunOf k was.0) (sym same) was.1)
-  where
-    kept_same : (w u : Work) (xs ys : List (List VersionWritten)) → w ≡ u → xs ≡ ys → let k : Kept = record { work = w; saves = xs } in k ≡ record { work = u; saves = ys }
-    kept_same w u xs ys first second = cc
 
 -- a session went on, and no other
 record Turns (v : View) (seat : ℕ) (t : View) : Type 0 where
@@ -80,14 +77,18 @@ NoneRuns = (number begin : ℕ) → IsRunOf (record { work = begun number begin;
 
 begun_runs : NoneRuns → (v : View) (seat number begin : ℕ) → (v.session seat).stand ≡ world.active (begun number begin) → v.saves seat ≡ [] → IsRunNow v seat
 begun_runs none v seat number begin is saves active =
-    ([], subst (λ (k : Kept). IsRunOf k []) (sym (kept_is (work_at v seat) (begun number begin) (v.saves seat) (ap work_of is) saves)) (none number begin))
-  where
-    kept_is : (w u : Work) (xs : List (List VersionWritten)) → w ≡ u → xs ≡ [] → let k : Kept = record { work = w; saves = xs } in k ≡ record { work = u; saves = [] }
-    kept_is w u xs first second = cc
+    ([], subst (λ (k : Kept). IsRunOf k []) (sym (kept_is (work_at v seat) (begun number begin) (v.saves seat) [] (ap work_of is) saves)) (none number begin))
+
+-- it holds no savepoint
+begins_bare : (u : Work) (stand : Stand) (held before : List (List VersionWritten)) → phase_of stand ≡ Idle → KeepsOwnSaves (world.active u) stand held before → held ≡ []
+begins_bare u world.idle held before idle keeps = keeps
+begins_bare u (world.active w) held before idle keeps = absurd (cc)
+begins_bare u (world.sealed w stamp) held before idle keeps = keeps
+begins_bare u (world.snapshot s) held before idle keeps = keeps
 
 done_turns : (v t : View) (seat : ℕ) (w : Work) (fate : Fate) → IsDone v seat w fate t → Turns v seat t
 done_turns v t seat w fate did =
-    record { own = idle_runs t seat (ap (λ (s : Session). s.stand) did.own); others = did.others; saves = did.saves; opening = did.opening }
+    record { own = idle_runs t seat (ap (λ (s : Session). s.stand) did.own); others = did.others; saves = did.saves.others; opening = did.opening }
 
 sealed_turns : (v t : View) (seat stamp : ℕ) → DidSeal v seat stamp t → Turns v seat t
 sealed_turns v t seat stamp did =
@@ -141,9 +142,6 @@ along (e ∷ es) v t seat active (u, answered, rest) =
       opening = second.opening ∙ first.goes.opening;
     }
 
-abbrev IsRunAt : View → ℕ → Type 0
-IsRunAt v seat = (steps : List Step) × IsRunOf (kept_at v seat) steps
-
 called_turns : (v t : View) (seat : ℕ) (steps : List Step) (kind : Rows → List Event → Type 0) → phase_at v seat ≡ Active → IsRunAt v seat → DidCalls v seat steps kind t → Turns v seat t
 called_turns v t seat steps kind active run did =
     let on = along did.events v t seat active did.ran in
@@ -173,25 +171,25 @@ operation_turns v t seat c a active run did = refused_turns v t seat c a active 
 saved_turns : (v t : View) (seat : ℕ) (a : Answer) → IsRunAt v seat → DidAskSave v seat a t → Turns v seat t
 saved_turns v t seat a run did =
     let it = saved v t seat a did in
-    record { own = λ now. saved_runs v t seat a run.0 run.1 did; others = it.others; saves = it.saves; opening = it.opening }
+    record { own = λ now. saved_runs v t seat a run did; others = it.others; saves = it.saves; opening = it.opening }
 
 back_turns : (v t : View) (seat n : ℕ) (a : Answer) → IsRunAt v seat → DidAskBack v seat n a t → Turns v seat t
 back_turns v t seat n a run did =
     let it = went_back v t seat n a did in
-    record { own = λ now. back_runs v t seat n a run.0 run.1 did; others = it.others; saves = it.saves; opening = it.opening }
+    record { own = λ now. went_back_runs v t seat n a run did; others = it.others; saves = it.saves; opening = it.opening }
 
 -- LINES.
 module _ (none : NoneRuns) (v t : View) (seat : ℕ) (runs : AreRunsNow v) where
-  begun_kept : (a : Answer) → DidCommand v seat command.Begin a t → StayRuns v t
-  begun_kept (answer.Began stamp) did = kept v t seat runs (record {
-    own = begun_runs none t seat _ stamp (ap (λ (s : Session). s.stand) did.3.own) did.4;
+  begun_kept : (a : Answer) → phase_at v seat ≡ Idle → DidCommand v seat command.Begin a t → StayRuns v t
+  begun_kept (answer.Began stamp) idle did = kept v t seat runs (record {
+    own = begun_runs none t seat _ stamp (ap (λ (s : Session). s.stand) did.3.own) (begins_bare _ (v.session seat).stand (t.saves seat) (v.saves seat) idle did.3.saves.own);
     others = did.3.others;
-    saves = did.3.saves;
+    saves = did.3.saves.others;
     opening = did.3.opening;
   })
-  begun_kept (answer.LogEnd tail) did = unchanged v t did.0 runs
-  begun_kept answer.NumbersEnd did = unchanged v t did.0 runs
-  begun_kept a did = absurd did
+  begun_kept (answer.LogEnd tail) idle did = unchanged v t did.0 runs
+  begun_kept answer.NumbersEnd idle did = unchanged v t did.0 runs
+  begun_kept a idle did = absurd did
 
   sealed_kept : (a : Answer) → DidCommand v seat command.Seal a t → StayRuns v t
   sealed_kept (answer.Sealed stamp) did = kept v t seat runs (sealed_turns v t seat stamp did)
@@ -210,7 +208,7 @@ module _ (none : NoneRuns) (v t : View) (seat : ℕ) (runs : AreRunsNow v) where
     watched_kept it = kept v t seat runs (record { own = λ active. absurd (it.inactive active); others = it.others; saves = it.saves; opening = it.opening })
 
     command_kept : (c : Command) (a : Answer) → refusal_of (phase_at v seat) c ≡ None → HasNoSnapshot (phase_at v seat) → DidCommand v seat c a t → StayRuns v t
-    command_kept command.Begin a allowed plain did = begun_kept a did
+    command_kept command.Begin a allowed plain did = begun_kept a (idle_where (phase_at v seat) command.Begin allowed refl) did
     command_kept command.Safe a allowed plain did = watched_kept (asked_snapshot v t seat a (safe_rests (phase_at v seat) allowed) did)
     command_kept command.Save a allowed plain did =
         kept v t seat runs (saved_turns v t seat a (runs seat session (active_where NeedsWriter (phase_at v seat) tt plain allowed)) did)

@@ -15,6 +15,7 @@ use Rattle.erm_lines.specs.Laws.{ClosesLeaveTheLog, LinesLeaveTheLog}
 use Rattle.erm_lines.proofs.Moved.{active_where, asked_still}
 use Rattle.erm_lines.proofs.Watched.{Watches, asked_snapshot, in_phase, safe_rests, watched}
 use Rattle.erm_lines.proofs.Receipts.{operated_goes}
+use Rattle.erm_lines.proofs.Saved.{saved, went_back}
 
 abbrev Leaves : View → View → Type 0
 Leaves v t = (t.flushed ≡ v.flushed) × (t.pinned ≡ v.pinned)

@@ -7,6 +7,7 @@ pub mod Looked
 pub mod Moved
 pub mod Receipts
 pub mod Refused
+pub mod Saved
 pub mod Scanning
 pub mod Sighted
 pub mod Tidied

@@ -1,5 +1,6 @@
 -- A look at several keys, as its line is answered.
 use Rattle.std.proofs.Common.{◌≡◌, refl, sym, ◌∙◌, subst, ℕ, List, [], ◌∷◌, ◌++◌, append-nil, Some, Result, Ok, Err, IfOk, IfErr}
+use Rattle.std.proofs.lemmas.List.Elements.{All-cons, All-nil}
 use Rattle.std.proofs.lemmas.Result.{IfOk-at_ok}
 use Rattle.erm_model.specs.declared.operation.Op.TheVariants as op
 use Rattle.erm_model.specs.declared.operation.Reply.TheVariants as reply
@@ -7,10 +8,8 @@ use Rattle.erm_model.specs.declared.row_stop.RowStop.{RowStop}
 use Rattle.erm_model.specs.Database.{AreFound, Database}
 use Rattle.erm_model.specs.Rows.{Rows}
 use Rattle.erm_model.specs.RowTransaction.{IsLawful, IsStopped, Law, SameLaw, Saw, StopsRead}
-use Rattle.erm_model.specs.Run.{IsReply, RunsOne, Step, ops_of}
-use Rattle.erm_model.specs.Run as run
+use Rattle.erm_model.specs.Run.{IsOnMap, IsReplyOn, Step, change}
 use Rattle.erm_model.proofs.RowCalls.{Saw-on, WritesNothing-OnlyReads}
-use Rattle.erm_model.proofs.Runs.{RunsOne-append}
 use Rattle.erm_node.specs.Sound.{IsSound, sound_law}
 use Rattle.erm_node.specs.TreeMap.{map_of_rows}
 use Rattle.erm_report.specs.declared.answer.Answer.{Answer}
@@ -21,18 +20,16 @@ use Rattle.erm_tree.specs.Operations.{stuttered}
 use Rattle.erm_tree.proofs.Operations.{Stutters-look, Stutters-saw}
 use Rattle.erm_world.specs.Laws.{FitsWork}
 use Rattle.erm_world.specs.Works.{seen_by}
-use Rattle.erm_world.specs.World.{View, work_at}
-use Rattle.erm_maps.specs.Runs.{IsRunOf}
+use Rattle.erm_world.specs.Onward.{extends_itself}
+use Rattle.erm_world.specs.World.{View, Work, work_at}
+use Rattle.erm_maps.specs.Runs.{IsRunOf, kept_at}
+use Rattle.erm_maps.proofs.GoingOn.{IsRunOf-on_map}
 use Rattle.erm_lines.specs.Answers.{stop_told}
 use Rattle.erm_lines.specs.Operations.{IsMetByScan}
 use Rattle.erm_lines.specs.Whole.{WasAnswered}
 use Rattle.erm_lines.proofs.Bridge.{CallsAreRuns, RunsOn, cut_off, face, runs_on, seen}
 use Rattle.erm_lines.proofs.Refused.{refused, scan_fits}
 use Rattle.erm_lines.proofs.Scanning.{Scanned}
-
-after_last : (before : List Step) (step : Step) (m : Database) → run.after_all (ops_of (before ++ step ∷ [])) m ≡ run.after step.op (run.after_all (ops_of before) m)
-after_last [] step m = refl
-after_last (x ∷ before) step m = after_last before step (run.after x.op m)
 
 module _ {S : Type 0} (law : Law) (view : S → View) (seat : S → ℕ) (stands : S → Type 0) (one : S → S → Type 0) (same : SameLaw law sound_law)
     (are_runs : CallsAreRuns law view seat stands one same) where
@@ -46,26 +43,26 @@ module _ {S : Type 0} (law : Law) (view : S → View) (seat : S → ℕ) (stands
   })
 
   -- an operation that leaves the map, whose reply was seen, is one more of the run
-  look_on : (s t : S) (step : Step) (fact : Rows → Type 0) → IsLawful (face law view seat stands one same) s → Saw (face law view seat stands one same) s t fact
-      → ((rows : Rows) → fact rows → IsReply (map_of_rows rows) step.op step.reply) → ((m : Database) → run.after step.op m ≡ m) → seat t ≡ seat s
+  look_on : (s t : S) (step : Step) (fact : Rows → Type 0) → IsOnMap step.op → IsLawful (face law view seat stands one same) s → Saw (face law view seat stands one same) s t fact
+      → ((rows : Rows) → fact rows → IsReplyOn (map_of_rows rows) step.op step.reply) → ((m : Database) → change step.op m ≡ m) → seat t ≡ seat s
       → RunsOn law view seat stands one same s (step ∷ []) t
-  look_on s t step fact lawful saw replies leaves is before runs =
-      let stays : IsRunOf (work_at (view t) (seat s)) before =
-      subst (λ (steps : List Step). IsRunOf (work_at (view t) (seat s)) steps) (append-nil before)
+  look_on s t step fact on_map lawful saw replies leaves is before runs =
+      let stays : IsRunOf (kept_at (view t) (seat s)) before =
+      subst (λ (steps : List Step). IsRunOf (kept_at (view t) (seat s)) steps) (append-nil before)
       (runs_on law view seat stands one same are_runs s t (stuttered ∷ []) (t, Stutters-saw (face law view seat stands one same) s t fact saw, refl) is before runs) in
-      let replied : (rows : Rows) → IsSound rows → FitsWork sound_law (work_at (view t) (seat s)) rows → IsReply (map_of_rows (seen_by (work_at (view t) (seat s)) rows)) step.op step.reply =
+      let w : Work = work_at (view t) (seat s) in
+      let replied : (rows : Rows) → IsSound rows → FitsWork sound_law w rows → IsReplyOn (map_of_rows (seen_by w rows)) step.op step.reply =
       λ rows sound fits.
       let on = Saw-on (face law view seat stands one same) s t fact lawful saw rows ((same.meets rows).1 sound) (fits_now s t rows is fits) in
-      subst (λ (q : ℕ). IsReply (map_of_rows (seen_by (work_at (view t) q) rows)) step.op step.reply) is
-      (subst (λ (array : Rows). IsReply (map_of_rows array) step.op step.reply) (sym on.1) (replies (seen_by (work_at (view s) (seat s)) rows) on.0)) in
-      record {
-        run = λ rows sound fits.
-            RunsOne-append (map_of_rows rows) before (step ∷ []) (stays.run rows sound fits)
-            (subst (λ (m : Database). RunsOne m (step ∷ [])) (stays.after rows sound fits) (replied rows sound fits, tt));
-        after = λ rows sound fits.
-            stays.after rows sound fits ∙ sym (leaves (run.after_all (ops_of before) (map_of_rows rows))) ∙ sym (after_last before step (map_of_rows rows));
+      subst (λ (q : ℕ). IsReplyOn (map_of_rows (seen_by (work_at (view t) q) rows)) step.op step.reply) is
+      (subst (λ (array : Rows). IsReplyOn (map_of_rows array) step.op step.reply) (sym on.1) (replies (seen_by (work_at (view s) (seat s)) rows) on.0)) in
+      IsRunOf-on_map (kept_at (view t) (seat s)) w before (step ∷ []) (All-cons (λ (x : Step). IsOnMap x.op) step [] on_map (All-nil (λ (x : Step). IsOnMap x.op))) stays (record {
+        extends = extends_itself w;
+        run = λ rows sound fits. (replied rows sound fits, tt);
+        after = λ rows sound fits. sym (leaves (map_of_rows (seen_by w rows)));
         lawful = stays.lawful;
-      }
+        once = stays.once;
+      })
 
   pub scan_ok : (s t : S) (table low high : ℕ) (found : List (ℕ × List ℕ)) (told : Result (List (ℕ × List ℕ)) RowStop) → IsLawful (face law view seat stands one same) s
       → told ≡ Ok found → IfOk told (Scanned (face law view seat stands one same) table low high s t) → WasAnswered (view s) (seat s) (command.Scan table low high) (answer.Replied (reply.Found found)) (view t)
@@ -77,7 +74,7 @@ module _ {S : Type 0} (law : Law) (view : S → View) (seat : S → ℕ) (stands
           refl,
           seen law view seat stands one same (IsMetByScan table low high) s t (λ rows. AreFound (map_of_rows rows) table low high found) (record { op = op.Scan table low high; reply = reply.Found found }) did
               (λ rows is. (found, refl, is)) (λ m. refl)
-              (look_on s t (record { op = op.Scan table low high; reply = reply.Found found }) (λ rows. AreFound (map_of_rows rows) table low high found) lawful did.saw (λ rows is. (found, refl, is)) (λ m. refl) did.saw.follows.1),
+              (look_on s t (record { op = op.Scan table low high; reply = reply.Found found }) (λ rows. AreFound (map_of_rows rows) table low high found) tt lawful did.saw (λ rows is. (found, refl, is)) (λ m. refl) did.saw.follows.1),
         );
       }
 

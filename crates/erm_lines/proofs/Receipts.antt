@@ -22,10 +22,11 @@ use Rattle.erm_world.specs.Onward.{goes_itself, goes_then}
 use Rattle.erm_world.proofs.Lists.{∈-parts}
 use Rattle.erm_world.proofs.Txns.{stopped, went}
 use Rattle.erm_good_report.specs.Phases.{Closes, HasNoSnapshot, NeedsReader, NeedsWriter, refusal_of}
-use Rattle.erm_lines.specs.Answers.{DidClose, DidCommand, DidOfSnapshot, DidOperation, IsCommitted, IsReceiptOf, KeepsReceipt, WasRefusedAs}
+use Rattle.erm_lines.specs.Answers.{DidAskBack, DidAskSave, DidClose, DidCommand, DidOfSnapshot, DidOperation, IsCommitted, IsReceiptOf, KeepsReceipt, WasRefusedAs}
 use Rattle.erm_lines.specs.Executions.{DidEnd}
 use Rattle.erm_lines.specs.Operations.{Ran}
 use Rattle.erm_lines.proofs.Moved.{active_where, asked_still}
+use Rattle.erm_lines.proofs.Saved.{saved, went_back}
 use Rattle.erm_lines.proofs.Watched.{Watches, asked_snapshot, safe_rests, watched}
 
 only_one : (f g : Finished) → f ∈ (g ∷ []) → g ≡ f
@@ -96,7 +97,7 @@ begin_keeps v t seat r a did = absurd did
 
 -- a savepoint more, and a way back
 pub save_keeps : (v t : View) (seat : ℕ) (r : Option Receipt) (a : Answer) → DidAskSave v seat a t → KeepsReceipt v seat r t r
-save_keeps v t seat r a did = same_keeps v t seat r (ap (λ (s : Session). s.over) (saved v t seat a did).own)
+save_keeps v t seat r a did = same_keeps v t seat r (saved v t seat a did).over
 
 pub back_keeps : (v t : View) (seat : ℕ) (r : Option Receipt) (n : ℕ) (a : Answer) → DidAskBack v seat n a t → KeepsReceipt v seat r t r
 back_keeps v t seat r n a did = same_keeps v t seat r (went_back v t seat n a did).over

@@ -1,19 +1,17 @@
--- What a line that makes a savepoint, or goes back to one, does to a view: the session's transaction goes on, and what is over stays.
-use Rattle.std.proofs.Common.{◌≡◌, ◌≢◌, ℕ, suc, cond, eqb, Bool, List, [], ◌∷◌, ◌++◌, refl, sym, ap, ◌∙◌, subst, eq-eqb, ne_eqb}
-use Rattle.std.specs.List.{slice_get}
+-- What a line that makes a savepoint, or goes back to one, does to a view: the session's transaction goes on, as a run of one operation more.
+use Rattle.std.proofs.Common.{◌≡◌, ◌≢◌, ℕ, suc, ◌==◌, cond, Bool, List, [], ◌∷◌, ◌++◌, take, refl, sym, ap, ◌∙◌, subst, eq-eqb, ne_eqb}
 use Rattle.erm_model.specs.declared.history.VersionWritten.{VersionWritten}
-use Rattle.erm_model.specs.declared.operation.Op.TheVariants as op
-use Rattle.erm_model.specs.declared.operation.Reply.TheVariants as reply
 use Rattle.erm_model.specs.declared.outcome.Phase.TheVariants.{Active}
 use Rattle.erm_model.specs.Run.{Step}
 use Rattle.erm_report.specs.declared.answer.Answer.{Answer}
 use Rattle.erm_report.specs.declared.answer.Answer.TheVariants as answer
-use Rattle.erm_world.specs.Saves.{DidSave, WentBack}
-use Rattle.erm_world.specs.World.{Session, View, Work, phase_at, phase_of, work_at}
+use Rattle.erm_world.specs.Saves.{WentBack, holding, restored, with_claims}
+use Rattle.erm_world.specs.World.{Session, View, Work, phase_at, phase_of, work_at, work_of}
 use Rattle.erm_maps.specs.Runs.{IsRunOf, Kept, going_back, kept_at, saving}
+use Rattle.erm_maps.proofs.Kept.{IsRunOf-going_back, IsRunOf-saving, back_step, save_step}
 use Rattle.erm_lines.specs.Answers.{DidAskBack, DidAskSave}
 
--- the session's transaction goes on, with other savepoints, and nothing else changes
+-- The session's transaction goes on, and nothing changes besides it and its savepoints.
 pub record Saves (v : View) (seat : ℕ) (t : View) : Type 0 where
   pub over : (t.session seat).over ≡ (v.session seat).over
   pub active : phase_at v seat ≡ Active → phase_at t seat ≡ Active
@@ -23,3 +21,104 @@ pub record Saves (v : View) (seat : ℕ) (t : View) : Type 0 where
   pub tail : t.tail ≡ v.tail
   pub flushed : t.flushed ≡ v.flushed
   pub pinned : t.pinned ≡ v.pinned
+
+-- the savepoints of one session that holds others, and those of the others
+pub held_now : (v : View) (seat : ℕ) (held : List (List VersionWritten)) → (holding seat held v).saves seat ≡ held
+held_now v seat held = ap (λ (b : Bool). cond b held (v.saves seat)) (eq-eqb seat seat refl)
+
+pub held_others : (v : View) (seat : ℕ) (held : List (List VersionWritten)) (q : ℕ) → q ≢ seat → (holding seat held v).saves q ≡ v.saves q
+held_others v seat held q another = ap (λ (b : Bool). cond b held (v.saves q)) (ne_eqb q seat another)
+
+-- what a transaction is with its savepoints, by both
+pub kept_is : (w u : Work) (xs ys : List (List VersionWritten)) → w ≡ u → xs ≡ ys → let k : Kept = record { work = w; saves = xs } in k ≡ record { work = u; saves = ys }
+kept_is w u xs ys first second = cc
+
+still : (v t : View) (seat : ℕ) → t ≡ v → Saves v seat t
+still v t seat is = record {
+  over = ap (λ (u : View). (u.session seat).over) is;
+  active = λ active. ap (λ (u : View). phase_at u seat) is ∙ active;
+  others = λ q another. ap (λ (u : View). u.session q) is;
+  saves = λ q another. ap (λ (u : View). u.saves q) is;
+  opening = ap (λ (u : View). u.opening) is;
+  tail = ap (λ (u : View). u.tail) is;
+  flushed = ap (λ (u : View). u.flushed) is;
+  pinned = ap (λ (u : View). u.pinned) is;
+}
+
+-- A SAVEPOINT MORE
+holds : (v t : View) (seat : ℕ) (held : List (List VersionWritten)) → t ≡ holding seat held v → Saves v seat t
+holds v t seat held is = record {
+  over = ap (λ (u : View). (u.session seat).over) is;
+  active = λ active. ap (λ (u : View). phase_at u seat) is ∙ active;
+  others = λ q another. ap (λ (u : View). u.session q) is;
+  saves = λ q another. ap (λ (u : View). u.saves q) is ∙ held_others v seat held q another;
+  opening = ap (λ (u : View). u.opening) is;
+  tail = ap (λ (u : View). u.tail) is;
+  flushed = ap (λ (u : View). u.flushed) is;
+  pinned = ap (λ (u : View). u.pinned) is;
+}
+
+pub saved : (v t : View) (seat : ℕ) (a : Answer) → DidAskSave v seat a t → Saves v seat t
+saved v t seat (answer.Saved held) did = holds v t seat (v.saves seat ++ (work_at v seat).claims ∷ []) did.saved
+saved v t seat answer.SavesFull did = still v t seat did.0
+saved v t seat a did = absurd did
+
+-- A WAY BACK
+pub back_goes : (v t : View) (seat n : ℕ) → WentBack v seat n t → Saves v seat t
+back_goes v t seat n did =
+    let last = holds did.between t seat (take n (v.saves seat)) did.saves in record {
+      over = last.over ∙ ap (λ (s : Session). s.over) did.claims.own;
+      active = λ active. last.active (ap (λ (s : Session). phase_of s.stand) did.claims.own);
+      others = λ q another. last.others q another ∙ did.claims.others q another;
+      saves = λ q another. last.saves q another ∙ did.claims.saves.others q another;
+      opening = last.opening ∙ did.claims.opening;
+      tail = last.tail ∙ did.claims.tail;
+      flushed = last.flushed ∙ did.claims.flushed;
+      pinned = last.pinned ∙ did.claims.pinned;
+    }
+
+pub went_back : (v t : View) (seat n : ℕ) (a : Answer) → DidAskBack v seat n a t → Saves v seat t
+went_back v t seat n (answer.Back m) did = back_goes v t seat n did.1
+went_back v t seat n (answer.NoSave held) did = still v t seat did.0
+went_back v t seat n a did = absurd did
+
+-- RUNS. The transaction is the run of the operations before, and of this one where it was answered.
+abbrev pub IsRunAt : View → ℕ → Type 0
+IsRunAt v seat = (steps : List Step) × IsRunOf (kept_at v seat) steps
+
+-- what a transaction is then
+pub kept_saving : (v t : View) (seat : ℕ) → t ≡ holding seat (v.saves seat ++ (work_at v seat).claims ∷ []) v → kept_at t seat ≡ saving (kept_at v seat)
+kept_saving v t seat is =
+    let more : List (List VersionWritten) = v.saves seat ++ (work_at v seat).claims ∷ [] in
+    kept_is (work_at t seat) (work_at v seat) (t.saves seat) more (ap (λ (u : View). work_at u seat) is)
+    (ap (λ (u : View). u.saves seat) is ∙ held_now v seat more)
+
+pub kept_back : (v t : View) (seat n : ℕ) (did : WentBack v seat n t) → kept_at t seat ≡ going_back n did.saved (kept_at v seat)
+kept_back v t seat n did =
+    let w : Work = with_claims (restored did.saved (work_at v seat).claims) (work_at v seat) in
+    let work : work_at t seat ≡ w = ap (λ (u : View). work_at u seat) did.saves ∙ ap (λ (s : Session). work_of s.stand) did.claims.own in
+    let saves : t.saves seat ≡ take n (v.saves seat) = ap (λ (u : View). u.saves seat) did.saves ∙ held_now did.between seat (take n (v.saves seat)) in
+    kept_is (work_at t seat) w (t.saves seat) (take n (v.saves seat)) work saves
+
+pub save_runs : (v t : View) (seat held : ℕ) (before : List Step) → IsRunOf (kept_at v seat) before → DidAskSave v seat (answer.Saved held) t → IsRunOf (kept_at t seat) (before ++ save_step ∷ [])
+save_runs v t seat held before run did =
+    subst (λ (k : Kept). IsRunOf k (before ++ save_step ∷ [])) (sym (kept_saving v t seat did.saved)) (IsRunOf-saving (kept_at v seat) before run)
+
+pub back_runs : (v t : View) (seat n : ℕ) (before : List Step) → IsRunOf (kept_at v seat) before → WentBack v seat n t → IsRunOf (kept_at t seat) (before ++ back_step n ∷ [])
+back_runs v t seat n before run did =
+    let went : IsRunOf (going_back (suc did.place) did.saved (kept_at v seat)) (before ++ back_step (suc did.place) ∷ []) = IsRunOf-going_back (kept_at v seat) before run did.place did.saved did.was_saved in
+    subst (λ (k : Kept). IsRunOf k (before ++ back_step n ∷ [])) (sym (kept_back v t seat n did))
+    (subst (λ (m : ℕ). IsRunOf (going_back m did.saved (kept_at v seat)) (before ++ back_step m ∷ [])) (sym did.number) went)
+
+still_runs : (v t : View) (seat : ℕ) → t ≡ v → IsRunAt v seat → IsRunAt t seat
+still_runs v t seat is run = subst (λ (u : View). IsRunAt u seat) (sym is) run
+
+pub saved_runs : (v t : View) (seat : ℕ) (a : Answer) → IsRunAt v seat → DidAskSave v seat a t → IsRunAt t seat
+saved_runs v t seat (answer.Saved held) run did = (run.0 ++ save_step ∷ [], save_runs v t seat held run.0 run.1 did)
+saved_runs v t seat answer.SavesFull run did = still_runs v t seat did.0 run
+saved_runs v t seat a run did = absurd did
+
+pub went_back_runs : (v t : View) (seat n : ℕ) (a : Answer) → IsRunAt v seat → DidAskBack v seat n a t → IsRunAt t seat
+went_back_runs v t seat n (answer.Back m) run did = (run.0 ++ back_step n ∷ [], back_runs v t seat n run.0 run.1 did.1)
+went_back_runs v t seat n (answer.NoSave held) run did = still_runs v t seat did.0 run
+went_back_runs v t seat n a run did = absurd did

@@ -45,7 +45,7 @@ goes_on v t seat s did = record {
   inactive = λ active. snapshot_not_active s (subst (λ (x : Session). phase_of x.stand ≡ Active) did.own active);
   over = inl (ap (λ (x : Session). x.over) did.own);
   others = did.others;
-  saves = did.saves;
+  saves = did.saves.others;
   opening = did.opening;
   flushed = did.flushed;
   pinned = did.pinned;
@@ -56,7 +56,7 @@ ends v t seat w did = record {
   inactive = λ active. let at = ap (λ (x : Session). phase_of x.stand) did.own in cc;
   over = inr (w, ap (λ (x : Session). x.over) did.own);
   others = did.others;
-  saves = did.saves;
+  saves = did.saves.others;
   opening = did.opening;
   flushed = did.flushed;
   pinned = did.pinned;
@@ -72,7 +72,7 @@ begun_then v u t seat begin began asked =
         | inr more ↦ inr (more.0, more.1 ∙ ap (λ (fs : List Finished). fs ++ record { work = more.0; fate = world.aborts } ∷ []) over)
       ];
       others = λ q another. asked.others q another ∙ began.3.others q another;
-      saves = λ q another. asked.saves q another ∙ began.3.saves q another;
+      saves = λ q another. asked.saves q another ∙ began.3.saves.others q another;
       opening = asked.opening ∙ began.3.opening;
       flushed = asked.flushed ∙ began.3.flushed;
       pinned = asked.pinned ∙ began.3.pinned;
