@@ -39,7 +39,7 @@ place_counts true seat asked a p phase gives = gives refl
 place_counts false seat asked a p phase gives = omega arith
 
 passes_itself : (seat : ℕ) (v : View) → Passes seat v v
-passes_itself seat v = record { own = refl; opening = refl; tail = omega arith; flushed = omega arith; given_up = refl }
+passes_itself seat v = record { own = refl; opening = refl; tail = omega arith; flushed = omega arith; given_up = refl; saves = refl }
 
 module _ (runs : (number begin : ℕ) → IsRunOf (world.begun number begin) []) (stay : (w u : Work) (steps : List Step) → Extends w u → IsAnswered w steps → IsAnswered u steps) where
   -- the phase that the session's view has when it is asked

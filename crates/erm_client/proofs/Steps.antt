@@ -64,14 +64,14 @@ module _ {S T X : Type 0} (stands : X → S → Type 0) (seat : S → ℕ) (own 
 
   -- it was answered
   pub answered_goes : (l : ScriptLine) (a : Answer) → IsLine (seat c.session) l → ((f : View) → ends d.session f → RanLine f l (Some a) (own c.session) (own d.session))
-      → ((f : View) × ends d.session f) → IsReady ((own d.session).session (seat c.session)) d.receipt → HasMore c.transcript l a d.transcript
+      → ((f : View) × ends d.session f) → IsReady (own d.session) (seat c.session) d.receipt → HasMore c.transcript l a d.transcript
       → GoesOn stands seat own ends told c d
   answered_goes l a line ran some ready more = record {
     client = record {
       stands_so = standing_so;
       seat_is = more.seat ∙ client.seat_is ∙ sym onward.seat_is;
       transcript_ok = more_transcript c.transcript d.transcript l a client.transcript_ok opened (own_line l line) (answer_tells l a line ran some) more;
-      ready = λ now. subst (λ (n : ℕ). IsReady ((own d.session).session n) d.receipt) (sym onward.seat_is) ready;
+      ready = λ now. subst (λ (n : ℕ). IsReady (own d.session) n d.receipt) (sym onward.seat_is) ready;
       watches = λ now. answer_watches l a line ran some more;
     };
     same = same;
@@ -127,8 +127,8 @@ module _ {S T X : Type 0} (stands : X → S → Type 0) (seat : S → ℕ) (own 
       seat_is = still.seat ∙ client.seat_is ∙ sym onward.seat_is;
       transcript_ok = same_transcript c.transcript d.transcript client.transcript_ok still.seat still.lines still.answers
           (subst (λ (s : Standing). HasAnswers s (length c.transcript.lines.items) (length c.transcript.answers.items)) (sym still.standing_so) client.transcript_ok.each);
-      ready = λ now. subst (λ (r : Option Receipt). IsReady ((own d.session).session (seat d.session)) r) (sym receipt)
-          (subst (λ (s : S). IsReady ((own s).session (seat s)) c.receipt) (sym session) (client.ready opened));
+      ready = λ now. subst (λ (r : Option Receipt). IsReady (own d.session) (seat d.session) r) (sym receipt)
+          (subst (λ (s : S). IsReady (own s) (seat s) c.receipt) (sym session) (client.ready opened));
       watches = λ now. subst (λ (q : Progress). IsSafeWhereTold (phase_at (own d.session) (seat d.session)) q) (sym (dealt_same c.transcript d.transcript still))
           (subst (λ (s : S). IsSafeWhereTold (phase_at (own s) (seat s)) (dealings_of c.transcript)) (sym session) (client.watches opened));
     };

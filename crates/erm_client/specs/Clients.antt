@@ -43,7 +43,7 @@ pub record IsClient {S T X : Type 0} (stands : X → S → Type 0) (seat : S →
   pub stands_so : stands c.shared.now c.session
   pub seat_is : c.transcript.seat ≡ seat c.session
   pub transcript_ok : IsTranscript c.transcript
-  pub ready : c.transcript.standing ≡ standing.Open → IsReady ((own c.session).session (seat c.session)) c.receipt
+  pub ready : c.transcript.standing ≡ standing.Open → IsReady (own c.session) (seat c.session) c.receipt
   pub watches : c.transcript.standing ≡ standing.Open → IsSafeWhereTold (phase_at (own c.session) (seat c.session)) (dealings_of c.transcript)
 
 -- A client goes on, whatever it is answered. Where it is told to stop, it was so by what it waits by; and from then on it stays as it is.

@@ -102,6 +102,8 @@ pub record IsUntold (a : Answer) (why : Refusal) : Type 0 where
 -- the commands that a client has
 abbrev pub IsOfClient : Command → Type 0
 IsOfClient (command.Tidy table key) = ⊥
+IsOfClient command.Save = ⊥
+IsOfClient (command.Back n) = ⊥
 IsOfClient command.Seal = ⊥
 IsOfClient command.Settle = ⊥
 IsOfClient command.Flush = ⊥

@@ -69,7 +69,7 @@ impl<'a, S: SafeSession, T: Turns> Client<'a, S, T> {
     ) -> Client<'a, S, T>
         requires stands { S.stands shared.now session }
         requires seat { seat ≡ S.seat session }
-        requires ready { IsReady ((S.own session).session (S.seat session)) None }
+        requires ready { IsReady (S.own session) (S.seat session) None }
         ensures client { IsClient S.stands S.seat S.own result }
         ensures same { result.session ≡ session }
         ensures shared { result.shared ≡ shared.entry }

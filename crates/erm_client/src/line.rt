@@ -44,11 +44,11 @@ pub fn run_next<S: SafeSession, T: Turns, R: Wait>(
     requires stands { S.stands shared.now session.old }
     requires seat { line.now.session ≡ S.seat session.old }
     requires may { MayBeAsked line.now.command }
-    requires ready { IsReady ((S.own session.old).session (S.seat session.old)) receipt.old }
+    requires ready { IsReady (S.own session.old) (S.seat session.old) receipt.old }
     ensures stands { S.stands shared.now session.new }
     ensures onward { GoesOnward (S.seat session.old) (S.seat session.new) (S.ends session.old) (S.ends session.new) }
     ensures ran { IfOk result (λ answered. (f : View) → S.ends session.new f → RanLine f line.now answered (S.own session.old) (S.own session.new)) }
-    ensures ready { IfOk result (λ answered. IfSome answered (λ _. IsReady ((S.own session.new).session (S.seat session.old)) receipt.new)) }
+    ensures ready { IfOk result (λ answered. IfSome answered (λ _. IsReady (S.own session.new) (S.seat session.old) receipt.new)) }
     ensures told { IfOk result (λ answered. IfNone answered (T.told turns.new)) }
 {
     if !turns.goes_on() {

@@ -27,6 +27,7 @@ passes_then seat v u t first second = record {
   tail = le_trans first.tail second.tail;
   flushed = le_trans first.flushed second.flushed;
   given_up = second.given_up ∙ first.given_up;
+  saves = second.saves ∙ first.saves;
 }
 
 own_after : (f : View) (seat : ℕ) (ms : List Move) (v u t : View) → Passes seat v u → IsOwnRun f seat u ms t → IsOwnRun f seat v ms t

@@ -114,6 +114,7 @@ did_abort seat v = record {
   flushed = refl;
   pinned = refl;
   given_up = refl;
+  saves = record { own = tt; others = λ q other. refl };
 }
 
 did_end : (seat : ℕ) (v : View) → phase_at v seat ≡ Active → DidEndBeside seat answer.Aborted v (closed_view seat v)

@@ -113,7 +113,7 @@ sealed_tells seat stamp current s r active is tells =
     (sealed_untold seat stamp current (work_of s.stand) (subst (λ (at : Stand). TellsNow seat current at) (active_with s.stand active) tells))
 
 pub passes_itself : (seat : ℕ) (v : View) → Passes seat v v
-passes_itself seat v = record { own = refl; opening = refl; tail = omega arith; flushed = omega arith; given_up = refl }
+passes_itself seat v = record { own = refl; opening = refl; tail = omega arith; flushed = omega arith; given_up = refl; saves = refl }
 
 -- the transaction in progress has claimed no more than its lines may
 abbrev pub ClaimsFew : Progress → Session → Type 0

@@ -2,13 +2,14 @@
 use Rattle.std.proofs.Common.{◌≡◌, ◌≢◌, ℕ, ◌==◌, Bool, true, false, cond, List, [], ◌∷◌, length, Option, Some, None, is_some, refl, sym, ap, ◌∙◌, subst, inl, inr, eq-eqb, ne_eqb, arith}
 use Rattle.std.proofs.lemmas.Bool.{cases_eq}
 use Rattle.erm_model.specs.declared.history.TransactionRecord.{TransactionRecord}
+use Rattle.erm_model.specs.declared.history.VersionWritten.{VersionWritten}
 use Rattle.erm_model.specs.Lawful.{times_made}
 use Rattle.erm_model.specs.Member.{◌∈◌}
 use Rattle.erm_model.specs.RowTransaction.{Does, Event, Face, GoesOn, IsPossible, Law, Runs, Stays, Steps, did_claim, did_make, did_read, did_write}
 use Rattle.erm_model.specs.Rows.{Rows}
 use Rattle.erm_model.proofs.Members.{none_in_nil}
 use Rattle.erm_tree.specs.Calls.{DidBy, SawIn}
-use Rattle.erm_world.specs.Calls.{Becomes, DidClaim, DidMake, DidRead, DidWrite, HasNoNewer, IsUnowned, Works}
+use Rattle.erm_world.specs.Calls.{Becomes, DidClaim, DidMake, DidRead, DidWrite, HasNoNewer, IsUnowned, KeepsOwnSaves, KeepsSaves, Works}
 use Rattle.erm_world.specs.Calls as calls
 use Rattle.erm_world.specs.Face.{Answered, Grows, world_face}
 use Rattle.erm_world.specs.Laws.{FitsWork, IsCommitOf}
@@ -17,6 +18,7 @@ use Rattle.erm_world.specs.World.{Finished, IsCurrent, Opening, Session, Stand, 
 use Rattle.erm_world.specs.World as world
 use Rattle.erm_world.proofs.Commits.{tells_commits}
 use Rattle.erm_world.proofs.Works.{Moves}
+use Rattle.erm_maps.specs.Runs.{Kept, kept_at}
 use Rattle.erm_beside.specs.Face.{AnsweredAfter, beside_face}
 use Rattle.erm_beside.specs.Laws.{IsSound}
 use Rattle.erm_beside.proofs.Given.{given_after}
@@ -25,12 +27,20 @@ use Rattle.erm_beside.proofs.Given.{given_after}
 abbrev pub unused : Session
 unused = record { over = []; stand = world.idle }
 
-abbrev pub alone_of : ℕ → Opening → Session → View
-alone_of seat opening s = record { opening = opening; session = λ q. cond (q == seat) s unused; tail = 0; flushed = 0; pinned = None; given_up = λ q. [] }
+abbrev pub alone_of : ℕ → Opening → Session → List (List VersionWritten) → View
+alone_of seat opening s saves = record {
+  opening = opening;
+  session = λ q. cond (q == seat) s unused;
+  tail = 0;
+  flushed = 0;
+  pinned = None;
+  given_up = λ q. [];
+  saves = λ q. cond (q == seat) saves [];
+}
 
 -- the world in which this session alone has done anything
 abbrev pub alone : ℕ → View → View
-alone seat v = alone_of seat v.opening (v.session seat)
+alone seat v = alone_of seat v.opening (v.session seat) (v.saves seat)
 
 pub alone_own : (seat : ℕ) (v : View) → (alone seat v).session seat ≡ v.session seat
 alone_own seat v = ap (λ (b : Bool). cond b (v.session seat) unused) (eq-eqb seat seat refl)
@@ -38,13 +48,37 @@ alone_own seat v = ap (λ (b : Bool). cond b (v.session seat) unused) (eq-eqb se
 pub alone_other : (seat : ℕ) (v : View) (q : ℕ) → q ≢ seat → (alone seat v).session q ≡ unused
 alone_other seat v q another = ap (λ (b : Bool). cond b (v.session seat) unused) (ne_eqb q seat another)
 
+pub alone_saves : (seat : ℕ) (v : View) → (alone seat v).saves seat ≡ v.saves seat
+alone_saves seat v = ap (λ (b : Bool). cond b (v.saves seat) []) (eq-eqb seat seat refl)
+
+no_saves : (seat : ℕ) (v : View) (q : ℕ) → q ≢ seat → (alone seat v).saves q ≡ []
+no_saves seat v q another = ap (λ (b : Bool). cond b (v.saves seat) []) (ne_eqb q seat another)
+
 pub alone_work : (seat : ℕ) (v : View) → work_at (alone seat v) seat ≡ work_at v seat
 alone_work seat v = ap (λ (s : Session). work_of s.stand) (alone_own seat v)
 
-alone_same : (seat : ℕ) (v u : View) → u.session seat ≡ v.session seat → u.opening ≡ v.opening → alone seat u ≡ alone seat v
-alone_same seat v u own opening = ap (λ (s : Session). alone_of seat u.opening s) own ∙ ap (λ (o : Opening). alone_of seat o (v.session seat)) opening
+kept_same : (w u : Work) (xs ys : List (List VersionWritten)) → w ≡ u → xs ≡ ys → let k : Kept = record { work = w; saves = xs } in k ≡ record { work = u; saves = ys }
+kept_same w u xs ys first second = cc
+
+-- it is a transaction with the same savepoints
+pub alone_kept : (seat : ℕ) (v : View) → kept_at (alone seat v) seat ≡ kept_at v seat
+alone_kept seat v = kept_same (work_at (alone seat v) seat) (work_at v seat) ((alone seat v).saves seat) (v.saves seat) (alone_work seat v) (alone_saves seat v)
+
+alone_same : (seat : ℕ) (v u : View) → u.session seat ≡ v.session seat → u.saves seat ≡ v.saves seat → u.opening ≡ v.opening → alone seat u ≡ alone seat v
+alone_same seat v u own saves opening =
+    ap (λ (s : Session). alone_of seat u.opening s (u.saves seat)) own
+    ∙ ap (λ (held : List (List VersionWritten)). alone_of seat u.opening (v.session seat) held) saves
+    ∙ ap (λ (o : Opening). alone_of seat o (v.session seat) (v.saves seat)) opening
 
 -- THE CALLS. One session became another.
+alone_keeps : (seat : ℕ) (s : Session) (v t : View) → KeepsSaves v seat s t → KeepsSaves (alone seat v) seat s (alone seat t)
+alone_keeps seat s v t keeps = record {
+  own = subst (λ (r : Session). KeepsOwnSaves s.stand r.stand ((alone seat t).saves seat) ((alone seat v).saves seat)) (sym (alone_own seat v))
+      (subst (λ (held : List (List VersionWritten)). KeepsOwnSaves s.stand (v.session seat).stand held ((alone seat v).saves seat)) (sym (alone_saves seat t))
+      (subst (λ (held : List (List VersionWritten)). KeepsOwnSaves s.stand (v.session seat).stand (t.saves seat) held) (sym (alone_saves seat v)) keeps.own));
+  others = λ q another. no_saves seat t q another ∙ sym (no_saves seat v q another);
+}
+
 alone_becomes : (seat : ℕ) (s : Session) (v t : View) → Becomes v seat s t → Becomes (alone seat v) seat s (alone seat t)
 alone_becomes seat s v t now = record {
   own = alone_own seat t ∙ now.own;
@@ -54,6 +88,7 @@ alone_becomes seat s v t now = record {
   flushed = refl;
   pinned = refl;
   given_up = refl;
+  saves = alone_keeps seat s v t now.saves;
 }
 
 -- its work became what this makes of it
@@ -117,7 +152,7 @@ alone_answered seat (did_make oid) v t did = alone_works (making oid) seat v t d
 
 alone_after : (seat : ℕ) (event : Event) (v t : View) → AnsweredAfter seat event v t → Answered (alone seat v) seat event (alone seat t)
 alone_after seat event v t (u, passes, did) =
-    subst (λ (x : View). Answered x seat event (alone seat t)) (alone_same seat v u passes.own passes.opening) (alone_answered seat event u t did)
+    subst (λ (x : View). Answered x seat event (alone seat t)) (alone_same seat v u passes.own passes.saves passes.opening) (alone_answered seat event u t did)
 
 -- THE FACE of the session alone, beside that of the session that shares.
 module _ {S : Type 0} (law : Law) (own : S → View) (seat : S → ℕ) (stands : S → Type 0) (ends : S → View → Type 0) (one : S → S → Type 0)
@@ -136,6 +171,9 @@ module _ {S : Type 0} (law : Law) (own : S → View) (seat : S → ℕ) (stands 
 
   pub work_there : (s : S) → work_at (view s) (seat s) ≡ work_at (own s) (seat s)
   work_there s = alone_work (seat s) (own s)
+
+  pub kept_there : (s : S) → kept_at (view s) (seat s) ≡ kept_at (own s) (seat s)
+  kept_there s = alone_kept (seat s) (own s)
 
   -- another state's view, by the first one's seat
   pub view_at : (s t : S) → seat t ≡ seat s → view t ≡ alone (seat s) (own t)

@@ -25,9 +25,9 @@ use Rattle.erm_tree.specs.Operations.{Stutters, stuttered}
 use Rattle.erm_tree.specs.Reads.{IsMetIn, IsOnWay, IsSought}
 use Rattle.erm_tree.specs.Walk.{IsMetByNext, last_sought}
 use Rattle.erm_tree.proofs.Operations.{AreRunOne-called, Stutters-does, Stutters-saw}
-use Rattle.erm_world.specs.World.{Opening, Session, View, Work, phase_at, work_at, work_of}
+use Rattle.erm_world.specs.World.{Opening, Session, View, phase_at}
 use Rattle.erm_world.proofs.Txns.{MayStop}
-use Rattle.erm_maps.specs.Runs.{IsRunOf}
+use Rattle.erm_maps.specs.Runs.{IsRunOf, Kept, kept_at}
 use Rattle.erm_maps.proofs.Called.{called_runs, lawful_before}
 use Rattle.erm_good_report.specs.Phases.{IsAnswerTo}
 use Rattle.erm_lines.specs.Answers.{stop_told}
@@ -46,7 +46,7 @@ use Rattle.erm_beside.specs.Onward.{beside_then, onward_then}
 use Rattle.erm_beside.proofs.Given.{given_after}
 use Rattle.erm_beside.proofs.Txns.{Stopped, stopped_after}
 use Rattle.erm_lines_at_once.specs.Operations.{Beside, IsNamed, TriedOnce, WereCutBeside, told_at_once}
-use Rattle.erm_lines_at_once.proofs.Alone.{Alone, alone_own, did_alone, does_alone, given_along, runs_alone, saw_alone, stays_alone, view, view_at, work_there}
+use Rattle.erm_lines_at_once.proofs.Alone.{Alone, alone_kept, alone_own, alone_saves, did_alone, does_alone, given_along, kept_there, runs_alone, saw_alone, stays_alone, view, view_at}
 
 -- what a look for the record asks for, a del does too
 asks_del : (table key : ℕ) (events : List Event) (array : Rows) (asked : Asked) → AsksReads (IsOnWay table key) events array asked → AsksDel table key events array asked
@@ -88,7 +88,7 @@ module _ {S : Type 0} (law : Law) (own : S → View) (seat : S → ℕ) (stands 
       called_runs law alone_view seat stands any same (λ same_law u w list lawful was. AreRunOne-called alone_face same_law u w list lawful was) s t calls before run called
 
   -- a session in the middle of a transaction that is a run so far is ready for the next tree call
-  pub ready : (s : S) (before : List Step) → face.active s → IsRunOf (work_at (own s) (seat s)) before → IsReady face s
+  pub ready : (s : S) (before : List Step) → face.active s → IsRunOf (kept_at (own s) (seat s)) before → IsReady face s
   ready s before active run = record {
     active = active;
     possible = (sound s active.0).possible active.1;
@@ -108,6 +108,13 @@ module _ {S : Type 0} (law : Law) (own : S → View) (seat : S → ℕ) (stands 
   stop_there s t is =
       sym (ap (λ (x : View). x.session (seat s)) (view_at law own seat stands may one sound s t is) ∙ alone_own (seat s) (own t))
 
+  saves_there : (s t : S) → seat t ≡ seat s → (own t).saves (seat s) ≡ (alone_view t).saves (seat s)
+  saves_there s t is =
+      sym (ap (λ (x : View). x.saves (seat s)) (view_at law own seat stands may one sound s t is) ∙ alone_saves (seat s) (own t))
+
+  stop_kept : (s t : S) → seat t ≡ seat s → kept_at (alone_view t) (seat s) ≡ kept_at (own t) (seat s)
+  stop_kept s t is = ap (λ (x : View). kept_at x (seat s)) (view_at law own seat stands may one sound s t is) ∙ alone_kept (seat s) (own t)
+
   abbrev GaveNothing : S → S → Type 0
   GaveNothing s t = (own t).given_up (seat s) ≡ (own s).given_up (seat s)
 
@@ -119,8 +126,10 @@ module _ {S : Type 0} (law : Law) (own : S → View) (seat : S → ℕ) (stands 
     from = alone_view s;
     to = alone_view t;
     starts = alone_own (seat s) (own s);
+    starts_saves = alone_saves (seat s) (own s);
     did = did;
     stops = stop_there s t goes.2.seat_is;
+    stops_saves = saves_there s t goes.2.seat_is;
     opening = goes.3.opening;
     tail = goes.3.tail;
     flushed = goes.3.flushed;
@@ -159,10 +168,10 @@ module _ {S : Type 0} (law : Law) (own : S → View) (seat : S → ℕ) (stands 
       let was = del_ok law alone_view seat stands any same are_runs s t table key there in
       (tt, (was.did.0, was.did.1, beside (λ u w. DidCalls u (seat s) _ (WholeOf (command.Del table key) (answer.Replied reply.Done)) w) s t did.did.follows (given did.did.events s t did.did.goes_on.runs) was.did.2))
 
-  run_there : (s : S) (before : List Step) → IsRunOf (work_at (own s) (seat s)) before → IsRunOf (work_at (alone_view s) (seat s)) before
-  run_there s before run = subst (λ (w : Work). IsRunOf w before) (sym (work_there law own seat stands may one sound s)) run
+  run_there : (s : S) (before : List Step) → IsRunOf (kept_at (own s) (seat s)) before → IsRunOf (kept_at (alone_view s) (seat s)) before
+  run_there s before run = subst (λ (k : Kept). IsRunOf k before) (sym (kept_there law own seat stands may one sound s)) run
 
-  pub scanned : (f : View) (s t : S) (table low high : ℕ) (found : List (ℕ × List ℕ)) (told : Result (List (ℕ × List ℕ)) RowStop) (before : List Step) → IsRunOf (work_at (own s) (seat s)) before
+  pub scanned : (f : View) (s t : S) (table low high : ℕ) (found : List (ℕ × List ℕ)) (told : Result (List (ℕ × List ℕ)) RowStop) (before : List Step) → IsRunOf (kept_at (own s) (seat s)) before
       → told ≡ Ok found → IfOk told (Scanned face table low high s t) → TriedOnce f (seat s) (command.Scan table low high) (Some (answer.Replied (reply.Found found))) (own s) (own t)
   scanned f s t table low high found told before run is was =
       let did : SawIn face (IsMetByScan table low high) s t (λ array. AreFound (map_of_rows array) table low high found) = IfOk-at_ok (Scanned face table low high s t) is was in
@@ -241,12 +250,12 @@ module _ {S : Type 0} (law : Law) (own : S → View) (seat : S → ℕ) (stands 
           refused = subst (λ (q : ℕ). After q (RefusedBeside q stopped.asked why) (own stopped.at) (own t)) at_seat stopped.refused.stopped.1;
           met = subst (λ (q : ℕ). MetBeside f q stopped.asked why (own stopped.at) (own t)) at_seat (stopped.refused.stopped.2 f end);
           run = λ goes before run.
-              let first : IsRunOf (work_at (alone_view s) (seat s)) before = subst (λ (w : Work). IsRunOf w before) (sym (work_there law own seat stands may one sound s)) run in
-              let there : IsRunOf (work_at (alone_view t) (seat s)) (before ++ []) =
+              let first : IsRunOf (kept_at (alone_view s) (seat s)) before = run_there s before run in
+              let there : IsRunOf (kept_at (alone_view t) (seat s)) (before ++ []) =
               runs_on law alone_view seat stands any same are_runs s t (stuttered ∷ []) (t, stutters none goes, refl) (stopped.refused.follows.2.seat_is ∙ at_seat) before first in
-              let here : IsRunOf (work_at (own t) (seat s)) (before ++ []) =
-              subst (λ (x : Session). IsRunOf (work_of x.stand) (before ++ [])) (sym (stop_there s t (stopped.refused.follows.2.seat_is ∙ at_seat))) there in
-              subst (λ (steps : List Step). IsRunOf (work_at (own t) (seat s)) steps) (append-nil before) here;
+              let here : IsRunOf (kept_at (own t) (seat s)) (before ++ []) =
+              subst (λ (k : Kept). IsRunOf k (before ++ [])) (stop_kept s t (stopped.refused.follows.2.seat_is ∙ at_seat)) there in
+              subst (λ (steps : List Step). IsRunOf (kept_at (own t) (seat s)) steps) (append-nil before) here;
         }
 
   -- each operation, where it was cut off

@@ -15,7 +15,7 @@ use Rattle.erm_lines_at_once.specs.Ends.{IsEnd}
 use Rattle.erm_lines_at_once.specs.Executions.{IsOwnPart, IsOwnRun, IsRunAtOnce, all_moves}
 
 passes : (v : View) (seat : ℕ) → Passes seat v v
-passes v seat = record { own = refl; opening = refl; tail = omega arith; flushed = omega arith; given_up = refl }
+passes v seat = record { own = refl; opening = refl; tail = omega arith; flushed = omega arith; given_up = refl; saves = refl }
 
 module _ (v : View) (opened : IsOpened v) where
   none_over : (seat : ℕ) (one : Finished) → IsSession v seat → one ∈ (v.session seat).over → ⊥

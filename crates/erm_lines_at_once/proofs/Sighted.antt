@@ -10,7 +10,7 @@ use Rattle.erm_model.specs.declared.row_stop.RowStop.{RowStop}
 use Rattle.erm_model.specs.Database.{AreFound, IsNextAt, value_at}
 use Rattle.erm_model.specs.Rows.{Rows}
 use Rattle.erm_model.specs.RowTransaction.{Face, IsStopped, Law, SameLaw, StopsRead}
-use Rattle.erm_model.specs.Run.{IsReply}
+use Rattle.erm_model.specs.Run.{IsReplyOn}
 use Rattle.erm_node.specs.Sound.{sound_law}
 use Rattle.erm_node.specs.TreeMap.{map_of_rows}
 use Rattle.erm_report.specs.declared.answer.Answer.TheVariants as answer
@@ -44,7 +44,7 @@ module _ {S : Type 0} (law : Law) (own : S → View) (seat : S → ℕ) (stands 
   }
 
   looked : (objects : Rows → ℕ → Type 0) (s t : S) (fact : Rows → Type 0) (c : Command) (asked : Op) (r : Reply) → op_of c ≡ Some asked
-      → SawIn face objects s t fact → ((rows : Rows) → fact rows → IsReply (map_of_rows rows) asked r) → (f : View) → ends t f → DidLookBeside f (seat s) c r (own s) (own t)
+      → SawIn face objects s t fact → ((rows : Rows) → fact rows → IsReplyOn (map_of_rows rows) asked r) → (f : View) → ends t f → DidLookBeside f (seat s) c r (own s) (own t)
   looked objects s t fact c asked r is did replies f end = record {
     passes = did.saw.follows.3;
     op = asked;

@@ -15,7 +15,7 @@ use Rattle.erm_world.specs.Calls.{DidAbort, DidSeal}
 use Rattle.erm_world.specs.Safe.{IsSafeIn}
 use Rattle.erm_world.specs.World.{View, phase_at, work_at}
 use Rattle.erm_good_report.specs.Phases.{Closes, FitsPhase, IsAnswerTo, refusal_of}
-use Rattle.erm_lines.specs.Answers.{DidAskDurable}
+use Rattle.erm_lines.specs.Answers.{DidAskBack, DidAskDurable, DidAskSave}
 use Rattle.erm_beside.specs.Calls.{After, DidBeginBeside, DidSettleBeside, MayNotBeginBeside, Passes}
 use Rattle.erm_beside.specs.Safe.{DidBeginSafeBeside, DidSafeBeside, NotSafeBeside, NotSafeMet}
 use Rattle.erm_lines_at_once.specs.Looks.{DidLookBeside}
@@ -74,6 +74,8 @@ DidCommandBeside f seat (command.Del table key) a v t = DidOperationBeside f sea
 DidCommandBeside f seat (command.Next table from) a v t = DidOperationBeside f seat (command.Next table from) a v t
 DidCommandBeside f seat (command.Scan table low high) a v t = DidOperationBeside f seat (command.Scan table low high) a v t
 DidCommandBeside f seat (command.Tidy table key) a v t = DidOperationBeside f seat (command.Tidy table key) a v t
+DidCommandBeside f seat command.Save a v t = After seat (λ u w. DidAskSave u seat a w) v t
+DidCommandBeside f seat (command.Back n) a v t = After seat (λ u w. DidAskBack u seat n a w) v t
 DidCommandBeside f seat c a v t = ⊥
 
 -- the session has a snapshot, and its phase allowed the command, which was answered so

@@ -4,7 +4,7 @@ use Rattle.std.specs.Prelude.{◌≡◌, ℕ, Some}
 use Rattle.erm_model.specs.declared.operation.Op.{Op}
 use Rattle.erm_model.specs.declared.operation.Reply.{Reply}
 use Rattle.erm_model.specs.Rows.{Rows}
-use Rattle.erm_model.specs.Run.{IsReply}
+use Rattle.erm_model.specs.Run.{IsReplyOn}
 use Rattle.erm_node.specs.Sound.{IsSound}
 use Rattle.erm_node.specs.TreeMap.{map_of_rows}
 use Rattle.erm_script.specs.declared.script.Command.{Command}
@@ -18,4 +18,4 @@ pub record DidLookBeside (f : View) (seat : ℕ) (c : Command) (r : Reply) (v t 
   pub passes : Passes seat v t
   pub op : Op
   pub asked : op_of c ≡ Some op
-  pub reply : (rows : Rows) → IsSound rows → AreRowsBelow f (work_at v seat).begin rows → IsReply (map_of_rows rows) op r
+  pub reply : (rows : Rows) → IsSound rows → AreRowsBelow f (work_at v seat).begin rows → IsReplyOn (map_of_rows rows) op r

@@ -11,8 +11,8 @@ use Rattle.erm_node.specs.Sound.{IsSound, sound_law}
 use Rattle.erm_report.specs.declared.answer.Answer.{Answer}
 use Rattle.erm_report.specs.declared.answer.Answer.TheVariants as answer
 use Rattle.erm_script.specs.declared.script.Command.{Command}
-use Rattle.erm_world.specs.World.{View, work_at}
-use Rattle.erm_maps.specs.Runs.{IsRunOf}
+use Rattle.erm_world.specs.World.{View}
+use Rattle.erm_maps.specs.Runs.{IsRunOf, kept_at}
 use Rattle.erm_good_report.specs.Phases.{IsAnswerTo}
 use Rattle.erm_good_report.specs.Transactions.{op_of}
 use Rattle.erm_lines.specs.Answers.{stop_told}
@@ -20,14 +20,16 @@ use Rattle.erm_lines.specs.Operations.{AsksOf, DidCalls, FrontOf, Ran, WholeOf}
 use Rattle.erm_beside.specs.Calls.{After, Passes, RefusedBeside}
 use Rattle.erm_beside.specs.Ends.{MetBeside}
 
--- In some world in which the session stands as in the first view this was done, and the session stands as in the second: of the worlds only its
--- own part counts. The log may have come further meanwhile.
+-- In some world in which the session stands as in the first view, with its savepoints, this was done, and the session stands as in the second: of the
+-- worlds only its own part counts. The log may have come further meanwhile.
 pub record Beside (seat : ℕ) (Did : View → View → Type 0) (v t : View) : Type 0 where
   pub from : View
   pub to : View
   pub starts : from.session seat ≡ v.session seat
+  pub starts_saves : from.saves seat ≡ v.saves seat
   pub did : Did from to
   pub stops : t.session seat ≡ to.session seat
+  pub stops_saves : t.saves seat ≡ to.saves seat
   pub opening : t.opening ≡ v.opening
   pub tail : v.tail ≤ t.tail
   pub flushed : v.flushed ≤ t.flushed
@@ -46,7 +48,7 @@ pub record WereCutBeside (f : View) (seat : ℕ) (front : Rows → List Event �
   pub asks_so : (rows : Rows) → IsSound rows → Agrees sound_law events rows → asks events rows asked
   pub refused : After seat (RefusedBeside seat asked why) at t
   pub met : MetBeside f seat asked why at t
-  pub run : ends why ≡ false → (before : List Step) → IsRunOf (work_at v seat) before → IsRunOf (work_at t seat) before
+  pub run : ends why ≡ false → (before : List Step) → IsRunOf (kept_at v seat) before → IsRunOf (kept_at t seat) before
 
 -- what a refusal is answered as, where lines run at once: a wait is none, since the line is tried again
 abbrev pub told_at_once : RowStop → Option Answer

@@ -4,9 +4,9 @@ ghost use Rattle.erm_model.specs.declared.outcome.Phase.TheVariants.{Active, Idl
 ghost use Rattle.erm_model.specs.RowTransaction.{SameLaw};
 ghost use Rattle.erm_model.specs.Run.{Step};
 ghost use Rattle.erm_node.specs.Sound.{sound_law};
-ghost use Rattle.erm_maps.specs.Runs.{IsRunOf};
+ghost use Rattle.erm_maps.specs.Runs.{IsRunOf, kept_at};
 ghost use Rattle.erm_good_report.specs.Phases.{Closes};
-ghost use Rattle.erm_world.specs.World.{View, phase_at, work_at};
+ghost use Rattle.erm_world.specs.World.{View, phase_at};
 ghost use Rattle.erm_lines.specs.Answers.{IsReceiptOf, KeepsReceipt};
 ghost use Rattle.erm_beside.specs.Calls.{After, NotSettledBeside};
 ghost use Rattle.erm_beside.specs.Laws.{GoesOnward};
@@ -40,7 +40,7 @@ pub fn seal<S: SharedSession>(session: &mut S, shared: &S::Shared) -> Answer
     requires law { SameLaw S.law sound_law }
     requires stands { S.stands shared.now session.old }
     requires active { phase_at (S.own session.old) (S.seat session.old) ≡ Active }
-    requires ran { (steps : List Step) × IsRunOf (work_at (S.own session.old) (S.seat session.old)) steps }
+    requires ran { (steps : List Step) × IsRunOf (kept_at (S.own session.old) (S.seat session.old)) steps }
     ensures stands { S.stands shared.now session.new }
     ensures onward { GoesOnward (S.seat session.old) (S.seat session.new) (S.ends session.old) (S.ends session.new) }
     ensures answered { (f : View) → WasAnsweredBeside f (S.seat session.old) Command.Seal result (S.own session.old) (S.own session.new) }

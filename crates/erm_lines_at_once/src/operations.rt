@@ -4,8 +4,8 @@ ghost use Rattle.erm_model.specs.declared.limits.TheConstants.{OID_LIMIT};
 ghost use Rattle.erm_model.specs.RowTransaction.{Does, IsRefused, SameLaw, StopsClaim, asked_claim, did_claim};
 ghost use Rattle.erm_model.specs.Run.{Step};
 ghost use Rattle.erm_node.specs.Sound.{sound_law};
-ghost use Rattle.erm_maps.specs.Runs.{IsRunOf};
-ghost use Rattle.erm_world.specs.World.{View, work_at};
+ghost use Rattle.erm_maps.specs.Runs.{IsRunOf, kept_at};
+ghost use Rattle.erm_world.specs.World.{View};
 ghost use Rattle.erm_lines_at_once.specs.Operations.{IsNamed, TriedOnce, told_at_once};
 
 use erm_beside::{SharedSession, SharedTxn};
@@ -41,7 +41,7 @@ pub fn get<'a, S: SharedSession>(
 ) -> Result<Option<Answer>, AllocError>
     requires law { SameLaw S.law sound_law }
     requires active { ⟦<SharedTxn<'a, S> as RowRead>⟧.face.active txn.old }
-    requires ran { (steps : List Step) × IsRunOf (work_at (S.own txn.old.session.now) (S.seat txn.old.session.now)) steps }
+    requires ran { (steps : List Step) × IsRunOf (kept_at (S.own txn.old.session.now) (S.seat txn.old.session.now)) steps }
     requires table { table < TABLES }
     ensures follows { ⟦<SharedTxn<'a, S> as RowRead>⟧.face.follows txn.old txn.new }
     ensures tried { IfOk result (λ tried. (f : View) → S.ends txn.new.session.now f → TriedOnce f (S.seat txn.old.session.now) (Command.Get table key) tried (S.own txn.old.session.now) (S.own txn.new.session.now)) }
@@ -61,7 +61,7 @@ pub fn put<'a, S: SharedSession>(
 ) -> Result<Option<Answer>, AllocError>
     requires law { SameLaw S.law sound_law }
     requires active { ⟦<SharedTxn<'a, S> as RowRead>⟧.face.active txn.old }
-    requires ran { (steps : List Step) × IsRunOf (work_at (S.own txn.old.session.now) (S.seat txn.old.session.now)) steps }
+    requires ran { (steps : List Step) × IsRunOf (kept_at (S.own txn.old.session.now) (S.seat txn.old.session.now)) steps }
     requires table { table < TABLES }
     ensures follows { ⟦<SharedTxn<'a, S> as RowRead>⟧.face.follows txn.old txn.new }
     ensures tried { IfOk result (λ tried. (f : View) → S.ends txn.new.session.now f → TriedOnce f (S.seat txn.old.session.now) (Command.Put table key value.now) tried (S.own txn.old.session.now) (S.own txn.new.session.now)) }
@@ -80,7 +80,7 @@ pub fn del<'a, S: SharedSession>(
 ) -> Result<Option<Answer>, AllocError>
     requires law { SameLaw S.law sound_law }
     requires active { ⟦<SharedTxn<'a, S> as RowRead>⟧.face.active txn.old }
-    requires ran { (steps : List Step) × IsRunOf (work_at (S.own txn.old.session.now) (S.seat txn.old.session.now)) steps }
+    requires ran { (steps : List Step) × IsRunOf (kept_at (S.own txn.old.session.now) (S.seat txn.old.session.now)) steps }
     requires table { table < TABLES }
     ensures follows { ⟦<SharedTxn<'a, S> as RowRead>⟧.face.follows txn.old txn.new }
     ensures tried { IfOk result (λ tried. (f : View) → S.ends txn.new.session.now f → TriedOnce f (S.seat txn.old.session.now) (Command.Del table key) tried (S.own txn.old.session.now) (S.own txn.new.session.now)) }
@@ -99,7 +99,7 @@ pub fn next<'a, S: SharedSession>(
 ) -> Result<Option<Answer>, AllocError>
     requires law { SameLaw S.law sound_law }
     requires active { ⟦<SharedTxn<'a, S> as RowRead>⟧.face.active txn.old }
-    requires ran { (steps : List Step) × IsRunOf (work_at (S.own txn.old.session.now) (S.seat txn.old.session.now)) steps }
+    requires ran { (steps : List Step) × IsRunOf (kept_at (S.own txn.old.session.now) (S.seat txn.old.session.now)) steps }
     requires table { table < TABLES }
     ensures follows { ⟦<SharedTxn<'a, S> as RowRead>⟧.face.follows txn.old txn.new }
     ensures tried { IfOk result (λ tried. (f : View) → S.ends txn.new.session.now f → TriedOnce f (S.seat txn.old.session.now) (Command.Next table from) tried (S.own txn.old.session.now) (S.own txn.new.session.now)) }
@@ -120,7 +120,7 @@ pub fn scan<'a, S: SharedSession>(
 ) -> Result<Option<Answer>, AllocError>
     requires law { SameLaw S.law sound_law }
     requires active { ⟦<SharedTxn<'a, S> as RowRead>⟧.face.active txn.old }
-    requires ran { (steps : List Step) × IsRunOf (work_at (S.own txn.old.session.now) (S.seat txn.old.session.now)) steps }
+    requires ran { (steps : List Step) × IsRunOf (kept_at (S.own txn.old.session.now) (S.seat txn.old.session.now)) steps }
     requires table { table < TABLES }
     ensures follows { ⟦<SharedTxn<'a, S> as RowRead>⟧.face.follows txn.old txn.new }
     ensures tried { IfOk result (λ tried. (f : View) → S.ends txn.new.session.now f → TriedOnce f (S.seat txn.old.session.now) (Command.Scan table low high) tried (S.own txn.old.session.now) (S.own txn.new.session.now)) }
@@ -150,7 +150,7 @@ pub fn tidy<'a, S: SharedSession>(
 ) -> Result<Option<Answer>, AllocError>
     requires law { SameLaw S.law sound_law }
     requires active { ⟦<SharedTxn<'a, S> as RowRead>⟧.face.active txn.old }
-    requires ran { (steps : List Step) × IsRunOf (work_at (S.own txn.old.session.now) (S.seat txn.old.session.now)) steps }
+    requires ran { (steps : List Step) × IsRunOf (kept_at (S.own txn.old.session.now) (S.seat txn.old.session.now)) steps }
     requires table { table < TABLES }
     ensures follows { ⟦<SharedTxn<'a, S> as RowRead>⟧.face.follows txn.old txn.new }
     ensures tried { IfOk result (λ tried. (f : View) → S.ends txn.new.session.now f → TriedOnce f (S.seat txn.old.session.now) (Command.Tidy table key) tried (S.own txn.old.session.now) (S.own txn.new.session.now)) }

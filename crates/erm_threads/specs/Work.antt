@@ -16,7 +16,7 @@ use Rattle.erm_threads.specs.declared.job.Job.{Job}
 pub record MayWork (seat : ℕ) (v : View) (lines : List ScriptLine) : Type 0 where
   pub own : (l : ScriptLine) → l ∈ lines → l.session ≡ seat
   pub may : (l : ScriptLine) → l ∈ lines → MayBeAsked l.command
-  pub ready : IsReady (v.session seat) None
+  pub ready : IsReady v seat None
 
 -- behind its last line an idle session stood, and another was closed, or is sealed and waits
 abbrev pub WasEnded : Phase → ℕ → Option Answer → View → View → Type 0

@@ -64,6 +64,8 @@ fn copied_command(command: &Command) -> Command
             key: *key,
         },
         Command::Safe => Command::Safe,
+        Command::Save => Command::Save,
+        Command::Back { n } => Command::Back { n: *n },
         Command::Seal => Command::Seal,
         Command::Settle => Command::Settle,
         Command::Commit => Command::Commit,

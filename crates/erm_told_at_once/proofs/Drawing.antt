@@ -230,7 +230,19 @@ called_grew : (seat : ℕ) (steps : List Step) (kind : Rows → List Event → T
     → Beside seat (λ u w. DidCalls u seat steps kind w) v t → Grew seat v t
 called_grew seat steps kind v t active beside =
     let before : Reached seat v t = reached seat beside.did.events v t active
-    (record { from = beside.from; to = beside.to; starts = beside.starts; did = beside.did.ran; stops = beside.stops; opening = beside.opening; tail = beside.tail; flushed = beside.flushed; given_up = beside.given_up }) in
+    (record {
+      from = beside.from;
+      to = beside.to;
+      starts = beside.starts;
+      starts_saves = beside.starts_saves;
+      did = beside.did.ran;
+      stops = beside.stops;
+      stops_saves = beside.stops_saves;
+      opening = beside.opening;
+      tail = beside.tail;
+      flushed = beside.flushed;
+      given_up = beside.given_up;
+    }) in
     (before.grows, before.onward.tail)
 
 module _ (f : View) (seat : ℕ) (c : Command) (v t : View) (active : phase_at v seat ≡ Active) where

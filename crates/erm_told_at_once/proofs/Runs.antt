@@ -90,7 +90,7 @@ own_goes_then seat v u t first second = record {
 
 -- nothing happened
 pub passes_itself : (seat : ℕ) (v : View) → Passes seat v v
-passes_itself seat v = record { own = refl; opening = refl; tail = omega arith; flushed = omega arith; given_up = refl }
+passes_itself seat v = record { own = refl; opening = refl; tail = omega arith; flushed = omega arith; given_up = refl; saves = refl }
 
 -- moves in two parts
 pub own_split : (f : View) (seat : ℕ) (xs ys : List Move) (v t : View) → IsOwnRun f seat v (xs ++ ys) t → (u : View) × IsOwnRun f seat v xs u × IsOwnRun f seat u ys t

@@ -43,6 +43,8 @@ names_table (command.Scan table low high) named f seat a v t fits did = record {
 names_table (command.Tidy table key) named f seat a v t fits did = record { fits = fits; did = did }
 names_table command.Begin named f seat a v t fits did = absurd (unnamed None refl named)
 names_table command.Safe named f seat a v t fits did = absurd (unnamed None refl named)
+names_table command.Save named f seat a v t fits did = absurd (unnamed None refl named)
+names_table (command.Back n) named f seat a v t fits did = absurd (unnamed None refl named)
 names_table command.Seal named f seat a v t fits did = absurd (unnamed None refl named)
 names_table command.Settle named f seat a v t fits did = absurd (unnamed None refl named)
 names_table command.Commit named f seat a v t fits did = absurd (unnamed None refl named)
@@ -102,20 +104,22 @@ pub record Operates (c : Command) (phase : Phase) : Type 0 where
   pub active : phase ≡ Active
   pub named : IsSome (table_of c)
 
-pub operates : (c : Command) (phase : Phase) → IsOfSession c → HasNoSnapshot phase → refusal_of phase c ≡ None → c ≢ command.Begin → c ≢ command.Safe → c ≢ command.Seal → c ≢ command.Settle → c ≢ command.Commit
+pub operates : (c : Command) (phase : Phase) → IsOfSession c → HasNoSnapshot phase → refusal_of phase c ≡ None → c ≢ command.Begin → c ≢ command.Safe → c ≢ command.Save → ((n : ℕ) → c ≢ command.Back n) → c ≢ command.Seal → c ≢ command.Settle → c ≢ command.Commit
     → c ≢ command.Abort → c ≢ command.Durable → Operates c phase
-operates (command.Get table key) phase of plain is begin safe seal settle commit abort durable = record { active = active_where NeedsReader phase tt plain is; named = refl }
-operates (command.Put table key value) phase of plain is begin safe seal settle commit abort durable = record { active = active_where NeedsWriter phase tt plain is; named = refl }
-operates (command.Del table key) phase of plain is begin safe seal settle commit abort durable = record { active = active_where NeedsWriter phase tt plain is; named = refl }
-operates (command.Next table from) phase of plain is begin safe seal settle commit abort durable = record { active = active_where NeedsReader phase tt plain is; named = refl }
-operates (command.Scan table low high) phase of plain is begin safe seal settle commit abort durable = record { active = active_where NeedsReader phase tt plain is; named = refl }
-operates (command.Tidy table key) phase of plain is begin safe seal settle commit abort durable = record { active = active_where NeedsWriter phase tt plain is; named = refl }
-operates command.Begin phase of plain is begin safe seal settle commit abort durable = absurd (begin refl)
-operates command.Safe phase of plain is begin safe seal settle commit abort durable = absurd (safe refl)
-operates command.Seal phase of plain is begin safe seal settle commit abort durable = absurd (seal refl)
-operates command.Settle phase of plain is begin safe seal settle commit abort durable = absurd (settle refl)
-operates command.Commit phase of plain is begin safe seal settle commit abort durable = absurd (commit refl)
-operates command.Abort phase of plain is begin safe seal settle commit abort durable = absurd (abort refl)
-operates command.Durable phase of plain is begin safe seal settle commit abort durable = absurd (durable refl)
-operates command.Flush phase of plain is begin safe seal settle commit abort durable = absurd of
-operates command.Checkpoint phase of plain is begin safe seal settle commit abort durable = absurd of
+operates (command.Get table key) phase of plain is begin safe save back seal settle commit abort durable = record { active = active_where NeedsReader phase tt plain is; named = refl }
+operates (command.Put table key value) phase of plain is begin safe save back seal settle commit abort durable = record { active = active_where NeedsWriter phase tt plain is; named = refl }
+operates (command.Del table key) phase of plain is begin safe save back seal settle commit abort durable = record { active = active_where NeedsWriter phase tt plain is; named = refl }
+operates (command.Next table from) phase of plain is begin safe save back seal settle commit abort durable = record { active = active_where NeedsReader phase tt plain is; named = refl }
+operates (command.Scan table low high) phase of plain is begin safe save back seal settle commit abort durable = record { active = active_where NeedsReader phase tt plain is; named = refl }
+operates (command.Tidy table key) phase of plain is begin safe save back seal settle commit abort durable = record { active = active_where NeedsWriter phase tt plain is; named = refl }
+operates command.Begin phase of plain is begin safe save back seal settle commit abort durable = absurd (begin refl)
+operates command.Safe phase of plain is begin safe save back seal settle commit abort durable = absurd (safe refl)
+operates command.Save phase of plain is begin safe save back seal settle commit abort durable = absurd (save refl)
+operates (command.Back n) phase of plain is begin safe save back seal settle commit abort durable = absurd (back n refl)
+operates command.Seal phase of plain is begin safe save back seal settle commit abort durable = absurd (seal refl)
+operates command.Settle phase of plain is begin safe save back seal settle commit abort durable = absurd (settle refl)
+operates command.Commit phase of plain is begin safe save back seal settle commit abort durable = absurd (commit refl)
+operates command.Abort phase of plain is begin safe save back seal settle commit abort durable = absurd (abort refl)
+operates command.Durable phase of plain is begin safe save back seal settle commit abort durable = absurd (durable refl)
+operates command.Flush phase of plain is begin safe save back seal settle commit abort durable = absurd of
+operates command.Checkpoint phase of plain is begin safe save back seal settle commit abort durable = absurd of

@@ -1,5 +1,6 @@
 -- A session's transaction in progress stays the run of some operations, and its receipt that of its last commit, whatever a line does.
 use Rattle.std.proofs.Common.{◌≡◌, ℕ, true, false, Bool, List, [], ◌∷◌, ◌++◌, Option, Some, None, Result, Ok, Err, IfOk, OnOk, refl, sym, ap, ◌∙◌, subst}
+use Rattle.erm_model.specs.declared.history.VersionWritten.{VersionWritten}
 use Rattle.erm_model.specs.declared.outcome.Phase.TheVariants.{Active}
 use Rattle.erm_model.specs.declared.outcome.Receipt.{Receipt}
 use Rattle.erm_model.specs.declared.row_stop.RowStop.{RowStop}
@@ -15,59 +16,75 @@ use Rattle.erm_world.specs.Face as face
 use Rattle.erm_world.specs.Snapshots.{snapshot_not_active}
 use Rattle.erm_world.specs.World.{Fate, Finished, Session, Snapshot, Stand, View, Work, begun, phase_at, phase_of, work_at, work_of}
 use Rattle.erm_world.specs.World as world
-use Rattle.erm_maps.specs.Runs.{IsRunOf}
+use Rattle.erm_maps.specs.Runs.{IsRunOf, Kept, kept_at}
 use Rattle.erm_lines.specs.Answers.{IsReceiptOf}
 use Rattle.erm_lines.specs.Operations.{AsksOf, FrontOf}
 use Rattle.erm_lines.proofs.Receipts.{one_more}
+use Rattle.erm_lines.proofs.Saved.{IsRunAt, kept_is, saved, saved_runs, went_back, went_back_runs}
+use Rattle.erm_beside.specs.Calls.{Passes}
 use Rattle.erm_beside.proofs.Txns.{stopped_after}
 use Rattle.erm_lines_at_once.specs.Answers.{DidAskSafeBeside, DidAskSnapshotBeside, DidCommandBeside, DidDecideBeside, DidOfSnapshotBeside}
 use Rattle.erm_lines_at_once.specs.Operations.{TriedOnce, WereCutBeside}
 use Rattle.erm_worker.specs.Work.{IsReady, IsRunNow}
 use Rattle.erm_worker.proofs.Waits.{ran_active}
 
--- RUNS. Sessions that are idle, or sealed, have none in progress.
-idle_runs : (s : Session) → s.stand ≡ world.idle → IsRunNow s
-idle_runs s is active = let at = ap phase_of is in cc
+-- RUNS. Where a session stands otherwise, none is active.
+rests : (v : View) (seat : ℕ) (stand : Stand) → (v.session seat).stand ≡ stand → (phase_of stand ≡ Active → ⊥) → IsRunNow v seat
+rests v seat stand is none active = absurd (none (sym (ap phase_of is) ∙ active))
 
-sealed_runs : (s : Session) (w : Work) (stamp : ℕ) → s.stand ≡ world.sealed w stamp → IsRunNow s
-sealed_runs s w stamp is active = let at = ap phase_of is in cc
+idle_runs : (v : View) (seat : ℕ) → (v.session seat).stand ≡ world.idle → IsRunNow v seat
+idle_runs v seat is = rests v seat world.idle is (λ active. cc)
 
-done_runs : (v t : View) (seat : ℕ) (w : Work) (fate : Fate) → IsDone v seat w fate t → IsRunNow (t.session seat)
-done_runs v t seat w fate did = idle_runs (t.session seat) (ap (λ (s : Session). s.stand) did.own)
+sealed_runs : (v : View) (seat : ℕ) (w : Work) (stamp : ℕ) → (v.session seat).stand ≡ world.sealed w stamp → IsRunNow v seat
+sealed_runs v seat w stamp is = rests v seat (world.sealed w stamp) is (λ active. cc)
 
-pub decided_runs : (seat : ℕ) (a : Answer) (v t : View) → DidDecideBeside seat a v t → IsRunNow (t.session seat)
+done_runs : (v t : View) (seat : ℕ) (w : Work) (fate : Fate) → IsDone v seat w fate t → IsRunNow t seat
+done_runs v t seat w fate did = idle_runs t seat (ap (λ (s : Session). s.stand) did.own)
+
+pub decided_runs : (seat : ℕ) (a : Answer) (v t : View) → DidDecideBeside seat a v t → IsRunNow t seat
 decided_runs seat (answer.Committed stamp succ pred) v t (r, stamp_is, succ_is, pred_is, (u, passes, (w, at, stand, did))) = done_runs u t seat w _ did.0
 decided_runs seat (answer.Excluded stamp succ pred) v t (u, passes, (w, at, stand, did)) = done_runs u t seat w _ did.0
 decided_runs seat a v t did = absurd did
 
 -- OPERATIONS.
-abbrev pub IsRunAt : View → ℕ → Type 0
-IsRunAt v seat = (steps : List Step) × IsRunOf (work_at v seat) steps
+-- where session and savepoints are the same, so is the transaction
+kept_still : (v u : View) (seat : ℕ) → u.session seat ≡ v.session seat → u.saves seat ≡ v.saves seat → kept_at u seat ≡ kept_at v seat
+kept_still v u seat session saves = kept_is (work_at u seat) (work_at v seat) (u.saves seat) (v.saves seat) (ap (λ (s : Session). work_of s.stand) session) saves
 
-same_run : (v u : View) (seat : ℕ) → u.session seat ≡ v.session seat → IsRunAt v seat → IsRunAt u seat
-same_run v u seat is run = subst (λ (s : Session). (steps : List Step) × IsRunOf (work_of s.stand) steps) (sym is) run
+same_run : (v u : View) (seat : ℕ) → u.session seat ≡ v.session seat → u.saves seat ≡ v.saves seat → IsRunAt v seat → IsRunAt u seat
+same_run v u seat session saves run = (run.0, subst (λ (k : Kept). IsRunOf k run.0) (sym (kept_still v u seat session saves)) run.1)
+
+same_runs : (v u : View) (seat : ℕ) → u.session seat ≡ v.session seat → u.saves seat ≡ v.saves seat → IsRunNow v seat → IsRunNow u seat
+same_runs v u seat session saves run active = same_run v u seat session saves (run (sym (ap (λ (s : Session). phase_of s.stand) session) ∙ active))
 
 module _ (f : View) (seat : ℕ) (c : Command) where
-  stopped_runs : (why : RowStop) (v t : View) (b : Bool) → ends why ≡ b → phase_at v seat ≡ Active → IsRunAt v seat → WereCutBeside f seat (FrontOf c) (AsksOf c) why v t → IsRunNow (t.session seat)
+  stopped_runs : (why : RowStop) (v t : View) (b : Bool) → ends why ≡ b → phase_at v seat ≡ Active → IsRunAt v seat → WereCutBeside f seat (FrontOf c) (AsksOf c) why v t → IsRunNow t seat
   stopped_runs why v t false is active run cut = λ now. (run.0, cut.run is run.0 run.1)
   stopped_runs why v t true is active run cut =
       let first : phase_at cut.ran.from seat ≡ Active = ap (λ (s : Session). phase_of s.stand) cut.ran.starts ∙ active in
       let last : phase_at cut.at seat ≡ Active = ap (λ (s : Session). phase_of s.stand) cut.ran.stops ∙ ran_active cut.events cut.ran.from cut.ran.to seat first cut.ran.did in
-      idle_runs (t.session seat) ((stopped_after seat cut.asked why cut.at t last cut.refused).ended is)
+      idle_runs t seat ((stopped_after seat cut.asked why cut.at t last cut.refused).ended is)
 
-  pub tried_runs : (tried : Option Answer) (v t : View) → phase_at v seat ≡ Active → IsRunAt v seat → TriedOnce f seat c tried v t → IsRunNow (t.session seat)
+  pub tried_runs : (tried : Option Answer) (v t : View) → phase_at v seat ≡ Active → IsRunAt v seat → TriedOnce f seat c tried v t → IsRunNow t seat
   tried_runs None v t active run (other, seen, cut) = λ now. (run.0, cut.run refl run.0 run.1)
   tried_runs (Some (answer.Replied r)) v t active run (fits, (op, is, beside)) =
-      let first = same_run v beside.from seat beside.starts run in
-      λ now. same_run beside.to t seat beside.stops (first.0 ++ record { op = op; reply = r } ∷ [], beside.did.run first.0 first.1)
+      let first = same_run v beside.from seat beside.starts beside.starts_saves run in
+      λ now. same_run beside.to t seat beside.stops beside.stops_saves (first.0 ++ record { op = op; reply = r } ∷ [], beside.did.run first.0 first.1)
   tried_runs (Some (answer.Cut cells)) v t active run (fits, (is, few, beside)) =
-      let first = same_run v beside.from seat beside.starts run in
-      λ now. same_run beside.to t seat beside.stops (first.0 ++ [], beside.did.run first.0 first.1)
+      let first = same_run v beside.from seat beside.starts beside.starts_saves run in
+      λ now. same_run beside.to t seat beside.stops beside.stops_saves (first.0 ++ [], beside.did.run first.0 first.1)
   tried_runs (Some a) v t active run (fits, (why, told, cut)) = stopped_runs why v t (ends why) refl active run cut
 
 -- READY. Nothing happened to the session; its transaction went on, or was aborted; it began one, sealed it or gave it up.
-pub same_ready : (s t : Session) (r : Option Receipt) → t ≡ s → IsReady s r → IsReady t r
-same_ready s t r is ready = subst (λ (x : Session). IsReady x r) (sym is) ready
+pub same_ready : (v t : View) (seat : ℕ) (r : Option Receipt) → t.session seat ≡ v.session seat → t.saves seat ≡ v.saves seat → IsReady v seat r → IsReady t seat r
+same_ready v t seat r session saves ready = record {
+  run = same_runs v t seat session saves ready.run;
+  receipt = subst (λ (s : Session). IsReceiptOf s.over r) (sym session) ready.receipt;
+}
+
+-- others went on, and then it was as it was
+still_ready : (v u t : View) (seat : ℕ) (r : Option Receipt) → Passes seat v u → t ≡ u → IsReady v seat r → IsReady t seat r
+still_ready v u t seat r passes is ready = subst (λ (x : View). IsReady x seat r) (sym is) (same_ready v u seat r passes.own passes.saves ready)
 
 over_receipt : (s t : Session) (r : Option Receipt) → t.over ≡ s.over → IsReceiptOf s.over r → IsReceiptOf t.over r
 over_receipt s t r is receipt = subst (λ (fs : List Finished). IsReceiptOf fs r) (sym is) receipt
@@ -80,27 +97,43 @@ grown_receipt s t r (face.same is) receipt = over_receipt s t r (ap (λ (x : Ses
 grown_receipt s t r (face.works w u begins over stands more) receipt = over_receipt s t r over receipt
 grown_receipt s t r (face.ends w u begins over stands more) receipt = more_receipt s t r u over receipt
 
-begun_runs : ((number begin : ℕ) → IsRunOf (begun number begin) []) → (s : Session) (number begin : ℕ) → s.stand ≡ world.active (begun number begin) → IsRunNow s
-begun_runs none s number begin is active = ([], subst (λ (w : Work). IsRunOf w []) (sym (ap work_of is)) (none number begin))
+abbrev pub NoneRuns : Type 0
+NoneRuns = (number begin : ℕ) → IsRunOf (record { work = begun number begin; saves = [] }) []
 
-module _ (none : (number begin : ℕ) → IsRunOf (begun number begin) []) (f : View) (seat : ℕ) (v t : View) (r : Option Receipt) (ready : IsReady (v.session seat) r) where
-  pub begun_ready : (a : Answer) → DidCommandBeside f seat command.Begin a v t → IsReady (t.session seat) r
+begun_runs : NoneRuns → (v : View) (seat number begin : ℕ) → (v.session seat).stand ≡ world.active (begun number begin) → v.saves seat ≡ [] → IsRunNow v seat
+begun_runs none v seat number begin is saves active =
+    ([], subst (λ (k : Kept). IsRunOf k []) (sym (kept_is (work_at v seat) (begun number begin) (v.saves seat) [] (ap work_of is) saves)) (none number begin))
+
+module _ (none : NoneRuns) (f : View) (seat : ℕ) (v t : View) (r : Option Receipt) (ready : IsReady v seat r) where
+  pub begun_ready : (a : Answer) → DidCommandBeside f seat command.Begin a v t → IsReady t seat r
   begun_ready (answer.Began stamp) (u, passes, did) = record {
-    run = begun_runs none (t.session seat) _ stamp (ap (λ (s : Session). s.stand) did.2.own);
+    run = begun_runs none t seat _ stamp (ap (λ (s : Session). s.stand) did.2.own) did.3;
     receipt = over_receipt (v.session seat) (t.session seat) r (ap (λ (s : Session). s.over) did.2.own ∙ ap (λ (s : Session). s.over) passes.own) ready.receipt;
   }
-  begun_ready (answer.LogEnd tail) (u, passes, did) = same_ready (v.session seat) (t.session seat) r (ap (λ (x : View). x.session seat) did.0 ∙ passes.own) ready
-  begun_ready answer.NumbersEnd (u, passes, did) = same_ready (v.session seat) (t.session seat) r (ap (λ (x : View). x.session seat) did.0 ∙ passes.own) ready
+  begun_ready (answer.LogEnd tail) (u, passes, did) = still_ready v u t seat r passes did.0 ready
+  begun_ready answer.NumbersEnd (u, passes, did) = still_ready v u t seat r passes did.0 ready
   begun_ready a did = absurd did
 
-  pub sealed_ready : (a : Answer) → DidCommandBeside f seat command.Seal a v t → IsReady (t.session seat) r
+  pub saved_ready : (a : Answer) → phase_at v seat ≡ Active → DidCommandBeside f seat command.Save a v t → IsReady t seat r
+  saved_ready a active (u, passes, did) = record {
+    run = λ now. saved_runs u t seat a (same_run v u seat passes.own passes.saves (ready.run active)) did;
+    receipt = over_receipt (v.session seat) (t.session seat) r ((saved u t seat a did).over ∙ ap (λ (s : Session). s.over) passes.own) ready.receipt;
+  }
+
+  pub back_ready : (n : ℕ) (a : Answer) → phase_at v seat ≡ Active → DidCommandBeside f seat (command.Back n) a v t → IsReady t seat r
+  back_ready n a active (u, passes, did) = record {
+    run = λ now. went_back_runs u t seat n a (same_run v u seat passes.own passes.saves (ready.run active)) did;
+    receipt = over_receipt (v.session seat) (t.session seat) r ((went_back u t seat n a did).over ∙ ap (λ (s : Session). s.over) passes.own) ready.receipt;
+  }
+
+  pub sealed_ready : (a : Answer) → DidCommandBeside f seat command.Seal a v t → IsReady t seat r
   sealed_ready (answer.Sealed stamp) (u, passes, did) = record {
-    run = sealed_runs (t.session seat) (work_at u seat) stamp (ap (λ (s : Session). s.stand) did.own);
+    run = sealed_runs t seat (work_at u seat) stamp (ap (λ (s : Session). s.stand) did.own);
     receipt = over_receipt (v.session seat) (t.session seat) r (ap (λ (s : Session). s.over) did.own ∙ ap (λ (s : Session). s.over) passes.own) ready.receipt;
   }
   sealed_ready a did = absurd did
 
-  pub aborted_ready : (a : Answer) → DidCommandBeside f seat command.Abort a v t → IsReady (t.session seat) r
+  pub aborted_ready : (a : Answer) → DidCommandBeside f seat command.Abort a v t → IsReady t seat r
   aborted_ready answer.Aborted (u, passes, did) = record {
     run = done_runs u t seat (work_at u seat) world.aborts did;
     receipt = more_receipt (v.session seat) (t.session seat) r (work_at u seat)
@@ -109,41 +142,41 @@ module _ (none : (number begin : ℕ) → IsRunOf (begun number begin) []) (f : 
   aborted_ready a did = absurd did
 
 -- SNAPSHOTS. No transaction is in progress beside one.
-snapshot_runs : (s : Session) (x : Snapshot) → s.stand ≡ world.snapshot x → IsRunNow s
-snapshot_runs s x is active = absurd (snapshot_not_active x (subst (λ (at : Stand). phase_of at ≡ Active) is active))
+snapshot_runs : (v : View) (seat : ℕ) (x : Snapshot) → (v.session seat).stand ≡ world.snapshot x → IsRunNow v seat
+snapshot_runs v seat x is = rests v seat (world.snapshot x) is (λ active. snapshot_not_active x active)
 
-ended_ready : (seat : ℕ) (v u t : View) (r : Option Receipt) (w : Work) → u.session seat ≡ v.session seat → IsDone u seat w world.aborts t → IsReceiptOf (v.session seat).over r → IsReady (t.session seat) r
+ended_ready : (seat : ℕ) (v u t : View) (r : Option Receipt) (w : Work) → u.session seat ≡ v.session seat → IsDone u seat w world.aborts t → IsReceiptOf (v.session seat).over r → IsReady t seat r
 ended_ready seat v u t r w same did receipt = record {
   run = done_runs u t seat w world.aborts did;
   receipt = more_receipt (v.session seat) (t.session seat) r w
       (ap (λ (s : Session). s.over) did.own ∙ ap (λ (s : Session). s.over ++ record { work = w; fate = world.aborts } ∷ []) same) receipt;
 }
 
-asked_ready : (f : View) (seat : ℕ) (a : Answer) (v t : View) (r : Option Receipt) → IsReceiptOf (v.session seat).over r → DidAskSafeBeside f seat a v t → IsReady (t.session seat) r
+asked_ready : (f : View) (seat : ℕ) (a : Answer) (v t : View) (r : Option Receipt) → IsReceiptOf (v.session seat).over r → DidAskSafeBeside f seat a v t → IsReady t seat r
 asked_ready f seat (answer.Safe stamp) v t r receipt ((u, passes, (x, stand, now)), is, so) = record {
-  run = snapshot_runs (t.session seat) (record x { is_safe = true }) (ap (λ (s : Session). s.stand) now.own);
+  run = snapshot_runs t seat (record x { is_safe = true }) (ap (λ (s : Session). s.stand) now.own);
   receipt = over_receipt (v.session seat) (t.session seat) r (ap (λ (s : Session). s.over) now.own ∙ ap (λ (s : Session). s.over) passes.own) receipt;
 }
 asked_ready f seat (answer.Unsafe other stamp) v t r receipt ((u, passes, done), met) = ended_ready seat v u t r (work_at u seat) passes.own done receipt
 asked_ready f seat a v t r receipt did = absurd did
 
-pub begun_snapshot_ready : (f : View) (seat : ℕ) (a : Answer) (v t : View) (r : Option Receipt) → IsReady (v.session seat) r → DidAskSnapshotBeside f seat a v t → IsReady (t.session seat) r
-begun_snapshot_ready f seat (answer.LogEnd tail) v t r ready (u, passes, did) = same_ready (v.session seat) (t.session seat) r (ap (λ (x : View). x.session seat) did.0 ∙ passes.own) ready
-begun_snapshot_ready f seat answer.NumbersEnd v t r ready (u, passes, did) = same_ready (v.session seat) (t.session seat) r (ap (λ (x : View). x.session seat) did.0 ∙ passes.own) ready
+pub begun_snapshot_ready : (f : View) (seat : ℕ) (a : Answer) (v t : View) (r : Option Receipt) → IsReady v seat r → DidAskSnapshotBeside f seat a v t → IsReady t seat r
+begun_snapshot_ready f seat (answer.LogEnd tail) v t r ready (u, passes, did) = still_ready v u t seat r passes did.0 ready
+begun_snapshot_ready f seat answer.NumbersEnd v t r ready (u, passes, did) = still_ready v u t seat r passes did.0 ready
 begun_snapshot_ready f seat a v t r ready did =
     let (u, passes, began) = did.began in
     let over : (did.between.session seat).over ≡ (v.session seat).over = ap (λ (s : Session). s.over) began.2.own ∙ ap (λ (s : Session). s.over) passes.own in
     asked_ready f seat a did.between t r (over_receipt (v.session seat) (did.between.session seat) r over ready.receipt) did.asked
 
-pub watched_ready : (f : View) (seat : ℕ) (c : Command) (a : Answer) (v t : View) (r : Option Receipt) → IsReady (v.session seat) r → DidOfSnapshotBeside f seat c a v t → IsReady (t.session seat) r
+pub watched_ready : (f : View) (seat : ℕ) (c : Command) (a : Answer) (v t : View) (r : Option Receipt) → IsReady v seat r → DidOfSnapshotBeside f seat c a v t → IsReady t seat r
 watched_ready f seat command.Safe a v t r ready did = asked_ready f seat a v t r ready.receipt did
-watched_ready f seat (command.Get table key) (answer.Replied reply) v t r ready did = same_ready (v.session seat) (t.session seat) r did.passes.own ready
-watched_ready f seat (command.Next table from) (answer.Replied reply) v t r ready did = same_ready (v.session seat) (t.session seat) r did.passes.own ready
-watched_ready f seat (command.Scan table low high) (answer.Replied reply) v t r ready did = same_ready (v.session seat) (t.session seat) r did.passes.own ready
+watched_ready f seat (command.Get table key) (answer.Replied reply) v t r ready did = same_ready v t seat r did.passes.own did.passes.saves ready
+watched_ready f seat (command.Next table from) (answer.Replied reply) v t r ready did = same_ready v t seat r did.passes.own did.passes.saves ready
+watched_ready f seat (command.Scan table low high) (answer.Replied reply) v t r ready did = same_ready v t seat r did.passes.own did.passes.saves ready
 watched_ready f seat command.Commit answer.Ended v t r ready (u, passes, did) = ended_ready seat v u t r (work_at u seat) passes.own did ready.receipt
 watched_ready f seat command.Abort answer.Aborted v t r ready (u, passes, did) = ended_ready seat v u t r (work_at u seat) passes.own did ready.receipt
-watched_ready f seat command.Durable (answer.Durable stamp) v t r ready (u, passes, did) = same_ready (v.session seat) (t.session seat) r (ap (λ (x : View). x.session seat) did.0 ∙ passes.own) ready
-watched_ready f seat command.Durable answer.NoReceipt v t r ready (u, passes, did) = same_ready (v.session seat) (t.session seat) r (ap (λ (x : View). x.session seat) did.0 ∙ passes.own) ready
+watched_ready f seat command.Durable (answer.Durable stamp) v t r ready (u, passes, did) = still_ready v u t seat r passes did.0 ready
+watched_ready f seat command.Durable answer.NoReceipt v t r ready (u, passes, did) = still_ready v u t seat r passes did.0 ready
 watched_ready f seat c a v t r ready did = absurd did
 
 -- of an answer that was given

@@ -18,13 +18,13 @@ use Rattle.erm_worker.proofs.Kept.{begun_snapshot_ready, decided_runs, grown_rec
 use Rattle.erm_worker.proofs.Left.{left_waiting, stood_left}
 use Rattle.erm_worker.proofs.Waits.{passes_phase}
 
-pub settled_ready : (seat : ℕ) (answered : Option Answer) (v t : View) (r x : Option Receipt) → WasSettled seat answered v t → KeepsReceipt v seat r t x → IsReady (v.session seat) r
-    → IfSome answered (λ _. IsReady (t.session seat) x)
+pub settled_ready : (seat : ℕ) (answered : Option Answer) (v t : View) (r x : Option Receipt) → WasSettled seat answered v t → KeepsReceipt v seat r t x → IsReady v seat r
+    → IfSome answered (λ _. IsReady t seat x)
 settled_ready seat None v t r x settled kept ready = tt
 settled_ready seat (Some a) v t r x settled kept ready = record { run = decided_runs seat a v t settled.1; receipt = kept ready.receipt }
 
 pub committed_ready : (f : View) (seat : ℕ) (answered : Option Answer) (v t : View) (r x : Option Receipt) → WasAsked f seat command.Commit answered v t → KeepsReceipt v seat r t x
-    → IsReady (v.session seat) r → IfSome answered (λ _. IsReady (t.session seat) x)
+    → IsReady v seat r → IfSome answered (λ _. IsReady t seat x)
 committed_ready f seat None v t r x asked kept ready = tt
 committed_ready f seat (Some a) v t r x asked kept ready = record { run = decided_runs seat a asked.did.between t asked.did.decided; receipt = kept ready.receipt }
 
@@ -32,18 +32,18 @@ pub if_some : (answered : Option Answer) (P : Type 0) → P → IfSome answered 
 if_some None P is = tt
 if_some (Some a) P is = is
 
-pub operated_ready : {E : Type 0} (result : Result (Option Answer) E) (s t : Session) (r : Option Receipt) → OnOk result (IsRunNow t) → Grows s t → IsReady s r
-    → IfOk result (λ answered. IfSome answered (λ _. IsReady t r))
-operated_ready (Ok answered) s t r run grows ready = if_some answered (IsReady t r) (record { run = run; receipt = grown_receipt s t r grows ready.receipt })
-operated_ready (Err e) s t r run grows ready = tt
+pub operated_ready : {E : Type 0} (result : Result (Option Answer) E) (v t : View) (seat : ℕ) (r : Option Receipt) → OnOk result (IsRunNow t seat) → Grows (v.session seat) (t.session seat) → IsReady v seat r
+    → IfOk result (λ answered. IfSome answered (λ _. IsReady t seat r))
+operated_ready (Ok answered) v t seat r run grows ready = if_some answered (IsReady t seat r) (record { run = run; receipt = grown_receipt (v.session seat) (t.session seat) r grows ready.receipt })
+operated_ready (Err e) v t seat r run grows ready = tt
 
-pub snapshot_ready : (f : View) (seat : ℕ) (answered : Option Answer) (v t : View) (r : Option Receipt) → IsReady (v.session seat) r → WasAsked f seat command.Safe answered v t
-    → IfSome answered (λ _. IsReady (t.session seat) r)
+pub snapshot_ready : (f : View) (seat : ℕ) (answered : Option Answer) (v t : View) (r : Option Receipt) → IsReady v seat r → WasAsked f seat command.Safe answered v t
+    → IfSome answered (λ _. IsReady t seat r)
 snapshot_ready f seat None v t r ready asked = tt
 snapshot_ready f seat (Some a) v t r ready asked = begun_snapshot_ready f seat a v t r ready asked.did
 
-pub looked_ready : (f : View) (seat : ℕ) (c : Command) (answered : Option Answer) (v t : View) (r : Option Receipt) → IsReady (v.session seat) r → WasWatched f seat c answered v t
-    → IfSome answered (λ _. IsReady (t.session seat) r)
+pub looked_ready : (f : View) (seat : ℕ) (c : Command) (answered : Option Answer) (v t : View) (r : Option Receipt) → IsReady v seat r → WasWatched f seat c answered v t
+    → IfSome answered (λ _. IsReady t seat r)
 looked_ready f seat c None v t r ready watched = tt
 looked_ready f seat c (Some a) v t r ready watched = watched_ready f seat c a v t r ready watched.did
 

@@ -66,11 +66,11 @@ module _ (seat mid : ℕ) (is : mid ≡ seat) (v u : View) where
   pub sealed_phase : (stamp : ℕ) → After seat (λ y z. DidSeal y seat stamp z) v u → phase_at u mid ≡ Sealed
   sealed_phase stamp (w, passes, did) = ap (λ (n : ℕ). phase_at u n) is ∙ ap (λ (s : Session). phase_of s.stand) did.own
 
-pub runs_there : (seat mid : ℕ) → mid ≡ seat → (u : View) → IsRunNow (u.session seat) → IsRunNow (u.session mid)
-runs_there seat mid is u run = subst (λ (n : ℕ). IsRunNow (u.session n)) (sym is) run
+pub runs_there : (seat mid : ℕ) → mid ≡ seat → (u : View) → IsRunNow u seat → IsRunNow u mid
+runs_there seat mid is u run = subst (λ (n : ℕ). IsRunNow u n) (sym is) run
 
-pub runs_back : (seat mid : ℕ) → mid ≡ seat → (u : View) → IsRunNow (u.session mid) → IsRunNow (u.session seat)
-runs_back seat mid is u run = subst (λ (n : ℕ). IsRunNow (u.session n)) is run
+pub runs_back : (seat mid : ℕ) → mid ≡ seat → (u : View) → IsRunNow u mid → IsRunNow u seat
+runs_back seat mid is u run = subst (λ (n : ℕ). IsRunNow u n) is run
 
 pub grows_there : (seat mid : ℕ) → mid ≡ seat → (v u t : View) → Grows (v.session seat) (u.session seat) → Grows (u.session mid) (t.session mid) → Grows (v.session seat) (t.session seat)
 grows_there seat mid is v u t first second =

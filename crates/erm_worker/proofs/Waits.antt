@@ -9,17 +9,18 @@ use Rattle.erm_node.specs.Sound.{sound_law}
 use Rattle.erm_report.specs.declared.answer.Answer.{Answer}
 use Rattle.erm_report.specs.declared.answer.Answer.TheVariants as answer
 use Rattle.erm_script.specs.declared.script.Command.{Command}
-use Rattle.erm_world.specs.World.{Session, View, phase_at, phase_of, work_of}
+use Rattle.erm_world.specs.World.{Session, View, phase_at, phase_of, work_at, work_of}
 use Rattle.erm_world.proofs.Txns.{went}
-use Rattle.erm_maps.specs.Runs.{IsRunOf}
+use Rattle.erm_maps.specs.Runs.{IsRunOf, Kept, kept_at}
 use Rattle.erm_lines.specs.Operations.{AsksOf, FrontOf, Ran}
+use Rattle.erm_lines.proofs.Saved.{kept_is}
 use Rattle.erm_beside.specs.Calls.{After, DidSettleBeside, Passes}
 use Rattle.erm_beside.proofs.Txns.{stopped_after}
 use Rattle.erm_lines_at_once.specs.Answers.{DidDecideBeside}
 use Rattle.erm_lines_at_once.specs.Operations.{WasTried, WereCutBeside}
 
 pub passes_itself : (seat : ℕ) (v : View) → Passes seat v v
-passes_itself seat v = record { own = refl; opening = refl; tail = omega arith; flushed = omega arith; given_up = refl }
+passes_itself seat v = record { own = refl; opening = refl; tail = omega arith; flushed = omega arith; given_up = refl; saves = refl }
 
 pub passes_then : (seat : ℕ) (v u t : View) → Passes seat v u → Passes seat u t → Passes seat v t
 passes_then seat v u t first second = record {
@@ -28,10 +29,14 @@ passes_then seat v u t first second = record {
   tail = le_trans first.tail second.tail;
   flushed = le_trans first.flushed second.flushed;
   given_up = second.given_up ∙ first.given_up;
+  saves = second.saves ∙ first.saves;
 }
 
 pub passes_phase : (seat : ℕ) (v u : View) → Passes seat v u → phase_at u seat ≡ phase_at v seat
 passes_phase seat v u passes = ap (λ (s : Session). phase_of s.stand) passes.own
+
+pub passes_kept : (seat : ℕ) (v u : View) → Passes seat v u → kept_at u seat ≡ kept_at v seat
+passes_kept seat v u passes = kept_is (work_at u seat) (work_at v seat) (u.saves seat) (v.saves seat) (ap (λ (s : Session). work_of s.stand) passes.own) passes.saves
 
 -- others went on once more before it
 pub after_passes : (seat : ℕ) (Did : View → View → Type 0) (v u t : View) → Passes seat v u → After seat Did u t → After seat Did v t
@@ -59,8 +64,10 @@ module _ (f : View) (seat : ℕ) (c : Command) where
       from = cut.ran.from;
       to = cut.ran.to;
       starts = cut.ran.starts ∙ passes.own;
+      starts_saves = cut.ran.starts_saves ∙ passes.saves;
       did = cut.ran.did;
       stops = cut.ran.stops;
+      stops_saves = cut.ran.stops_saves;
       opening = cut.ran.opening ∙ passes.opening;
       tail = le_trans passes.tail cut.ran.tail;
       flushed = le_trans passes.flushed cut.ran.flushed;
@@ -72,7 +79,7 @@ module _ (f : View) (seat : ℕ) (c : Command) where
     asks_so = cut.asks_so;
     refused = cut.refused;
     met = cut.met;
-    run = λ is before run. cut.run is before (subst (λ (s : Session). IsRunOf (work_of s.stand) before) (sym passes.own) run);
+    run = λ is before run. cut.run is before (subst (λ (k : Kept). IsRunOf k before) (sym (passes_kept seat v u passes)) run);
   }
 
   -- one wait more

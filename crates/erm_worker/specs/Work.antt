@@ -14,7 +14,7 @@ use Rattle.erm_world.specs.Calls.{DidAbort, DidSeal}
 use Rattle.erm_world.specs.Going.{Extends}
 use Rattle.erm_world.specs.World.{Session, View, Work, phase_at, phase_of, work_of}
 use Rattle.erm_world.specs.World as world
-use Rattle.erm_maps.specs.Runs.{IsRunOf}
+use Rattle.erm_maps.specs.Runs.{IsRunOf, kept_at}
 use Rattle.erm_good_report.specs.Phases.{Closes}
 use Rattle.erm_good_report.specs.Transactions.{table_of}
 use Rattle.erm_lines.specs.Answers.{IsReceiptOf}
@@ -38,13 +38,13 @@ pub record MayBeAsked (c : Command) : Type 0 where
   pub table : IfSome (table_of c) (λ table. table < TABLES)
 
 -- a session's transaction in progress is the run of some operations
-abbrev pub IsRunNow : Session → Type 0
-IsRunNow s = phase_of s.stand ≡ Active → (steps : List Step) × IsRunOf (work_of s.stand) steps
+abbrev pub IsRunNow : View → ℕ → Type 0
+IsRunNow v seat = phase_at v seat ≡ Active → (steps : List Step) × IsRunOf (kept_at v seat) steps
 
 -- A session as its next line finds it: its transaction in progress is the run of some operations, and this is the receipt of its last commit.
-pub record IsReady (s : Session) (r : Option Receipt) : Type 0 where
-  pub run : IsRunNow s
-  pub receipt : IsReceiptOf s.over r
+pub record IsReady (v : View) (seat : ℕ) (r : Option Receipt) : Type 0 where
+  pub run : IsRunNow v seat
+  pub receipt : IsReceiptOf (v.session seat).over r
 
 -- a sealed transaction was decided, after its waits, or it waits still
 abbrev pub WasSettled : ℕ → Option Answer → View → View → Type 0

@@ -2,10 +2,8 @@
 ghost use Rattle.std.specs.Prelude.{◌≡◌, ℕ, IfNone, List, MatchOption, None, Some};
 ghost use Rattle.erm_model.specs.declared.outcome.Phase.TheVariants.{Active, Idle, Sealed};
 ghost use Rattle.erm_model.specs.RowTransaction.{SameLaw};
-ghost use Rattle.erm_model.specs.Run.{Step};
 ghost use Rattle.erm_node.specs.Sound.{sound_law};
-ghost use Rattle.erm_maps.specs.Runs.{IsRunOf};
-ghost use Rattle.erm_world.specs.World.{View, phase_at, work_at};
+ghost use Rattle.erm_world.specs.World.{View, phase_at};
 ghost use Rattle.erm_lines.specs.Answers.{IsReceiptOf, KeepsReceipt};
 ghost use Rattle.erm_beside.specs.Laws.{GoesOnward};
 ghost use Rattle.erm_worker.specs.Work.{GaveUp, IsRunNow, WasAsked, WasClosed, WasSettled};
@@ -60,7 +58,7 @@ pub fn commit<S: SharedSession, T: Turns, R: Wait>(
     requires law { SameLaw S.law sound_law }
     requires stands { S.stands shared.now session.old }
     requires active { phase_at (S.own session.old) (S.seat session.old) ≡ Active }
-    requires ran { IsRunNow ((S.own session.old).session (S.seat session.old)) }
+    requires ran { IsRunNow (S.own session.old) (S.seat session.old) }
     ensures stands { S.stands shared.now session.new }
     ensures onward { GoesOnward (S.seat session.old) (S.seat session.new) (S.ends session.old) (S.ends session.new) }
     ensures asked { (f : View) → WasAsked f (S.seat session.old) Command.Commit result (S.own session.old) (S.own session.new) }

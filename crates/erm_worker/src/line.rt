@@ -16,7 +16,7 @@ use crate::operations::operate;
 use crate::snapshots::{begin_snapshot, watch};
 use erm_beside::{SafeSession, SharedSession};
 use erm_lines::refusal_of;
-use erm_lines_at_once::{abort, has_snapshot, seal};
+use erm_lines_at_once::{abort, back, has_snapshot, save, seal};
 use erm_model::Receipt;
 use erm_outside::Place;
 use erm_report::Answer;
@@ -57,11 +57,11 @@ fn run<S: SafeSession, T: Turns, R: Wait>(
     requires plain { HasNoSnapshot (phase_at (S.own session.old) (S.seat session.old)) }
     requires allowed { refusal_of (phase_at (S.own session.old) (S.seat session.old)) command.now ≡ None }
     requires may { MayBeAsked command.now }
-    requires ready { IsReady ((S.own session.old).session (S.seat session.old)) receipt.old }
+    requires ready { IsReady (S.own session.old) (S.seat session.old) receipt.old }
     ensures stands { S.stands shared.now session.new }
     ensures onward { GoesOnward (S.seat session.old) (S.seat session.new) (S.ends session.old) (S.ends session.new) }
     ensures asked { IfOk result (λ answered. (f : View) → S.ends session.new f → WasAsked f (S.seat session.old) command.now answered (S.own session.old) (S.own session.new)) }
-    ensures ready { IfOk result (λ answered. IfSome answered (λ _. IsReady ((S.own session.new).session (S.seat session.old)) receipt.new)) }
+    ensures ready { IfOk result (λ answered. IfSome answered (λ _. IsReady (S.own session.new) (S.seat session.old) receipt.new)) }
     ensures told { IfOk result (λ answered. IfNone answered (T.told turns.new)) }
     ensures grown { IfErr result (λ _. Grows ((S.own session.old).session (S.seat session.old)) ((S.own session.new).session (S.seat session.old))) }
 {
@@ -75,6 +75,8 @@ fn run<S: SafeSession, T: Turns, R: Wait>(
             turns.pass(Place::Begin);
             begin_snapshot(rt, session, shared, turns)
         }
+        Command::Save => Ok(Some(save(session, shared)?)),
+        Command::Back { n } => Ok(Some(back(session, shared, *n))),
         Command::Seal => {
             let answer = seal(session, shared);
             turns.pass(Place::Sealed);
@@ -104,11 +106,11 @@ pub fn run_line<S: SafeSession, T: Turns, R: Wait>(
     requires stands { S.stands shared.now session.old }
     requires seat { line.now.session ≡ S.seat session.old }
     requires may { MayBeAsked line.now.command }
-    requires ready { IsReady ((S.own session.old).session (S.seat session.old)) receipt.old }
+    requires ready { IsReady (S.own session.old) (S.seat session.old) receipt.old }
     ensures stands { S.stands shared.now session.new }
     ensures onward { GoesOnward (S.seat session.old) (S.seat session.new) (S.ends session.old) (S.ends session.new) }
     ensures ran { IfOk result (λ answered. (f : View) → S.ends session.new f → RanLine f line.now answered (S.own session.old) (S.own session.new)) }
-    ensures ready { IfOk result (λ answered. IfSome answered (λ _. IsReady ((S.own session.new).session (S.seat session.old)) receipt.new)) }
+    ensures ready { IfOk result (λ answered. IfSome answered (λ _. IsReady (S.own session.new) (S.seat session.old) receipt.new)) }
     ensures told { IfOk result (λ answered. IfNone answered (T.told turns.new)) }
     ensures grown { IfErr result (λ _. Grows ((S.own session.old).session (S.seat session.old)) ((S.own session.new).session (S.seat session.old))) }
 {

@@ -33,7 +33,7 @@ pub fn run_lines<S: SafeSession, T: Turns, R: Wait>(
     requires stands { S.stands shared.now session.old }
     requires seat { (l : ScriptLine) → l ∈ lines.now → l.session ≡ S.seat session.old }
     requires may { (l : ScriptLine) → l ∈ lines.now → MayBeAsked l.command }
-    requires ready { IsReady ((S.own session.old).session (S.seat session.old)) None }
+    requires ready { IsReady (S.own session.old) (S.seat session.old) None }
     requires none { answers.old.items ≡ [] }
     requires room { length lines.now ≤ vec_capacity answers.old }
     ensures stands { S.stands shared.now session.new }

@@ -5,10 +5,10 @@ ghost use Rattle.erm_model.specs.declared.outcome.Phase.TheVariants.{Active};
 ghost use Rattle.erm_model.specs.RowTransaction.{SameLaw};
 ghost use Rattle.erm_model.specs.Run.{Step};
 ghost use Rattle.erm_node.specs.Sound.{sound_law};
-ghost use Rattle.erm_maps.specs.Runs.{IsRunOf};
+ghost use Rattle.erm_maps.specs.Runs.{IsRunOf, kept_at};
 ghost use Rattle.erm_good_report.specs.Transactions.{table_of};
 ghost use Rattle.erm_world.specs.Face.{Grows};
-ghost use Rattle.erm_world.specs.World.{View, phase_at, work_at};
+ghost use Rattle.erm_world.specs.World.{View, phase_at};
 ghost use Rattle.erm_beside.specs.Laws.{GoesOnward};
 ghost use Rattle.erm_lines_at_once.specs.Operations.{TriedOnce};
 ghost use Rattle.erm_worker.specs.Work.{IsRunNow, WasAsked};
@@ -30,7 +30,7 @@ fn try_command<'a, S: SharedSession>(
 ) -> Result<Option<Answer>, AllocError>
     requires law { SameLaw S.law sound_law }
     requires active { ⟦<SharedTxn<'a, S> as RowRead>⟧.face.active txn.old }
-    requires ran { (steps : List Step) × IsRunOf (work_at (S.own txn.old.session.now) (S.seat txn.old.session.now)) steps }
+    requires ran { (steps : List Step) × IsRunOf (kept_at (S.own txn.old.session.now) (S.seat txn.old.session.now)) steps }
     requires named { IsSome (table_of command.now) }
     requires table { IfSome (table_of command.now) (λ table. table < TABLES) }
     ensures follows { ⟦<SharedTxn<'a, S> as RowRead>⟧.face.follows txn.old txn.new }
@@ -55,11 +55,11 @@ fn try_run<'a, S: SharedSession>(
 ) -> Result<Option<Answer>, AllocError>
     requires law { SameLaw S.law sound_law }
     requires active { ⟦<SharedTxn<'a, S> as RowRead>⟧.face.active txn.old }
-    requires ran { (steps : List Step) × IsRunOf (work_at (S.own txn.old.session.now) (S.seat txn.old.session.now)) steps }
+    requires ran { (steps : List Step) × IsRunOf (kept_at (S.own txn.old.session.now) (S.seat txn.old.session.now)) steps }
     requires named { IsSome (table_of command.now) }
     requires table { IfSome (table_of command.now) (λ table. table < TABLES) }
     ensures follows { ⟦<SharedTxn<'a, S> as RowRead>⟧.face.follows txn.old txn.new }
-    ensures ran { OnOk result (IsRunNow ((S.own txn.new.session.now).session (S.seat txn.old.session.now))) }
+    ensures ran { OnOk result (IsRunNow (S.own txn.new.session.now) (S.seat txn.old.session.now)) }
     ensures tried { IfOk result (λ tried. (f : View) → S.ends txn.new.session.now f → TriedOnce f (S.seat txn.old.session.now) command.now tried (S.own txn.old.session.now) (S.own txn.new.session.now)) }
 {
     try_command(alloc, txn, command)
@@ -75,13 +75,13 @@ fn try_once<S: SharedSession>(
     requires law { SameLaw S.law sound_law }
     requires stands { S.stands shared.now session.old }
     requires active { phase_at (S.own session.old) (S.seat session.old) ≡ Active }
-    requires ran { IsRunNow ((S.own session.old).session (S.seat session.old)) }
+    requires ran { IsRunNow (S.own session.old) (S.seat session.old) }
     requires named { IsSome (table_of command.now) }
     requires table { IfSome (table_of command.now) (λ table. table < TABLES) }
     ensures stands { S.stands shared.now session.new }
     ensures onward { GoesOnward (S.seat session.old) (S.seat session.new) (S.ends session.old) (S.ends session.new) }
     ensures grows { Grows ((S.own session.old).session (S.seat session.old)) ((S.own session.new).session (S.seat session.old)) }
-    ensures ran { OnOk result (IsRunNow ((S.own session.new).session (S.seat session.old))) }
+    ensures ran { OnOk result (IsRunNow (S.own session.new) (S.seat session.old)) }
     ensures tried { IfOk result (λ tried. (f : View) → S.ends session.new f → TriedOnce f (S.seat session.old) command.now tried (S.own session.old) (S.own session.new)) }
 {
     let mut txn = SharedTxn { shared, session };
@@ -101,13 +101,13 @@ pub fn operate<S: SharedSession, T: Turns, R: Wait>(
     requires law { SameLaw S.law sound_law }
     requires stands { S.stands shared.now session.old }
     requires active { phase_at (S.own session.old) (S.seat session.old) ≡ Active }
-    requires ran { IsRunNow ((S.own session.old).session (S.seat session.old)) }
+    requires ran { IsRunNow (S.own session.old) (S.seat session.old) }
     requires named { IsSome (table_of command.now) }
     requires table { IfSome (table_of command.now) (λ table. table < TABLES) }
     ensures stands { S.stands shared.now session.new }
     ensures onward { GoesOnward (S.seat session.old) (S.seat session.new) (S.ends session.old) (S.ends session.new) }
     ensures grows { Grows ((S.own session.old).session (S.seat session.old)) ((S.own session.new).session (S.seat session.old)) }
-    ensures ran { OnOk result (IsRunNow ((S.own session.new).session (S.seat session.old))) }
+    ensures ran { OnOk result (IsRunNow (S.own session.new) (S.seat session.old)) }
     ensures asked { IfOk result (λ answered. (f : View) → S.ends session.new f → WasAsked f (S.seat session.old) command.now answered (S.own session.old) (S.own session.new)) }
     ensures told { IfOk result (λ answered. IfNone answered (T.told turns.new)) }
 {

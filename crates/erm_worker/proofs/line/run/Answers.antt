@@ -23,6 +23,14 @@ pub begin_snapshot-requires-clause-idle : goal.begin_snapshot-requires-clause-id
 begin_snapshot-requires-clause-idle g c =
     start_where (phase_at (g.S.SharedSession.own c.args.session.now) (g.S.SharedSession.seat c.args.session.now)) c.args.command.now c.requires.allowed c.in-Safe.is c.requires.plain
 
+pub save-requires-clause-active : goal.save-requires-clause-active
+save-requires-clause-active g c =
+    active_in (phase_at (g.S.SharedSession.own c.args.session.now) (g.S.SharedSession.seat c.args.session.now)) c.args.command.now NeedsWriter (ap need_of c.in-Save.is) tt c.requires.plain c.requires.allowed
+
+pub back-requires-clause-active : goal.back-requires-clause-active
+back-requires-clause-active g c =
+    active_in (phase_at (g.S.SharedSession.own c.args.session.now) (g.S.SharedSession.seat c.args.session.now)) c.args.command.now NeedsWriter (ap need_of c.in-Back.is) tt c.requires.plain c.requires.allowed
+
 pub seal-answer-requires-clause-active : goal.seal-answer-requires-clause-active
 seal-answer-requires-clause-active g c =
     active_in (phase_at (g.S.SharedSession.own c.args.session.now) (g.S.SharedSession.seat c.args.session.now)) c.args.command.now NeedsWriter (ap need_of c.in-Seal.is) tt c.requires.plain c.requires.allowed
@@ -45,7 +53,7 @@ abort-requires-clause-active g c =
 pub operate-requires : goal.operate-requires
 operate-requires g c =
     let phase = phase_at (g.S.SharedSession.own c.args.session.now) (g.S.SharedSession.seat c.args.session.now) in
-    let it = operates c.args.command.now phase c.requires.may.of_session c.requires.plain c.requires.allowed c.in_default.not-Begin c.in_default.not-Safe c.in_default.not-Seal c.in_default.not-Settle
+    let it = operates c.args.command.now phase c.requires.may.of_session c.requires.plain c.requires.allowed c.in_default.not-Begin c.in_default.not-Safe c.in_default.not-Save c.in_default.not-Back c.in_default.not-Seal c.in_default.not-Settle
     c.in_default.not-Commit c.in_default.not-Abort c.in_default.not-Durable in
     record { law = c.requires.law; stands = c.requires.stands; active = it.active; ran = c.requires.ready.run; named = it.named; table = c.requires.may.table }
 
@@ -66,7 +74,7 @@ returns-in-Safe-clause-ready g c =
     let t = g.S.SharedSession.own after in
     let some = g.met.S.SharedSession.some c.args.shared.now after c.begin_snapshot.ensures.stands in
     IfOk-weaker c.begin_snapshot.result (λ (answered : Option Answer). (f : View) → g.S.SharedSession.ends after f → WasAsked f seat command.Safe answered v t)
-    (λ (answered : Option Answer). IfSome answered (λ _. IsReady (t.session seat) c.args.receipt.now))
+    (λ (answered : Option Answer). IfSome answered (λ _. IsReady t seat c.args.receipt.now))
     (λ answered was. snapshot_ready some.0 seat answered v t c.args.receipt.now c.requires.ready (was some.0 some.1)) c.begin_snapshot.ensures.asked
 
 pub returns-in-Safe-clause-grown : goal.returns-in-Safe-clause-grown
@@ -127,7 +135,7 @@ returns-in_default g c =
       stands = c.operate.ensures.stands;
       onward = c.operate.ensures.onward;
       asked = c.operate.ensures.asked;
-      ready = operated_ready c.operate.result (v.session seat) (t.session seat) c.args.receipt.now c.operate.ensures.ran c.operate.ensures.grows c.requires.ready;
+      ready = operated_ready c.operate.result v t seat c.args.receipt.now c.operate.ensures.ran c.operate.ensures.grows c.requires.ready;
       told = c.operate.ensures.told;
       grown = on_err c.operate.result (Grows (v.session seat) (t.session seat)) c.operate.ensures.grows;
     }

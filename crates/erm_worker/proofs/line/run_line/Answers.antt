@@ -44,7 +44,7 @@ returns-then-has_snapshot-clause-ready g c =
     let t = g.S.SharedSession.own after in
     let some = g.met.S.SharedSession.some c.args.shared.now after c.watch.ensures.stands in
     IfOk-weaker c.watch.result (λ (answered : Option Answer). (f : View) → g.S.SharedSession.ends after f → WasWatched f seat l.command answered v t)
-    (λ (answered : Option Answer). IfSome answered (λ _. IsReady (t.session seat) c.args.receipt.now))
+    (λ (answered : Option Answer). IfSome answered (λ _. IsReady t seat c.args.receipt.now))
     (λ answered was. looked_ready some.0 seat l.command answered v t c.args.receipt.now c.requires.ready (was some.0 some.1)) c.watch.ensures.watched
 
 pub returns-then-has_snapshot-clause-grown : goal.returns-then-has_snapshot-clause-grown

@@ -119,8 +119,8 @@ loop-line-preserved g c =
     record {
       stands = c.run_line.ensures.stands;
       onward = onward_then seat mid (g.S.SharedSession.seat c.run_line.new.session) (g.S.SharedSession.ends c.args.session.now) (g.S.SharedSession.ends c.loop-line.session) (g.S.SharedSession.ends c.run_line.new.session) so.onward c.run_line.ensures.onward;
-      ready = subst (λ (n : ℕ). IsReady (t.session n) c.run_line.new.receipt) so.onward.seat_is
-          (subst (λ (o : Option Answer). IfSome o (λ _. IsReady (t.session mid) c.run_line.new.receipt)) c.in-Some.is c.in_ok-answer.ensures.ready);
+      ready = subst (λ (n : ℕ). IsReady t n c.run_line.new.receipt) so.onward.seat_is
+          (subst (λ (o : Option Answer). IfSome o (λ _. IsReady t mid c.run_line.new.receipt)) c.in-Some.is c.in_ok-answer.ensures.ready);
       many = (let size = ap (λ (xs : List Answer). length xs) added in omega (arith, size, so.many, length-append c.loop-line.answers.items (c.in-Some.answer ∷ [])));
       room = (let more = c.add.ensures.capacity in let was = so.room in omega (arith, more, was));
       ran = λ f end.

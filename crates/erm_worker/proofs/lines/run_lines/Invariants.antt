@@ -12,7 +12,7 @@ abbrev pub invariant-loop-line : goal.invariant-loop-line
 invariant-loop-line g l = record {
   stands : g.S.SharedSession.stands l.shared l.session;
   onward : GoesOnward (g.S.SharedSession.seat l.fn.session) (g.S.SharedSession.seat l.session) (g.S.SharedSession.ends l.fn.session) (g.S.SharedSession.ends l.session);
-  ready : IsReady ((g.S.SharedSession.own l.session).session (g.S.SharedSession.seat l.fn.session)) l.receipt;
+  ready : IsReady (g.S.SharedSession.own l.session) (g.S.SharedSession.seat l.fn.session) l.receipt;
   many : length l.answers.items ≡ l.line-index;
   room : length l.lines ≤ vec_capacity l.answers;
   ran : (f : View) → g.S.SharedSession.ends l.session f

@@ -14,7 +14,7 @@ invariant-loop g l = record {
   onward : GoesOnward (g.S.SharedSession.seat l.fn.session) (g.S.SharedSession.seat l.session) (g.S.SharedSession.ends l.fn.session) (g.S.SharedSession.ends l.session);
   active : phase_at (g.S.SharedSession.own l.session) (g.S.SharedSession.seat l.fn.session) ≡ Active;
   grows : Grows ((g.S.SharedSession.own l.fn.session).session (g.S.SharedSession.seat l.fn.session)) ((g.S.SharedSession.own l.session).session (g.S.SharedSession.seat l.fn.session));
-  ran : IsRunNow ((g.S.SharedSession.own l.session).session (g.S.SharedSession.seat l.fn.session));
+  ran : IsRunNow (g.S.SharedSession.own l.session) (g.S.SharedSession.seat l.fn.session);
   tried : (f : View) → g.S.SharedSession.ends l.session f
       → HasTried f (g.S.SharedSession.seat l.fn.session) l.command (g.S.SharedSession.own l.fn.session) (g.S.SharedSession.own l.session);
 }

@@ -17,8 +17,8 @@ returns-in-Ok-Some-clause-on g c =
     let seat = g.S.SharedSession.seat c.args.self.now.session in
     let v = g.S.SharedSession.own c.args.self.now.session in
     let t = g.S.SharedSession.own c.run_next.new.session in
-    let ready : IsReady (t.session seat) c.run_next.new.receipt =
-    subst (λ (o : Option Answer). IfSome o (λ _. IsReady (t.session seat) c.run_next.new.receipt)) c.in-Ok-Some.field-0-is c.in-Ok-Some.ensures.ready in
+    let ready : IsReady t seat c.run_next.new.receipt =
+    subst (λ (o : Option Answer). IfSome o (λ _. IsReady t seat c.run_next.new.receipt)) c.in-Ok-Some.field-0-is c.in-Ok-Some.ensures.ready in
     answered_goes g.S.SharedSession.stands g.S.SharedSession.seat g.S.SharedSession.own g.S.SharedSession.ends g.T.Turns.told c.args.self.now _
     c.requires.client c.requires.opened refl c.run_next.ensures.stands c.run_next.ensures.onward c.args.line c.in-Ok-Some.answer c.requires.line
     (λ f end. subst (λ (o : Option Answer). RanLine f c.args.line o v t) c.in-Ok-Some.field-0-is (c.in-Ok-Some.ensures.ran f end))
