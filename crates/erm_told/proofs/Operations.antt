@@ -1,5 +1,5 @@
 -- Turns of an active session: operations that were answered, and those that were cut off by a refusal.
-use Rattle.std.proofs.Common.{◌≡◌, ℕ, true, false, List, [], ◌∷◌, ◌++◌, append-nil, Option, Some, None, option_map, refl, sym, ap, ◌∙◌, subst, inl, inr}
+use Rattle.std.proofs.Common.{◌≡◌, ℕ, true, false, IsSome, List, [], ◌∷◌, ◌++◌, append-nil, length, Option, Some, None, option_map, refl, sym, ap, ◌∙◌, subst, inl, inr}
 use Rattle.erm_model.specs.declared.outcome.Phase.TheVariants.{Idle, Active}
 use Rattle.erm_model.specs.declared.row_stop.RowStop.{RowStop}
 use Rattle.erm_model.specs.declared.row_stop.RowStop.TheVariants as stop
@@ -16,17 +16,17 @@ use Rattle.erm_world.specs.Onward.{goes_then}
 use Rattle.erm_world.specs.World.{Finished, Session, Stand, View, Work, phase_at, phase_of, work_at, work_of}
 use Rattle.erm_world.specs.World as world
 use Rattle.erm_world.proofs.Txns.{stopped}
-use Rattle.erm_maps.specs.Runs.{IsAnswered, IsRunOf}
+use Rattle.erm_maps.specs.Runs.{IsAnswered, IsRunOf, WasRun, kept_at}
 use Rattle.erm_good_report.specs.Phases.{asks_safe, phase_after, phase_after_wait}
-use Rattle.erm_good_report.specs.Transactions.{Aborts, Ending, Excludes, Progress, Snapshot, ended, goes_on, heard, reply_in, snapshot_after, with_look}
+use Rattle.erm_good_report.specs.Transactions.{Aborts, Ending, Excludes, Progress, Snapshot, Transaction, ended, goes_on, heard, held_of, op_of, reply_in, snapshot_after, steps_of, table_of, with_line, with_look}
 use Rattle.erm_lines.specs.Answers.{DidOperation, WasRefusedAs, stop_told}
 use Rattle.erm_lines.specs.Operations.{AsksOf, DidCalls, FrontOf, WereCutOff, WholeOf}
 use Rattle.erm_lines.specs.Told.{EndsAs, Tells, TellsNow, TellsOver, TellsWatched}
 use Rattle.erm_told.proofs.Going.{continues_from}
-use Rattle.erm_told.proofs.Running.{GoesOn, active_in, over_still, over_then, ran_on}
+use Rattle.erm_told.proofs.Running.{GoesOn, active_in, over_still, over_then, ran_on, ran_saves}
 use Rattle.erm_told.proofs.Sessions.{aborted_told, active_told, look_after, none_watched, unchanged_told}
-use Rattle.erm_told.proofs.Steps.{added, none_asked, none_replied, one_replied}
-use Rattle.erm_told.proofs.Turns.{Turn, none_active, now_active, same_tail}
+use Rattle.erm_told.proofs.Steps.{added, held_on_map, held_still, named_on_map, none_asked, none_replied, one_replied, steps_with}
+use Rattle.erm_told.proofs.Turns.{RunsBy, TellsAt, Turn, none_active, now_active, runs_lined, same_tail}
 
 -- a line that doesn't ask for a snapshot leaves a session without one
 pub none_after : (asked : Option Command) (a : Answer) (p : Progress) → asks_safe asked ≡ false → p.snapshot ≡ None → snapshot_after a asked p ≡ None
@@ -34,34 +34,56 @@ none_after asked a p calm none = look_after a asked p calm ∙ ap (λ (o : Optio
 
 -- a session that goes on with its transaction
 went_on : (v : View) (seat : ℕ) (asked : Option Command) (a : Answer) (t : View) → phase_at v seat ≡ Active → asks_safe asked ≡ false → GoesOn v seat t
-    → ((before : List Step) → IsRunOf (work_at v seat) before → IsRunOf (work_at t seat) (before ++ added asked a))
+    → ((before : List Step) → IsRunOf (kept_at v seat) before → IsRunOf (kept_at t seat) (before ++ added asked a))
+    → ((u : Transaction) → held_of u ≡ length (v.saves seat) → held_of (with_line asked a u) ≡ length (t.saves seat))
     → phase_after asked a (phase_at v seat) ≡ phase_at v seat → ((p : Progress) → heard seat asked a p ≡ goes_on asked a p) → Turn v seat asked a t
-went_on v seat asked a t active calm on run phase hears =
+went_on v seat asked a t active calm on run held phase hears =
     let over : (t.session seat).over ≡ (v.session seat).over = over_still (v.session seat) (t.session seat) on.work on.goes.own on.stand in record {
       others = on.goes.others;
+      saves = on.goes.saves;
       opening = on.goes.opening;
       tail = same_tail v.tail t.tail on.goes.tail;
       goes = continues_from (v.session seat) (t.session seat) (world.active (work_at v seat)) (active_in (v.session seat).stand active) []
           (over ∙ sym (append-nil (v.session seat).over)) (on.work, on.more, inl on.stand);
       phase = phase ∙ active ∙ sym (ap phase_of on.stand);
-      tells = λ p told. subst (λ (q : Progress). Tells seat q (t.session seat)) (sym (hears p)) (record {
-        over = subst (λ (fs : List Finished). TellsOver seat p.over p.snapshots fs) (sym over) told.over;
-        now = subst (λ (stand : Stand). TellsNow seat (goes_on asked a p).current stand) (sym on.stand)
-            (active_told seat asked a p.current (work_at v seat) on.work on.more.number on.more.begin
-            (λ before was. subst (λ (w : Work). IsRunOf w (before ++ added asked a)) (ap work_of on.stand) (run before was))
-            (now_active seat p (v.session seat) active told));
-        watched = subst (λ (stand : Stand). TellsWatched (goes_on asked a p).snapshot stand) (sym on.stand)
-            (none_watched (goes_on asked a p).snapshot (world.active on.work) tt (none_after asked a p calm (none_active seat p (v.session seat) active told)));
-      });
+      tells = λ p told. subst (λ (q : Progress). TellsAt seat q t) (sym (hears p)) (goes_told p told over);
     }
+  where
+    runs_by : (u : Transaction) → RunsBy v seat u → RunsBy t seat (with_line asked a u)
+    runs_by u by = record {
+      run = subst (λ (steps : List Step). IsRunOf (kept_at t seat) steps) (sym (steps_with asked a u)) (run (steps_of u) by.run);
+      held = held u by.held;
+    }
+
+    was_run : (u : Transaction) → RunsBy v seat u → WasRun on.work (steps_of (with_line asked a u))
+    was_run u by = (t.saves seat, subst (λ (w : Work). IsRunOf (record { work = w; saves = t.saves seat }) (steps_of (with_line asked a u))) (ap work_of on.stand) (runs_by u by).run)
+
+    goes_told : (p : Progress) → TellsAt seat p v → (t.session seat).over ≡ (v.session seat).over → TellsAt seat (goes_on asked a p) t
+    goes_told p told over = record {
+      tells = record {
+        over = subst (λ (fs : List Finished). TellsOver seat p.over p.snapshots fs) (sym over) told.tells.over;
+        now = subst (λ (stand : Stand). TellsNow seat (goes_on asked a p).current stand) (sym on.stand)
+            (active_told seat asked a p.current (work_at v seat) on.work on.more.number on.more.begin (λ u is. was_run u (told.runs u is active))
+            (now_active seat p (v.session seat) active told.tells));
+        watched = subst (λ (stand : Stand). TellsWatched (goes_on asked a p).snapshot stand) (sym on.stand)
+            (none_watched (goes_on asked a p).snapshot (world.active on.work) tt (none_after asked a p calm (none_active seat p (v.session seat) active told.tells)));
+      };
+      runs = runs_lined t seat asked a p.current (λ u is at. runs_by u (told.runs u is active));
+    }
+
+-- it holds as many savepoints as before, by the view and by the lines
+same_held : (v : View) (seat : ℕ) (t : View) (asked : Option Command) (a : Answer) → t.saves seat ≡ v.saves seat → ((u : Transaction) → held_of (with_line asked a u) ≡ held_of u)
+    → (u : Transaction) → held_of u ≡ length (v.saves seat) → held_of (with_line asked a u) ≡ length (t.saves seat)
+same_held v seat t asked a saves same u held = same u ∙ held ∙ ap length (sym saves)
 
 -- calls that were answered count as what the line tells
 pub turn_ran : (v : View) (seat : ℕ) (asked : Option Command) (a : Answer) (t : View) (steps : List Step) (kind : Rows → List Event → Type 0) → phase_at v seat ≡ Active
-    → asks_safe asked ≡ false → DidCalls v seat steps kind t → added asked a ≡ steps → phase_after asked a (phase_at v seat) ≡ phase_at v seat
-    → ((p : Progress) → heard seat asked a p ≡ goes_on asked a p) → Turn v seat asked a t
-turn_ran v seat asked a t steps kind active calm did tells phase hears =
+    → asks_safe asked ≡ false → DidCalls v seat steps kind t → added asked a ≡ steps → ((u : Transaction) → held_of (with_line asked a u) ≡ held_of u)
+    → phase_after asked a (phase_at v seat) ≡ phase_at v seat → ((p : Progress) → heard seat asked a p ≡ goes_on asked a p) → Turn v seat asked a t
+turn_ran v seat asked a t steps kind active calm did tells held phase hears =
     went_on v seat asked a t active calm (ran_on v seat did.events t active did.ran)
-    (λ before was. subst (λ (list : List Step). IsRunOf (work_at t seat) (before ++ list)) (sym tells) (did.run before was)) phase hears
+    (λ before was. subst (λ (list : List Step). IsRunOf (kept_at t seat) (before ++ list)) (sym tells) (did.run before was))
+    (same_held v seat t asked a (ran_saves v seat did.events t active did.ran) held) phase hears
 
 -- a refusal that leaves the transaction as it is
 pub turn_cut : (v : View) (seat : ℕ) (c : Command) (a : Answer) (t : View) (why : RowStop) (front : Rows → List Event → Type 0) (asks : List Event → Rows → Asked → Type 0)
@@ -71,8 +93,9 @@ turn_cut v seat c a t why front asks active calm cut stays none phase hears =
     let on = ran_on v seat cut.events cut.at active cut.ran in
     let is : t ≡ cut.at = (stopped cut.at seat cut.asked why t (ap phase_of on.stand) cut.refused).stays stays in
     went_on v seat (Some c) a t active calm (subst (λ (u : View). GoesOn v seat u) (sym is) on)
-    (λ before was. subst (λ (list : List Step). IsRunOf (work_at t seat) list)
-    (sym (ap (λ (list : List Step). before ++ list) (none_replied c a none) ∙ append-nil before)) (cut.run stays before was)) phase hears
+    (λ before was. subst (λ (list : List Step). IsRunOf (kept_at t seat) list)
+    (sym (ap (λ (list : List Step). before ++ list) (none_replied c a none) ∙ append-nil before)) (cut.run stays before was))
+    (same_held v seat t (Some c) a (ap (λ (u : View). u.saves seat) is ∙ ran_saves v seat cut.events cut.at active cut.ran) (λ u. held_still (Some c) a u (none_replied c a none))) phase hears
 
 -- one that ends it
 pub turn_ended : (v : View) (seat : ℕ) (c : Command) (a : Answer) (t : View) (why : RowStop) (front : Rows → List Event → Type 0) (asks : List Event → Rows → Asked → Type 0)
@@ -89,19 +112,23 @@ turn_ended v seat c a t why front asks ending stay active calm cut ends none abo
     let done = over_then (v.session seat) (t.session seat) w goes.own stand idle in
     let f : Finished = record { work = done.0; fate = world.aborts } in record {
       others = goes.others;
+      saves = goes.saves;
       opening = goes.opening;
       tail = same_tail v.tail t.tail goes.tail;
       goes = continues_from (v.session seat) (t.session seat) (world.active w) stand (f ∷ []) done.2
           (done.0, done.1, inr (inr (f, [], (v.session seat).over, done.2, refl)));
       phase = phase ∙ sym (ap phase_of idle);
-      tells = λ p told. subst (λ (q : Progress). Tells seat q (t.session seat)) (sym (hears p)) (record {
-        over = subst (λ (fs : List Finished). TellsOver seat (ended ending (goes_on (Some c) a p)).over (ended ending (goes_on (Some c) a p)).snapshots fs) (sym done.2)
-            (aborted_told seat ending p.over (goes_on (Some c) a p).current p.snapshots (goes_on (Some c) a p).snapshot (v.session seat).over w done.0 aborts done.1.number done.1.begin
-            (λ steps. stay w done.0 steps done.1) told.over
-            (unchanged_told seat (Some c) a p.current (world.active w) (none_replied c a none) (now_active seat p (v.session seat) active told))
-            (none_after (Some c) a p calm (none_active seat p (v.session seat) active told)));
-        now = subst (λ (at : Stand). TellsNow seat None at) (sym idle) tt;
-        watched = subst (λ (at : Stand). TellsWatched None at) (sym idle) tt;
+      tells = λ p told. subst (λ (q : Progress). TellsAt seat q t) (sym (hears p)) (record {
+        tells = record {
+          over = subst (λ (fs : List Finished). TellsOver seat (ended ending (goes_on (Some c) a p)).over (ended ending (goes_on (Some c) a p)).snapshots fs) (sym done.2)
+              (aborted_told seat ending p.over (goes_on (Some c) a p).current p.snapshots (goes_on (Some c) a p).snapshot (v.session seat).over w done.0 aborts done.1.number done.1.begin
+              (λ steps. stay w done.0 steps done.1) told.tells.over
+              (unchanged_told seat (Some c) a p.current (world.active w) (none_replied c a none) (now_active seat p (v.session seat) active told.tells))
+              (none_after (Some c) a p calm (none_active seat p (v.session seat) active told.tells)));
+          now = subst (λ (at : Stand). TellsNow seat None at) (sym idle) tt;
+          watched = subst (λ (at : Stand). TellsWatched None at) (sym idle) tt;
+        };
+        runs = λ one is at. absurd (cc);
       });
     }
 
@@ -110,7 +137,7 @@ pub the_answer : (told a : Answer) → Some told ≡ Some a → told ≡ a
 the_answer told a is = cc
 
 module _ (stay : (w u : Work) (steps : List Step) → Extends w u → IsAnswered w steps → IsAnswered u steps) where
-  module _ (v : View) (seat : ℕ) (c : Command) (t : View) (active : phase_at v seat ≡ Active) (waits : phase_after_wait (Some c) (phase_at v seat) ≡ phase_at v seat)
+  module _ (v : View) (seat : ℕ) (c : Command) (t : View) (active : phase_at v seat ≡ Active) (named : IsSome (table_of c)) (waits : phase_after_wait (Some c) (phase_at v seat) ≡ phase_at v seat)
       (calm : asks_safe (Some c) ≡ false) where
     -- the answer to a refusal tells what it did
     abbrev Cut : RowStop → Type 0
@@ -154,7 +181,9 @@ module _ (stay : (w u : Work) (steps : List Step) → Extends w u → IsAnswered
     -- an operation that was answered, or cut off
     pub turn_operation : (a : Answer) → DidOperation v seat c a t → At a
     turn_operation (answer.Replied r) (op, is, did) =
-        turn_ran v seat (Some c) (answer.Replied r) t (record { op = op; reply = r } ∷ []) (WholeOf c (answer.Replied r)) active calm did (one_replied c op r is) refl (λ p. refl)
+        turn_ran v seat (Some c) (answer.Replied r) t (record { op = op; reply = r } ∷ []) (WholeOf c (answer.Replied r)) active calm did (one_replied c op r is)
+        (λ u. held_on_map (Some c) (answer.Replied r) u (record { op = op; reply = r }) (one_replied c op r is) (named_on_map c op named is)) refl (λ p. refl)
     turn_operation (answer.Cut cells) (is, few, did) =
-        turn_ran v seat (Some c) (answer.Cut cells) t [] (WholeOf c (answer.Cut cells)) active calm did (none_asked c (answer.Cut cells) is) refl (λ p. refl)
+        turn_ran v seat (Some c) (answer.Cut cells) t [] (WholeOf c (answer.Cut cells)) active calm did (none_asked c (answer.Cut cells) is)
+        (λ u. held_still (Some c) (answer.Cut cells) u (none_asked c (answer.Cut cells) is)) refl (λ p. refl)
     turn_operation a did = refused_as a did

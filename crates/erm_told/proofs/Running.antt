@@ -65,3 +65,9 @@ over_then s t w (works x u was over after more) before idle =
     not_idle t.stand u ((y : Work) × Extends w y × (t.over ≡ s.over ++ record { work = y; fate = world.aborts } ∷ [])) after idle
 over_then s t w (ends x u was over after more) before idle =
     (u, subst (λ (y : Work). Extends y u) (its_work s.stand x w was before) more, over)
+
+-- and its savepoints are those that it had
+pub ran_saves : (v : View) (seat : ℕ) (events : List Event) (t : View) → phase_at v seat ≡ Active → Ran v seat events t → t.saves seat ≡ v.saves seat
+ran_saves v seat [] t active is = ap (λ (u : View). u.saves seat) is
+ran_saves v seat (event ∷ events) t active (u, answered, rest) =
+    let first = went sound_law v seat event u active answered in ran_saves u seat events t (ap phase_of first.stand) rest ∙ first.saves

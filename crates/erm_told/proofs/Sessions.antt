@@ -7,7 +7,7 @@ use Rattle.erm_script.specs.declared.script.Command.{Command}
 use Rattle.erm_script.specs.declared.script.Command.TheVariants as command
 use Rattle.erm_world.specs.World.{Fate, Finished, Stand, Work, stamp_of}
 use Rattle.erm_world.specs.World as world
-use Rattle.erm_maps.specs.Runs.{IsAnswered, IsRunOf}
+use Rattle.erm_maps.specs.Runs.{IsAnswered, WasRun}
 use Rattle.erm_good_report.specs.Phases.{asks_safe}
 use Rattle.erm_good_report.specs.Transactions.{Ending, Progress, Snapshot, Transaction, heard, next_number, snapshot_after, steps_of, with_ending, with_line, with_look, with_seal}
 use Rattle.erm_lines.specs.Told.{EndsAs, RanAs, Tells, TellsCurrent, TellsEnded, TellsNow, TellsOne, TellsOver, TellsSnapshot, TellsWatch, TellsWatched, TellsWork}
@@ -94,7 +94,7 @@ pub still_watched : (asked : Option Command) (a : Answer) (p : Progress) (stand 
 still_watched asked a p stand calm told = subst (λ (o : Option Snapshot). TellsWatched o stand) (sym (look_after a asked p calm)) (look_watched asked a p.snapshot stand told)
 
 -- a transaction begins
-pub begun_told : (seat begin : ℕ) (asked : Option Command) (p : Progress) (over : List Finished) → IsRunOf (world.begun (length over + 1) begin) []
+pub begun_told : (seat begin : ℕ) (asked : Option Command) (p : Progress) (over : List Finished) → WasRun (world.begun (length over + 1) begin) []
     → TellsOver seat p.over p.snapshots over → TellsWatched p.snapshot world.idle
     → Tells seat (heard seat asked (answer.Began begin) p) (record { over = over; stand = world.active (world.begun (length over + 1) begin) })
 begun_told seat begin asked p over run told watched = record {
@@ -112,24 +112,26 @@ begun_told seat begin asked p over run told watched = record {
 
 -- a line more of one that goes on
 lined : (seat : ℕ) (asked : Option Command) (a : Answer) (t : Transaction) (w u : Work) → u.number ≡ w.number → u.begin ≡ w.begin
-    → ((before : List Step) → IsRunOf w before → IsRunOf u (before ++ added asked a)) → TellsCurrent seat t w → TellsCurrent seat (with_line asked a t) u
+    → WasRun u (steps_of (with_line asked a t)) → TellsCurrent seat t w → TellsCurrent seat (with_line asked a t) u
 lined seat asked a t w u number begin run told = record {
   work = record { session = told.work.session; number = told.work.number ∙ sym number; begin = told.work.begin ∙ sym begin };
   unfinished = told.unfinished;
-  ran = subst (λ (steps : List Step). IsRunOf u steps) (sym (steps_with asked a t)) (run (steps_of t) told.ran);
+  ran = run;
 }
 
 -- the current one goes on with a line
 pub active_told : (seat : ℕ) (asked : Option Command) (a : Answer) (current : Option Transaction) (w u : Work) → u.number ≡ w.number → u.begin ≡ w.begin
-    → ((before : List Step) → IsRunOf w before → IsRunOf u (before ++ added asked a)) → TellsNow seat current (world.active w)
+    → ((t : Transaction) → current ≡ Some t → WasRun u (steps_of (with_line asked a t))) → TellsNow seat current (world.active w)
     → TellsNow seat (option_map (with_line asked a) current) (world.active u)
 active_told seat asked a None w u number begin run told = absurd told
-active_told seat asked a (Some t) w u number begin run told = (lined seat asked a t w u number begin run told.0, told.1)
+active_told seat asked a (Some t) w u number begin run told = (lined seat asked a t w u number begin (run t refl) told.0, told.1)
 
--- a run of which no operation more is told
-same_run : (w : Work) (more before : List Step) → more ≡ [] → IsRunOf w before → IsRunOf w (before ++ more)
-same_run w more before none run =
-    subst (λ (steps : List Step). IsRunOf w steps) (sym (ap (λ (list : List Step). before ++ list) none ∙ append-nil before)) run
+-- a line that tells no operation leaves the steps
+pub same_steps : (asked : Option Command) (a : Answer) (t : Transaction) → added asked a ≡ [] → steps_of (with_line asked a t) ≡ steps_of t
+same_steps asked a t none = steps_with asked a t ∙ ap (λ (list : List Step). steps_of t ++ list) none ∙ append-nil (steps_of t)
+
+same_run : (asked : Option Command) (a : Answer) (t : Transaction) (w : Work) → added asked a ≡ [] → WasRun w (steps_of t) → WasRun w (steps_of (with_line asked a t))
+same_run asked a t w none run = subst (λ (steps : List Step). WasRun w steps) (sym (same_steps asked a t none)) run
 
 -- a line of a current one that tells no operation
 pub unchanged_told : (seat : ℕ) (asked : Option Command) (a : Answer) (current : Option Transaction) (stand : Stand) → added asked a ≡ []
@@ -137,9 +139,9 @@ pub unchanged_told : (seat : ℕ) (asked : Option Command) (a : Answer) (current
 unchanged_told seat asked a None stand none told = told
 unchanged_told seat asked a (Some t) world.idle none told = absurd told
 unchanged_told seat asked a (Some t) (world.active w) none told =
-    (lined seat asked a t w w refl refl (λ before. same_run w (added asked a) before none) told.0, told.1)
+    (lined seat asked a t w w refl refl (same_run asked a t w none told.0.ran) told.0, told.1)
 unchanged_told seat asked a (Some t) (world.sealed w stamp) none told =
-    (lined seat asked a t w w refl refl (λ before. same_run w (added asked a) before none) told.0, told.1)
+    (lined seat asked a t w w refl refl (same_run asked a t w none told.0.ran) told.0, told.1)
 unchanged_told seat asked a (Some t) (world.snapshot s) none told = absurd told
 
 -- a transaction of the same name
@@ -176,13 +178,13 @@ aborted_told seat ending ts (Some t) ss watched over w u ends number begin answe
     (one_more seat ts ss over (with_ending ending t) (record { work = u; fate = world.aborts }) told (record {
       work = record { session = now.0.work.session; number = now.0.work.number ∙ sym number; begin = now.0.work.begin ∙ sym begin };
       ends = ends;
-      ran = answered (steps_of t) now.0.ran.run;
+      ran = answered (steps_of t) now.0.ran.1.run;
       sealed = λ stamp is. unsealed t.sealed stamp (stamp_of world.aborts ≡ Some stamp) now.1 is;
     }))
 
 -- one with its commit stamp was decided
 pub decided_told : (seat : ℕ) (ending : Ending) (fate : Fate) (ts : List Transaction) (current : Option Transaction) (ss : List Snapshot) (watched : Option Snapshot) (over : List Finished)
-    (w : Work) (stamp : ℕ) → EndsAs ending fate → stamp_of fate ≡ Some stamp → ((steps : List Step) → IsRunOf w steps → RanAs fate w steps)
+    (w : Work) (stamp : ℕ) → EndsAs ending fate → stamp_of fate ≡ Some stamp → ((steps : List Step) → WasRun w steps → RanAs fate w steps)
     → TellsOver seat ts ss over → TellsNow seat current (world.sealed w stamp) → watched ≡ None
     → TellsOver seat (ts ++ option_to_list (option_map (with_ending ending) current)) (ss ++ option_to_list watched) (over ++ record { work = w; fate = fate } ∷ [])
 decided_told seat ending fate ts None ss watched over w stamp ends is ran told now none = absurd now
