@@ -5,9 +5,11 @@ use Rattle.erm_model.specs.declared.outcome.Phase.TheVariants.{Active}
 use Rattle.erm_model.specs.Run.{Step}
 use Rattle.erm_report.specs.declared.answer.Answer.{Answer}
 use Rattle.erm_report.specs.declared.answer.Answer.TheVariants as answer
+use Rattle.erm_world.specs.Going.{Extends}
 use Rattle.erm_world.specs.Saves.{WentBack, holding, restored, with_claims}
 use Rattle.erm_world.specs.World.{Session, View, Work, phase_at, phase_of, work_at, work_of}
 use Rattle.erm_maps.specs.Runs.{IsRunOf, Kept, going_back, kept_at, saving}
+use Rattle.erm_maps.proofs.GoingOn.{extends_restored}
 use Rattle.erm_maps.proofs.Kept.{IsRunOf-going_back, IsRunOf-saving, back_step, save_step}
 use Rattle.erm_lines.specs.Answers.{DidAskBack, DidAskSave}
 
@@ -78,7 +80,7 @@ back_goes v t seat n did =
     }
 
 pub went_back : (v t : View) (seat n : ℕ) (a : Answer) → DidAskBack v seat n a t → Saves v seat t
-went_back v t seat n (answer.Back m) did = back_goes v t seat n did.1
+went_back v t seat n (answer.Back m) (same, did, more) = back_goes v t seat n did
 went_back v t seat n (answer.NoSave held) did = still v t seat did.0
 went_back v t seat n a did = absurd did
 
@@ -119,6 +121,12 @@ saved_runs v t seat answer.SavesFull run did = still_runs v t seat did.0 run
 saved_runs v t seat a run did = absurd did
 
 pub went_back_runs : (v t : View) (seat n : ℕ) (a : Answer) → IsRunAt v seat → DidAskBack v seat n a t → IsRunAt t seat
-went_back_runs v t seat n (answer.Back m) run did = (run.0 ++ back_step n ∷ [], back_runs v t seat n run.0 run.1 did.1)
+went_back_runs v t seat n (answer.Back m) run (same, did, more) = (run.0 ++ back_step n ∷ [], back_runs v t seat n run.0 run.1 did)
 went_back_runs v t seat n (answer.NoSave held) run did = still_runs v t seat did.0 run
 went_back_runs v t seat n a run did = absurd did
+
+-- it has gone on
+pub back_extends : (v t : View) (seat n : ℕ) → IsRunAt v seat → WentBack v seat n t → Extends (work_at v seat) (work_at t seat)
+back_extends v t seat n run did =
+    subst (λ (k : Kept). Extends (work_at v seat) k.work) (sym (kept_back v t seat n did))
+    (extends_restored (work_at v seat) did.saved (run.1.saves did.place did.saved did.was_saved))

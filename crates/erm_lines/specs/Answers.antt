@@ -19,6 +19,7 @@ use Rattle.erm_world.specs.declared.stops.SafeStop.TheVariants as safe
 use Rattle.erm_world.specs.declared.stops.SaveStop.TheVariants as save
 use Rattle.erm_world.specs.declared.stops.Wait.TheVariants as wait
 use Rattle.erm_world.specs.Calls.{DidAbort, DidBegin, DidNotSettle, DidSeal, DidSettle, MayNotBegin}
+use Rattle.erm_world.specs.Going.{Extends}
 use Rattle.erm_world.specs.Safe.{DidBeginSafe, DidNotSafe, DidSafe}
 use Rattle.erm_world.specs.Saves.{DidNotSave, DidSave, HasNoSave, WentBack}
 use Rattle.erm_world.specs.World.{Fate, Finished, IsSession, View, phase_at, size_of, work_at}
@@ -57,9 +58,9 @@ DidAskSave v seat (answer.Saved held) t = DidSave v seat held t
 DidAskSave v seat answer.SavesFull t = DidNotSave v seat (save.SavesFull SAVES) t
 DidAskSave v seat a t = ⊥
 
--- it went back to its n-th savepoint, or has none of this number
+-- it went back to its n-th savepoint, and so goes on: what it has read, claimed and made stays so; or it has none of this number
 abbrev pub DidAskBack : View → ℕ → ℕ → Answer → View → Type 0
-DidAskBack v seat n (answer.Back m) t = (m ≡ n) × WentBack v seat n t
+DidAskBack v seat n (answer.Back m) t = (m ≡ n) × WentBack v seat n t × Extends (work_at v seat) (work_at t seat)
 DidAskBack v seat n (answer.NoSave held) t = HasNoSave v seat n held t
 DidAskBack v seat n a t = ⊥
 

@@ -1,6 +1,8 @@
 //! Savepoints of a session's transaction.
-ghost use Rattle.std.specs.Prelude.{◌≡◌, IfOk};
+ghost use Rattle.std.specs.Prelude.{◌≡◌, IfOk, List};
 ghost use Rattle.erm_model.specs.declared.outcome.Phase.TheVariants.{Active};
+ghost use Rattle.erm_model.specs.Run.{Step};
+ghost use Rattle.erm_maps.specs.Runs.{IsRunOf, kept_at};
 ghost use Rattle.erm_world.specs.World.{IsSession, phase_at};
 ghost use Rattle.erm_lines.specs.Whole.{WasAnswered};
 
@@ -25,11 +27,12 @@ pub fn save<W: RowWorld>(world: &mut W, seat: Seat) -> Result<Answer, AllocError
     }
 }
 
-/// Goes back to a savepoint of a transaction, where it holds one of this number.
+/// Goes back to a savepoint of a transaction, which is the run of some operations, where it holds one of this number.
 pub fn back<W: RowWorld>(world: &mut W, seat: Seat, n: u32) -> Answer
     requires stands { W.stands world.old }
     requires session { IsSession (W.view world.old) seat }
     requires active { phase_at (W.view world.old) seat ≡ Active }
+    requires ran { (steps : List Step) × IsRunOf (kept_at (W.view world.old) seat) steps }
     ensures stands { W.stands world.new }
     ensures answered { WasAnswered (W.view world.old) seat (Command.Back n) result (W.view world.new) }
 {

@@ -20,6 +20,9 @@ save-requires-clause-active g c = active_in (phase_at (g.W.RowWorld.view c.args.
 pub back-requires-clause-active : goal.back-requires-clause-active
 back-requires-clause-active g c = active_in (phase_at (g.W.RowWorld.view c.args.world.now) c.args.seat) c.args.command.now NeedsWriter (ap need_of c.in-Back.is) tt c.requires.plain c.requires.free
 
+pub back-requires-clause-ran : goal.back-requires-clause-ran
+back-requires-clause-ran g c = c.requires.ran (active_in (phase_at (g.W.RowWorld.view c.args.world.now) c.args.seat) c.args.command.now NeedsWriter (ap need_of c.in-Back.is) tt c.requires.plain c.requires.free)
+
 pub seal-requires-clause-active : goal.seal-requires-clause-active
 seal-requires-clause-active g c = active_in (phase_at (g.W.RowWorld.view c.args.world.now) c.args.seat) c.args.command.now NeedsWriter (ap need_of c.in-Seal.is) tt c.requires.plain c.requires.free
 
