@@ -4,12 +4,12 @@ use Rattle.std.specs.List.{All, AllPairs}
 use Rattle.std.proofs.lemmas.Bool.{cases_lt}
 use Rattle.std.proofs.lemmas.Option.{get_or_from_slice_get, slice_get_within}
 use Rattle.erm_model.specs.declared.operation.Op.{Op}
-use Rattle.erm_model.specs.declared.operation.Op.TheVariants.{Get, Put, Del, Next, Scan}
+use Rattle.erm_model.specs.declared.operation.Op.TheVariants.{Get, Put, Del, Next, Scan, Save, Back}
 use Rattle.erm_model.specs.declared.operation.Reply.{Reply}
 use Rattle.erm_model.specs.declared.operation.Reply.TheVariants as reply
 use Rattle.erm_model.specs.Database.{Database, value_at, AreFound, IsNextAt}
 use Rattle.erm_model.specs.Member.{◌∈◌}
-use Rattle.erm_model.specs.Run.{Step, after, after_all, IsReply, RunsOne, RunsAll, ops_of, RepliesAreDetermined}
+use Rattle.erm_model.specs.Run.{Saving, Step, after, after_all, begins, IsReplyOn, RunsFrom, RunsAll, ops_of, RepliesAreDetermined}
 use Rattle.erm_model.proofs.Members.{none_in_nil, ∈-behind}
 
 -- of two next keys, neither is below the other
@@ -82,25 +82,31 @@ AreFound-unique m table low high xs ys a b = same_pairs xs ys a.ascend b.ascend
     (λ z found. let is = all_at (IsFound m table low high) ys z b.within found in a.all z.0 z.1 is.0 is.1 is.2 is.3)
 
 -- the reply is the only one
-pub IsReply-unique : (m : Database) (op : Op) (r s : Reply) → IsReply m op r → IsReply m op s → r ≡ s
-IsReply-unique m (Get table key) r s a b = a ∙ sym b
-IsReply-unique m (Put table key value) r s a b = a ∙ sym b
-IsReply-unique m (Del table key) r s a b = a ∙ sym b
-IsReply-unique m (Next table from) r s a b = a.1 ∙ ap reply.Pair (IsNextAt-unique m table from a.0 b.0 a.2 b.2) ∙ sym b.1
-IsReply-unique m (Scan table low high) r s a b = a.1 ∙ ap reply.Found (AreFound-unique m table low high a.0 b.0 a.2 b.2) ∙ sym b.1
+pub IsReplyOn-unique : (m : Database) (op : Op) (r s : Reply) → IsReplyOn m op r → IsReplyOn m op s → r ≡ s
+IsReplyOn-unique m (Get table key) r s a b = a ∙ sym b
+IsReplyOn-unique m (Put table key value) r s a b = a ∙ sym b
+IsReplyOn-unique m (Del table key) r s a b = a ∙ sym b
+IsReplyOn-unique m (Next table from) r s a b = a.1 ∙ ap reply.Pair (IsNextAt-unique m table from a.0 b.0 a.2 b.2) ∙ sym b.1
+IsReplyOn-unique m (Scan table low high) r s a b = a.1 ∙ ap reply.Found (AreFound-unique m table low high a.0 b.0 a.2 b.2) ∙ sym b.1
+IsReplyOn-unique m Save r s a b = a ∙ sym b
+IsReplyOn-unique m (Back n) r s a b = a ∙ sym b
 
-pub replies_determined : RepliesAreDetermined
-replies_determined m [] [] same a b = refl
-replies_determined m [] (y ∷ ys) same a b = cc
-replies_determined m (x ∷ xs) [] same a b = cc
-replies_determined m (x ∷ xs) (y ∷ ys) same a b =
+-- steps from one state that do the same operations are answered the same
+pub RunsFrom-unique : (s : Saving Database) (xs ys : List Step) → ops_of xs ≡ ops_of ys → RunsFrom s xs → RunsFrom s ys → xs ≡ ys
+RunsFrom-unique s [] [] same a b = refl
+RunsFrom-unique s [] (y ∷ ys) same a b = cc
+RunsFrom-unique s (x ∷ xs) [] same a b = cc
+RunsFrom-unique s (x ∷ xs) (y ∷ ys) same a b =
     let op : x.op ≡ y.op = cc in
     let rest : ops_of xs ≡ ops_of ys = cc in
-    let told : IsReply m y.op x.reply = subst (λ o. IsReply m o x.reply) op a.0 in
-    let reply = IsReply-unique m y.op x.reply y.reply told b.0 in
-    let later : RunsOne (after y.op m) xs = subst (λ o. RunsOne (after o m) xs) op a.1 in
-    let tail = replies_determined (after y.op m) xs ys rest later b.1 in
+    let told : IsReplyOn s.now y.op x.reply = subst (λ (o : Op). IsReplyOn s.now o x.reply) op a.0 in
+    let reply = IsReplyOn-unique s.now y.op x.reply y.reply told b.0 in
+    let later : RunsFrom (after y.op s) xs = subst (λ (o : Op). RunsFrom (after o s) xs) op a.1 in
+    let tail = RunsFrom-unique (after y.op s) xs ys rest later b.1 in
     λ i. record { op = op i; reply = reply i } ∷ tail i
+
+pub replies_determined : RepliesAreDetermined
+replies_determined m xs ys same a b = RunsFrom-unique (begins m) xs ys same a b
 
 -- transactions one after another end at one database map
 pub RunsAll-unique : (m n k : Database) (transactions : List (List Step)) → RunsAll m transactions n → RunsAll m transactions k → n ≡ k

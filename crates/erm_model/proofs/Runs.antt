@@ -1,46 +1,50 @@
 -- Runs joined end to end.
 use Rattle.std.proofs.Common.{◌≡◌, ℕ, ◌+◌, ◌<◌, get_or, take, List, [], ◌∷◌, ◌++◌, length, refl, sym, ap, ◌∙◌, subst, arith}
-use Rattle.std.proofs.lemmas.List.{map-append, take_more, length-take-le}
+use Rattle.std.proofs.lemmas.List.{map-append, length-take-le}
 use Rattle.erm_model.specs.declared.operation.Op.{Op}
 use Rattle.erm_model.specs.declared.operation.Reply.{Reply}
 use Rattle.erm_model.specs.Database.{Database}
-use Rattle.erm_model.specs.Run.{Step, after, after_all, IsReply, RunsOne, RunsAll, ops_of, steps_of}
+use Rattle.erm_model.specs.Run.{Saving, Step, after, after_all, after_from, begins, IsReply, RunsFrom, RunsOne, RunsAll, ops_of, steps_of}
+use Rattle.erm_model.proofs.InTurn.{front_more, in_turn-append, in_turn-take_more}
 
 -- operations after others act on what those left
-pub after_all-append : (xs ys : List Op) (m : Database) → after_all (xs ++ ys) m ≡ after_all ys (after_all xs m)
-after_all-append [] ys m = refl
-after_all-append (x ∷ xs) ys m = after_all-append xs ys (after x m)
+pub after_from-append : (xs ys : List Op) (s : Saving Database) → after_from (xs ++ ys) s ≡ after_from ys (after_from xs s)
+after_from-append xs ys s = in_turn-append after xs ys s
 
 -- one more operation
-pub after_all-push : (ops : List Op) (op : Op) (m : Database) → after_all (ops ++ op ∷ []) m ≡ after op (after_all ops m)
-after_all-push ops op m = after_all-append ops (op ∷ []) m
+pub after_from-push : (ops : List Op) (op : Op) (s : Saving Database) → after_from (ops ++ op ∷ []) s ≡ after op (after_from ops s)
+after_from-push ops op s = after_from-append ops (op ∷ []) s
 
 -- the operations of steps joined are theirs joined
 pub ops_of-append : (xs ys : List Step) → ops_of (xs ++ ys) ≡ ops_of xs ++ ops_of ys
 ops_of-append xs ys = map-append (λ step. step.op) xs ys
 
 -- what steps joined leave
-pub after_all-ops_of-append : (xs ys : List Step) (m : Database) → after_all (ops_of (xs ++ ys)) m ≡ after_all (ops_of ys) (after_all (ops_of xs) m)
-after_all-ops_of-append xs ys m = ap (λ ops. after_all ops m) (ops_of-append xs ys) ∙ after_all-append (ops_of xs) (ops_of ys) m
+pub after_from-ops_of-append : (xs ys : List Step) (s : Saving Database) → after_from (ops_of (xs ++ ys)) s ≡ after_from (ops_of ys) (after_from (ops_of xs) s)
+after_from-ops_of-append xs ys s = ap (λ ops. after_from ops s) (ops_of-append xs ys) ∙ after_from-append (ops_of xs) (ops_of ys) s
 
 -- what one more step leaves
-pub after_all-ops_of-push : (steps : List Step) (step : Step) (m : Database) → after_all (ops_of (steps ++ step ∷ [])) m ≡ after step.op (after_all (ops_of steps) m)
-after_all-ops_of-push steps step m = after_all-ops_of-append steps (step ∷ []) m
+pub after_from-ops_of-push : (steps : List Step) (step : Step) (s : Saving Database) → after_from (ops_of (steps ++ step ∷ [])) s ≡ after step.op (after_from (ops_of steps) s)
+after_from-ops_of-push steps step s = after_from-ops_of-append steps (step ∷ []) s
 
 -- steps go on where those before them end
-pub RunsOne-append : (m : Database) (xs ys : List Step) → RunsOne m xs → RunsOne (after_all (ops_of xs) m) ys → RunsOne m (xs ++ ys)
-RunsOne-append m [] ys first then = then
-RunsOne-append m (x ∷ xs) ys first then = (first.0, RunsOne-append (after x.op m) xs ys first.1 then)
+pub RunsFrom-append : (s : Saving Database) (xs ys : List Step) → RunsFrom s xs → RunsFrom (after_from (ops_of xs) s) ys → RunsFrom s (xs ++ ys)
+RunsFrom-append s [] ys first then = then
+RunsFrom-append s (x ∷ xs) ys first then = (first.0, RunsFrom-append (after x.op s) xs ys first.1 then)
 
 -- one more step
-pub RunsOne-push : (m : Database) (steps : List Step) (step : Step) → RunsOne m steps → IsReply (after_all (ops_of steps) m) step.op step.reply → RunsOne m (steps ++ step ∷ [])
-RunsOne-push m steps step first told = RunsOne-append m steps (step ∷ []) first (told, tt)
+pub RunsFrom-push : (s : Saving Database) (steps : List Step) (step : Step) → RunsFrom s steps → IsReply (after_from (ops_of steps) s) step.op step.reply → RunsFrom s (steps ++ step ∷ [])
+RunsFrom-push s steps step first told = RunsFrom-append s steps (step ∷ []) first (told, tt)
+
+-- one more step of a transaction
+pub RunsOne-push : (m : Database) (steps : List Step) (step : Step) → RunsOne m steps → IsReply (after_from (ops_of steps) (begins m)) step.op step.reply → RunsOne m (steps ++ step ∷ [])
+RunsOne-push m steps step first told = RunsFrom-push (begins m) steps step first told
 
 -- steps joined run as their two parts do
-pub RunsOne-parts : (m : Database) (xs ys : List Step) → RunsOne m (xs ++ ys) → RunsOne m xs × RunsOne (after_all (ops_of xs) m) ys
-RunsOne-parts m [] ys run = (tt, run)
-RunsOne-parts m (x ∷ xs) ys run =
-    let parts = RunsOne-parts (after x.op m) xs ys run.1 in
+pub RunsFrom-parts : (s : Saving Database) (xs ys : List Step) → RunsFrom s (xs ++ ys) → RunsFrom s xs × RunsFrom (after_from (ops_of xs) s) ys
+RunsFrom-parts s [] ys run = (tt, run)
+RunsFrom-parts s (x ∷ xs) ys run =
+    let parts = RunsFrom-parts (after x.op s) xs ys run.1 in
     ((run.0, parts.0), parts.1)
 
 -- transactions go on where those before them end
@@ -73,22 +77,19 @@ steps_of-push (o ∷ ops) op [] reply same = absurd (omega arith)
 steps_of-push (o ∷ ops) op (r ∷ replies) reply same = ap (λ rest. record { op = o; reply = r } ∷ rest) (steps_of-push ops op replies reply (omega arith))
 
 -- one more operation, answered on what those before it leave
-pub RunsOne-steps_of-push : (m : Database) (ops : List Op) (op : Op) (replies : List Reply) (reply : Reply) → length replies ≡ length ops → RunsOne m (steps_of ops replies) → IsReply (after_all ops m) op reply → RunsOne m (steps_of (ops ++ op ∷ []) (replies ++ reply ∷ []))
-RunsOne-steps_of-push m ops op replies reply same run told =
+pub RunsFrom-steps_of-push : (s : Saving Database) (ops : List Op) (op : Op) (replies : List Reply) (reply : Reply) → length replies ≡ length ops → RunsFrom s (steps_of ops replies) → IsReply (after_from ops s) op reply → RunsFrom s (steps_of (ops ++ op ∷ []) (replies ++ reply ∷ []))
+RunsFrom-steps_of-push s ops op replies reply same run told =
     let step : Step = record { op = op; reply = reply } in
-    subst (RunsOne m) (sym (steps_of-push ops op replies reply same))
-    (RunsOne-push m (steps_of ops replies) step run (subst (λ done. IsReply (after_all done m) op reply) (sym (ops_of-steps_of ops replies same)) told))
-
-front_more : (ops : List Op) (i : ℕ) (op : Op) → i < length ops → op ≡ get_or ops i op → take (i + 1) ops ≡ take i ops ++ op ∷ []
-front_more ops i op within is = take_more ops i op within ∙ ap (λ x. take i ops ++ x ∷ []) (sym is)
+    subst (RunsFrom s) (sym (steps_of-push ops op replies reply same))
+    (RunsFrom-push s (steps_of ops replies) step run (subst (λ done. IsReply (after_from done s) op reply) (sym (ops_of-steps_of ops replies same)) told))
 
 -- operations up to a place and the one at that place
-pub after_all-take_more : (ops : List Op) (i : ℕ) (op : Op) (m : Database) → i < length ops → op ≡ get_or ops i op → after_all (take (i + 1) ops) m ≡ after op (after_all (take i ops) m)
-after_all-take_more ops i op m within is = ap (λ done. after_all done m) (front_more ops i op within is) ∙ after_all-push (take i ops) op m
+pub after_from-take_more : (ops : List Op) (i : ℕ) (op : Op) (s : Saving Database) → i < length ops → op ≡ get_or ops i op → after_from (take (i + 1) ops) s ≡ after op (after_from (take i ops) s)
+after_from-take_more ops i op s within is = in_turn-take_more after ops i op s within is
 
 -- the same with their replies
-pub RunsOne-take_more : (m : Database) (ops : List Op) (i : ℕ) (op : Op) (replies : List Reply) (reply : Reply) → i < length ops → op ≡ get_or ops i op → length replies ≡ i → RunsOne m (steps_of (take i ops) replies) → IsReply (after_all (take i ops) m) op reply → RunsOne m (steps_of (take (i + 1) ops) (replies ++ reply ∷ []))
-RunsOne-take_more m ops i op replies reply within is same run told =
+pub RunsFrom-take_more : (s : Saving Database) (ops : List Op) (i : ℕ) (op : Op) (replies : List Reply) (reply : Reply) → i < length ops → op ≡ get_or ops i op → length replies ≡ i → RunsFrom s (steps_of (take i ops) replies) → IsReply (after_from (take i ops) s) op reply → RunsFrom s (steps_of (take (i + 1) ops) (replies ++ reply ∷ []))
+RunsFrom-take_more s ops i op replies reply within is same run told =
     let count : length replies ≡ length (take i ops) = omega (arith, length-take-le i ops (omega arith)) in
-    subst (λ done. RunsOne m (steps_of done (replies ++ reply ∷ []))) (sym (front_more ops i op within is))
-    (RunsOne-steps_of-push m (take i ops) op replies reply count run told)
+    subst (λ done. RunsFrom s (steps_of done (replies ++ reply ∷ []))) (sym (front_more ops i op within is))
+    (RunsFrom-steps_of-push s (take i ops) op replies reply count run told)

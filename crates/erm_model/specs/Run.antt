@@ -1,7 +1,7 @@
 -- What operations do to a database map and what they are answered: one transaction, which may save the map and go back, and one
 -- transaction after another.
 use Rattle.std.specs.Prelude.{◌≡◌, ℕ, zero, suc, List, [], ◌∷◌, ◌++◌, map, take, Option, Some, None}
-use Rattle.std.specs.List.{All, slice_get}
+use Rattle.std.specs.List.{slice_get}
 use Rattle.std.specs.FinMap.{insert, remove}
 use Rattle.erm_model.specs.declared.operation.Op.{Op}
 use Rattle.erm_model.specs.declared.operation.Op.TheVariants.{Get, Put, Del, Next, Scan, Save, Back}
@@ -27,7 +27,8 @@ IsOnMap (Back n) = ⊥
 
 -- steps of such operations alone
 abbrev pub AreOnMap : List Step → Type 0
-AreOnMap steps = All (λ step. IsOnMap step.op) steps
+AreOnMap [] = Unit {0}
+AreOnMap (step ∷ steps) = IsOnMap step.op × AreOnMap steps
 
 -- what an operation does to the database map alone
 abbrev pub change : Op → Database → Database

@@ -14,6 +14,7 @@ mod pairs;
 mod row_stop;
 mod row_txn;
 mod run;
+mod staying;
 mod value;
 
 pub use header::{COMMIT_KIND, RUN_UNIT, SIZE_UNIT, SKIP_KIND};
@@ -21,7 +22,7 @@ pub use history::{Commit, TransactionRecord, VersionRead, VersionWritten};
 pub use key::Key;
 pub use laws::{
     arrays_fit_what_they_agree_with, lawful_transactions_have_lawful_records,
-    replies_are_determined,
+    replies_are_determined, steps_on_the_map_run_alone, what_stays_leaves_the_map,
 };
 pub use limits::{
     GREATEST_BLOCK, LAST_NUMBER, LAST_RUN, LEAST_BLOCK, LOG_END, MOST_CELLS, OID_LIMIT,
@@ -36,6 +37,7 @@ pub use pairs::Pairs;
 pub use row_stop::RowStop;
 pub use row_txn::{AnyRows, RowLaw, RowRead, RowTxn};
 pub use run::run_one;
+pub use staying::Staying;
 pub use value::{VALUE_BYTES, Value};
 
 /// An offset in the log, in words: where a block begins, and so the place of a commit in the order of commits.
