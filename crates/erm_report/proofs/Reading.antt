@@ -16,7 +16,7 @@ use Rattle.erm_model.specs.Spelling.{value_word}
 use Rattle.erm_model.specs.declared.map.Pair.{Pair}
 use Rattle.erm_model.specs.declared.operation.Reply.TheVariants as reply
 use Rattle.erm_report.specs.declared.answer.Answer.{Answer}
-use Rattle.erm_report.specs.declared.answer.Answer.TheVariants.{Began, Safe, Replied, Cut, Sealed, Committed, Excluded, Aborted, Ended, Durable, Flushed, Empty, Checkpointed, NotIdle, NoTransaction, IsSealed, NotSealed, ReadOnly, NotSafe, LogEnd, NumbersEnd, WaitSeat, WaitRing, Unsafe, Owned, Newer, ExcludedEarly, ReadsFull, WritesFull, CellsFull, OidsFull, NotFlushed, NoReceipt, Unfilled, DiskFault}
+use Rattle.erm_report.specs.declared.answer.Answer.TheVariants.{Began, Safe, Replied, Cut, Saved, Back, Sealed, Committed, Excluded, Aborted, Ended, Durable, Flushed, Empty, Checkpointed, NotIdle, NoTransaction, IsSealed, NotSealed, ReadOnly, NotSafe, LogEnd, NumbersEnd, WaitSeat, WaitRing, Unsafe, Owned, Newer, ExcludedEarly, ReadsFull, WritesFull, CellsFull, OidsFull, SavesFull, NoSave, NotFlushed, NoReceipt, Unfilled, DiskFault}
 use Rattle.erm_report.specs.declared.line.Line.{Line}
 use Rattle.erm_script.specs.declared.fault.FaultKind.{FaultKind}
 use Rattle.erm_script.specs.declared.fault.FaultKind.TheVariants as fault
@@ -95,6 +95,13 @@ not_in words =
     else if same (word_at words 0) (codes "safe") then NotSafe
     else NotFlushed (number_at words 1)
 
+-- the answer that `no` and these words spell
+abbrev no_in : List (List ℕ) → Answer
+no_in words =
+    if same (word_at words 0) (codes "transaction") then NoTransaction
+    else if same (word_at words 0) (codes "save") then NoSave (number_at words 1)
+    else NoReceipt
+
 -- the answer that has no number that a word and these words spell
 abbrev told_in : List ℕ → List (List ℕ) → Answer
 told_in word words =
@@ -103,17 +110,20 @@ told_in word words =
     else if same word (codes "aborted") then Aborted
     else if same word (codes "ended") then Ended
     else if same word (codes "read") then ReadOnly
-    else if same word (codes "no") then (if same (word_at words 0) (codes "transaction") then NoTransaction else NoReceipt)
+    else if same word (codes "no") then no_in words
     else if same word (codes "is") then IsSealed
     else if same word (codes "numbers") then NumbersEnd
     else if same word (codes "reads") then ReadsFull
     else if same word (codes "writes") then WritesFull
+    else if same word (codes "saves") then SavesFull
     else DiskFault
 
 -- the answer with one number or more that a word and these words spell, or another one
 abbrev counted_in : List ℕ → List (List ℕ) → Answer
 counted_in word words =
     if same word (codes "cut") then Cut (number_at words 0)
+    else if same word (codes "saved") then Saved (number_at words 0)
+    else if same word (codes "back") then Back (number_at words 0)
     else if same word (codes "durable") then Durable (number_at words 0)
     else if same word (codes "flushed") then Flushed (number_at words 0)
     else if same word (codes "empty") then Empty (number_at words 0)
@@ -263,6 +273,8 @@ answer_in-answer_words (Replied (reply.Pair (Some found))) fits =
     ∙ ap (λ v. Replied (reply.Pair (Some (found.0, v)))) (value_in-value_word found.1 fits.1)
 answer_in-answer_words (Replied (reply.Found pairs)) fits = ap (λ found. Replied (reply.Found found)) (pairs_in-found_words pairs fits.1)
 answer_in-answer_words (Cut count) fits = ap Cut (number_32 count fits)
+answer_in-answer_words (Saved held) fits = ap Saved (number_32 held fits)
+answer_in-answer_words (Back n) fits = ap Back (number_32 n fits)
 answer_in-answer_words (Sealed stamp) fits = ap Sealed (number_in-decimal stamp fits)
 answer_in-answer_words (Committed stamp succ pred) fits =
     let first = number_in-decimal stamp fits.0 in
@@ -299,6 +311,7 @@ answer_in-answer_words (ExcludedEarly succ pred) fits =
     cc
 answer_in-answer_words (CellsFull drawn) fits = ap CellsFull (number_in-decimal drawn fits)
 answer_in-answer_words (OidsFull drawn) fits = ap OidsFull (number_in-decimal drawn fits)
+answer_in-answer_words (NoSave held) fits = ap NoSave (number_32 held fits)
 answer_in-answer_words (NotFlushed flushed) fits = ap NotFlushed (number_in-decimal flushed fits)
 answer_in-answer_words (Unfilled stamp) fits = ap Unfilled (number_in-decimal stamp fits)
 answer_in-answer_words a fits = refl

@@ -12,7 +12,7 @@ use Rattle.hex.proofs.HexLemmas.{decode_of-ok, decode_of-encode_lower}
 use Rattle.erm_model.specs.Spelling.{value_word}
 use Rattle.erm_model.specs.declared.operation.Reply.TheVariants as reply
 use Rattle.erm_report.specs.declared.answer.Answer.{Answer}
-use Rattle.erm_report.specs.declared.answer.Answer.TheVariants.{Began, Safe, Replied, Cut, Sealed, Committed, Excluded, Aborted, Ended, Durable, Flushed, Empty, Checkpointed, NotIdle, NoTransaction, IsSealed, NotSealed, ReadOnly, NotSafe, LogEnd, NumbersEnd, WaitSeat, WaitRing, Unsafe, Owned, Newer, ExcludedEarly, ReadsFull, WritesFull, CellsFull, OidsFull, NotFlushed, NoReceipt, Unfilled, DiskFault}
+use Rattle.erm_report.specs.declared.answer.Answer.TheVariants.{Began, Safe, Replied, Cut, Saved, Back, Sealed, Committed, Excluded, Aborted, Ended, Durable, Flushed, Empty, Checkpointed, NotIdle, NoTransaction, IsSealed, NotSealed, ReadOnly, NotSafe, LogEnd, NumbersEnd, WaitSeat, WaitRing, Unsafe, Owned, Newer, ExcludedEarly, ReadsFull, WritesFull, CellsFull, OidsFull, SavesFull, NoSave, NotFlushed, NoReceipt, Unfilled, DiskFault}
 use Rattle.erm_report.specs.declared.line.Line.{Line}
 use Rattle.erm_script.specs.declared.fault.FaultKind.{FaultKind}
 use Rattle.erm_script.specs.declared.fault.FaultKind.TheVariants as fault
@@ -72,6 +72,8 @@ answer_words (Replied (reply.Pair None)) = codes "none" ∷ []
 answer_words (Replied (reply.Pair (Some found))) = codes "pair" ∷ decimal found.0 ∷ value_word found.1 ∷ []
 answer_words (Replied (reply.Found pairs)) = codes "pairs" ∷ decimal (length pairs) ∷ found_words pairs
 answer_words (Cut count) = codes "cut" ∷ decimal count ∷ []
+answer_words (Saved held) = codes "saved" ∷ decimal held ∷ []
+answer_words (Back n) = codes "back" ∷ decimal n ∷ []
 answer_words (Sealed stamp) = codes "sealed" ∷ decimal stamp ∷ []
 answer_words (Committed stamp succ pred) = codes "committed" ∷ decimal stamp ∷ codes "succ" ∷ decimal succ ∷ codes "pred" ∷ decimal pred ∷ []
 answer_words (Excluded stamp succ pred) = codes "excluded" ∷ codes "at" ∷ decimal stamp ∷ codes "succ" ∷ decimal succ ∷ codes "pred" ∷ decimal pred ∷ []
@@ -99,6 +101,8 @@ answer_words ReadsFull = codes "reads" ∷ codes "full" ∷ []
 answer_words WritesFull = codes "writes" ∷ codes "full" ∷ []
 answer_words (CellsFull drawn) = codes "cells" ∷ codes "full" ∷ decimal drawn ∷ []
 answer_words (OidsFull drawn) = codes "oids" ∷ codes "full" ∷ decimal drawn ∷ []
+answer_words SavesFull = codes "saves" ∷ codes "full" ∷ []
+answer_words (NoSave held) = codes "no" ∷ codes "save" ∷ decimal held ∷ []
 answer_words (NotFlushed flushed) = codes "not" ∷ codes "flushed" ∷ decimal flushed ∷ []
 answer_words NoReceipt = codes "no" ∷ codes "receipt" ∷ []
 answer_words (Unfilled stamp) = codes "unfilled" ∷ decimal stamp ∷ []
@@ -200,6 +204,8 @@ parts_at-answer_text (Replied (reply.Pair (Some found))) fits =
 parts_at-answer_text (Replied (reply.Found pairs)) fits =
     more (codes "pairs") _ _ refl (parts_at-found (decimal (length pairs)) pairs (number (length pairs) fits.0) fits.1)
 parts_at-answer_text (Cut count) fits = more (codes "cut") _ _ refl (last (decimal count) (number_32 count fits))
+parts_at-answer_text (Saved held) fits = more (codes "saved") _ _ refl (last (decimal held) (number_32 held fits))
+parts_at-answer_text (Back n) fits = more (codes "back") _ _ refl (last (decimal n) (number_32 n fits))
 parts_at-answer_text (Sealed stamp) fits = more (codes "sealed") _ _ refl (last (decimal stamp) (number stamp fits))
 parts_at-answer_text (Committed stamp succ pred) fits = more (codes "committed") _ _ refl (parts_at-stamps_text stamp succ pred fits.0 fits.1 fits.2)
 parts_at-answer_text (Excluded stamp succ pred) fits = more (codes "excluded") _ _ refl (more (codes "at") _ _ refl (parts_at-stamps_text stamp succ pred fits.0 fits.1 fits.2))
@@ -235,6 +241,8 @@ parts_at-answer_text ReadsFull fits = more (codes "reads") _ _ refl (last (codes
 parts_at-answer_text WritesFull fits = more (codes "writes") _ _ refl (last (codes "full") refl)
 parts_at-answer_text (CellsFull drawn) fits = more (codes "cells") _ _ refl (more (codes "full") _ _ refl (last (decimal drawn) (number drawn fits)))
 parts_at-answer_text (OidsFull drawn) fits = more (codes "oids") _ _ refl (more (codes "full") _ _ refl (last (decimal drawn) (number drawn fits)))
+parts_at-answer_text SavesFull fits = more (codes "saves") _ _ refl (last (codes "full") refl)
+parts_at-answer_text (NoSave held) fits = more (codes "no") _ _ refl (more (codes "save") _ _ refl (last (decimal held) (number_32 held fits)))
 parts_at-answer_text (NotFlushed flushed) fits = more (codes "not") _ _ refl (more (codes "flushed") _ _ refl (last (decimal flushed) (number flushed fits)))
 parts_at-answer_text NoReceipt fits = more (codes "no") _ _ refl (last (codes "receipt") refl)
 parts_at-answer_text (Unfilled stamp) fits = more (codes "unfilled") _ _ refl (last (decimal stamp) (number stamp fits))
@@ -349,6 +357,8 @@ answer_end (Replied (reply.Pair None)) fits = refl
 answer_end (Replied (reply.Pair (Some found))) fits = three (decimal found.0) (codes " ") (value_word found.1) (digits_end found.0 fits.0) refl (value_end found.1 fits.1)
 answer_end (Replied (reply.Found pairs)) fits = lacks-append 10 (decimal (length pairs)) (flat_map found_text pairs) (digits_end (length pairs) fits.0) (found_end pairs fits.1)
 answer_end (Cut count) fits = digits_end_32 count fits
+answer_end (Saved held) fits = digits_end_32 held fits
+answer_end (Back n) fits = digits_end_32 n fits
 answer_end (Sealed stamp) fits = digits_end stamp fits
 answer_end (Committed stamp succ pred) fits = stamps_end stamp succ pred fits.0 fits.1 fits.2
 answer_end (Excluded stamp succ pred) fits = stamps_end stamp succ pred fits.0 fits.1 fits.2
@@ -365,6 +375,7 @@ answer_end (Newer stamp) fits = digits_end stamp fits
 answer_end (ExcludedEarly succ pred) fits = three (decimal succ) (codes " pred ") (decimal pred) (digits_end succ fits.0) refl (digits_end pred fits.1)
 answer_end (CellsFull drawn) fits = digits_end drawn fits
 answer_end (OidsFull drawn) fits = digits_end drawn fits
+answer_end (NoSave held) fits = digits_end_32 held fits
 answer_end (NotFlushed flushed) fits = digits_end flushed fits
 answer_end (Unfilled stamp) fits = digits_end stamp fits
 answer_end a fits = refl

@@ -42,6 +42,8 @@ keyword_in word =
     else if same word (codes "next") then keyword.Next
     else if same word (codes "scan") then keyword.Scan
     else if same word (codes "tidy") then keyword.Tidy
+    else if same word (codes "save") then keyword.Save
+    else if same word (codes "back") then keyword.Back
     else if same word (codes "seal") then keyword.Seal
     else if same word (codes "settle") then keyword.Settle
     else if same word (codes "commit") then keyword.Commit
@@ -59,6 +61,8 @@ keyword_in-word_of keyword.Del = refl
 keyword_in-word_of keyword.Next = refl
 keyword_in-word_of keyword.Scan = refl
 keyword_in-word_of keyword.Tidy = refl
+keyword_in-word_of keyword.Save = refl
+keyword_in-word_of keyword.Back = refl
 keyword_in-word_of keyword.Seal = refl
 keyword_in-word_of keyword.Settle = refl
 keyword_in-word_of keyword.Commit = refl
@@ -102,6 +106,8 @@ command_in keyword.Del words = command.Del (number_at words 0) (number_at words 
 command_in keyword.Next words = command.Next (number_at words 0) (number_at words 1)
 command_in keyword.Scan words = command.Scan (number_at words 0) (number_at words 1) (number_at words 2)
 command_in keyword.Tidy words = command.Tidy (number_at words 0) (number_at words 1)
+command_in keyword.Save words = command.Save
+command_in keyword.Back words = command.Back (number_at words 0)
 command_in keyword.Seal words = command.Seal
 command_in keyword.Settle words = command.Settle
 command_in keyword.Commit words = command.Commit
@@ -127,6 +133,7 @@ command_in-words (command.Scan table low high) ok =
     let last = number_in-decimal high ok.1 in
     cc
 command_in-words (command.Tidy table key) ok = let keys = keys_in table key ok in cc
+command_in-words (command.Back n) ok = let read = number_in-decimal n (omega (arith, ok)) in cc
 command_in-words c ok = refl
 
 -- two commands have two spellings
@@ -160,9 +167,16 @@ command_is_given (command.Scan table low high) ok = record {
   values = (tt, (tt, (tt, tt)));
 }
 command_is_given (command.Tidy table key) ok = record { long = refl; numbers = ((table, ok.0, refl), ((key, ok.1, refl), tt)); values = (tt, (tt, tt)) }
+command_is_given (command.Back n) ok = record { long = refl; numbers = ((n, ok, refl), tt); values = (tt, tt) }
 command_is_given c ok = record { long = refl; numbers = tt; values = tt }
 
 -- ---- words that are counted
+
+-- a word and some behind it are more than one
+pub more_than_one : (words : List (List ℕ)) (one : List ℕ) (rest : List ℕ) → words ≡ one ∷ words_of rest → length words ≢ 1
+more_than_one words one rest are long =
+    let two : length words ≡ length (words_of rest) + 1 = ap (λ (ws : List (List ℕ)). length ws) are ∙ omega arith in
+    omega (arith, length-slice_split (λ b. b == 32) rest)
 
 -- two words and some behind them are more than two
 pub more_than_two : (words : List (List ℕ)) (one two : List ℕ) (rest : List ℕ) → words ≡ one ∷ two ∷ words_of rest → length words ≢ 2

@@ -29,6 +29,7 @@ alone_is_bare (command.Del table key) unnamed = absurd (false≢true (sym unname
 alone_is_bare (command.Next table from) unnamed = absurd (false≢true (sym unnamed))
 alone_is_bare (command.Scan table low high) unnamed = absurd (false≢true (sym unnamed))
 alone_is_bare (command.Tidy table key) unnamed = absurd (false≢true (sym unnamed))
+alone_is_bare (command.Back n) unnamed = absurd (false≢true (sym unnamed))
 alone_is_bare c unnamed = refl
 
 -- a line of no session spells one command

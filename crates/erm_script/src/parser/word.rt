@@ -115,7 +115,10 @@ pub fn savepoint(word: &[u8]) -> Option<u32>
     ensures spelled { IfSome result (λ n. (n < 2 ^ 32) × (word.now ≡ decimal n)) }
 {
     let number = number(word)?;
-    u32::try_from(number).ok()
+    if number > u64::from(u32::MAX) {
+        return None;
+    }
+    Some(number as u32)
 }
 
 /// A value: its bytes in lower-case hexadecimal digits, or a dash where it has none.
