@@ -4,7 +4,7 @@ use Rattle.std.specs.Prelude.{◌≡◌, ℕ, List, [], ◌∷◌, ◌++◌, tak
 use Rattle.std.specs.List.{All}
 use Rattle.erm_model.specs.Database.{Database}
 use Rattle.erm_model.specs.declared.operation.Op.{Op}
-use Rattle.erm_model.specs.declared.operation.Op.TheVariants.{Del, Get, Next, Put, Scan}
+use Rattle.erm_model.specs.declared.operation.Op.TheVariants.{Back, Del, Get, Next, Put, Save, Scan}
 use Rattle.erm_model.specs.Run.{RunsAll, RunsOne, Step, after_all, ops_of}
 
 -- A transaction keeps an invariant: run alone on a map that has it, and answered as on that map, it leaves a map that has it.
@@ -40,14 +40,16 @@ abbrev pub InvariantsLast : (Database → Type 0) → Type 0
 InvariantsLast Invariant = (m n : Database) (transactions : List (List Step)) → Invariant m → All (Keeps Invariant) transactions → RunsAll m transactions n
     → Lasts Invariant transactions m n
 
--- an operation reads
+-- an operation sets no key's value: it reads, or it saves the map or goes back to one that was saved
 abbrev pub IsRead : Op → Type 0
 IsRead (Get table key) = Unit {0}
 IsRead (Put table key value) = ⊥
 IsRead (Del table key) = ⊥
 IsRead (Next table from) = Unit {0}
 IsRead (Scan table low high) = Unit {0}
+IsRead Save = Unit {0}
+IsRead (Back n) = Unit {0}
 
--- A transaction that only reads keeps an invariant, whatever it is.
+-- A transaction that sets no value keeps an invariant, whatever it is.
 abbrev pub ReadersKeep : (Database → Type 0) → Type 0
 ReadersKeep Invariant = (steps : List Step) → All (λ step. IsRead step.op) steps → Keeps Invariant steps

@@ -15,7 +15,7 @@ pub fn invariants_last<I: Invariant>()
     ensures { (invariant : I) → InvariantsLast (I.holds invariant) }
 {}
 
-/// A transaction that only reads keeps each invariant.
+/// A transaction that sets no value keeps each invariant.
 pub fn readers_keep_invariants<I: Invariant>()
     ensures { (invariant : I) → ReadersKeep (I.holds invariant) }
 {}
