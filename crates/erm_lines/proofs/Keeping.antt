@@ -29,11 +29,11 @@ use Rattle.erm_lines.proofs.Saved.{IsRunAt, kept_is, saved, saved_runs, went_bac
 use Rattle.erm_lines.proofs.Watched.{Watches, asked_snapshot, idle_where, in_phase, safe_rests, watched}
 
 -- where a session is active, its transaction is the run of some operations
-abbrev IsRunNow : View → ℕ → Type 0
+abbrev pub IsRunNow : View → ℕ → Type 0
 IsRunNow v seat = phase_at v seat ≡ Active → (steps : List Step) × IsRunOf (kept_at v seat) steps
 
 -- so it is of one whose session and savepoints are the same
-run_same : (v t : View) (seat : ℕ) → t.session seat ≡ v.session seat → t.saves seat ≡ v.saves seat → IsRunNow v seat → IsRunNow t seat
+pub run_same : (v t : View) (seat : ℕ) → t.session seat ≡ v.session seat → t.saves seat ≡ v.saves seat → IsRunNow v seat → IsRunNow t seat
 run_same v t seat session saves run active =
     let same : kept_at t seat ≡ kept_at v seat = kept_is (work_at t seat) (work_at v seat) (t.saves seat) (v.saves seat) (ap (λ (s : Session). work_of s.stand) session) saves in
     let was = run (sym (ap (λ (s : Session). phase_of s.stand) session) ∙ active) in
@@ -62,25 +62,25 @@ unchanged : (v t : View) → t ≡ v → AreRunsNow v → StayRuns v t
 unchanged v t is runs = (subst (λ (u : View). AreRunsNow u) (sym is) runs, ap (λ (u : View). u.opening) is)
 
 -- none is active where the session stands otherwise
-rests : (v : View) (seat : ℕ) (stand : Stand) → (v.session seat).stand ≡ stand → (phase_of stand ≡ Active → ⊥) → IsRunNow v seat
+pub rests : (v : View) (seat : ℕ) (stand : Stand) → (v.session seat).stand ≡ stand → (phase_of stand ≡ Active → ⊥) → IsRunNow v seat
 rests v seat stand is none active = absurd (none (sym (ap phase_of is) ∙ active))
 
-idle_runs : (v : View) (seat : ℕ) → (v.session seat).stand ≡ world.idle → IsRunNow v seat
+pub idle_runs : (v : View) (seat : ℕ) → (v.session seat).stand ≡ world.idle → IsRunNow v seat
 idle_runs v seat is = rests v seat world.idle is (λ active. cc)
 
-sealed_runs : (v : View) (seat : ℕ) (w : Work) (stamp : ℕ) → (v.session seat).stand ≡ world.sealed w stamp → IsRunNow v seat
+pub sealed_runs : (v : View) (seat : ℕ) (w : Work) (stamp : ℕ) → (v.session seat).stand ≡ world.sealed w stamp → IsRunNow v seat
 sealed_runs v seat w stamp is = rests v seat (world.sealed w stamp) is (λ active. cc)
 
 -- a transaction that has just begun
 abbrev pub NoneRuns : Type 0
 NoneRuns = (number begin : ℕ) → IsRunOf (record { work = begun number begin; saves = [] }) []
 
-begun_runs : NoneRuns → (v : View) (seat number begin : ℕ) → (v.session seat).stand ≡ world.active (begun number begin) → v.saves seat ≡ [] → IsRunNow v seat
+pub begun_runs : NoneRuns → (v : View) (seat number begin : ℕ) → (v.session seat).stand ≡ world.active (begun number begin) → v.saves seat ≡ [] → IsRunNow v seat
 begun_runs none v seat number begin is saves active =
     ([], subst (λ (k : Kept). IsRunOf k []) (sym (kept_is (work_at v seat) (begun number begin) (v.saves seat) [] (ap work_of is) saves)) (none number begin))
 
 -- it holds no savepoint
-begins_bare : (u : Work) (stand : Stand) (held before : List (List VersionWritten)) → phase_of stand ≡ Idle → KeepsOwnSaves (world.active u) stand held before → held ≡ []
+pub begins_bare : (u : Work) (stand : Stand) (held before : List (List VersionWritten)) → phase_of stand ≡ Idle → KeepsOwnSaves (world.active u) stand held before → held ≡ []
 begins_bare u world.idle held before idle keeps = keeps
 begins_bare u (world.active w) held before idle keeps = absurd (cc)
 begins_bare u (world.sealed w stamp) held before idle keeps = keeps

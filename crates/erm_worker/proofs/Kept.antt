@@ -1,7 +1,7 @@
 -- A session's transaction in progress stays the run of some operations, and its receipt that of its last commit, whatever a line does.
 use Rattle.std.proofs.Common.{◌≡◌, ℕ, true, false, Bool, List, [], ◌∷◌, ◌++◌, Option, Some, None, Result, Ok, Err, IfOk, OnOk, refl, sym, ap, ◌∙◌, subst}
 use Rattle.erm_model.specs.declared.history.VersionWritten.{VersionWritten}
-use Rattle.erm_model.specs.declared.outcome.Phase.TheVariants.{Active}
+use Rattle.erm_model.specs.declared.outcome.Phase.TheVariants.{Active, Idle}
 use Rattle.erm_model.specs.declared.outcome.Receipt.{Receipt}
 use Rattle.erm_model.specs.declared.row_stop.RowStop.{RowStop}
 use Rattle.erm_model.specs.RowTransaction.{ends}
@@ -19,6 +19,7 @@ use Rattle.erm_world.specs.World as world
 use Rattle.erm_maps.specs.Runs.{IsRunOf, Kept, kept_at}
 use Rattle.erm_lines.specs.Answers.{IsReceiptOf}
 use Rattle.erm_lines.specs.Operations.{AsksOf, FrontOf}
+use Rattle.erm_lines.proofs.Keeping.{NoneRuns, begins_bare, begun_runs, idle_runs, rests, run_same, sealed_runs}
 use Rattle.erm_lines.proofs.Receipts.{one_more}
 use Rattle.erm_lines.proofs.Saved.{IsRunAt, kept_is, saved, saved_runs, went_back, went_back_runs}
 use Rattle.erm_beside.specs.Calls.{Passes}
@@ -29,15 +30,6 @@ use Rattle.erm_worker.specs.Work.{IsReady, IsRunNow}
 use Rattle.erm_worker.proofs.Waits.{ran_active}
 
 -- RUNS. Where a session stands otherwise, none is active.
-rests : (v : View) (seat : ℕ) (stand : Stand) → (v.session seat).stand ≡ stand → (phase_of stand ≡ Active → ⊥) → IsRunNow v seat
-rests v seat stand is none active = absurd (none (sym (ap phase_of is) ∙ active))
-
-idle_runs : (v : View) (seat : ℕ) → (v.session seat).stand ≡ world.idle → IsRunNow v seat
-idle_runs v seat is = rests v seat world.idle is (λ active. cc)
-
-sealed_runs : (v : View) (seat : ℕ) (w : Work) (stamp : ℕ) → (v.session seat).stand ≡ world.sealed w stamp → IsRunNow v seat
-sealed_runs v seat w stamp is = rests v seat (world.sealed w stamp) is (λ active. cc)
-
 done_runs : (v t : View) (seat : ℕ) (w : Work) (fate : Fate) → IsDone v seat w fate t → IsRunNow t seat
 done_runs v t seat w fate did = idle_runs t seat (ap (λ (s : Session). s.stand) did.own)
 
@@ -47,15 +39,10 @@ decided_runs seat (answer.Excluded stamp succ pred) v t (u, passes, (w, at, stan
 decided_runs seat a v t did = absurd did
 
 -- OPERATIONS.
--- where session and savepoints are the same, so is the transaction
-kept_still : (v u : View) (seat : ℕ) → u.session seat ≡ v.session seat → u.saves seat ≡ v.saves seat → kept_at u seat ≡ kept_at v seat
-kept_still v u seat session saves = kept_is (work_at u seat) (work_at v seat) (u.saves seat) (v.saves seat) (ap (λ (s : Session). work_of s.stand) session) saves
-
 same_run : (v u : View) (seat : ℕ) → u.session seat ≡ v.session seat → u.saves seat ≡ v.saves seat → IsRunAt v seat → IsRunAt u seat
-same_run v u seat session saves run = (run.0, subst (λ (k : Kept). IsRunOf k run.0) (sym (kept_still v u seat session saves)) run.1)
-
-same_runs : (v u : View) (seat : ℕ) → u.session seat ≡ v.session seat → u.saves seat ≡ v.saves seat → IsRunNow v seat → IsRunNow u seat
-same_runs v u seat session saves run active = same_run v u seat session saves (run (sym (ap (λ (s : Session). phase_of s.stand) session) ∙ active))
+same_run v u seat session saves run =
+    let same : kept_at u seat ≡ kept_at v seat = kept_is (work_at u seat) (work_at v seat) (u.saves seat) (v.saves seat) (ap (λ (s : Session). work_of s.stand) session) saves in
+    (run.0, subst (λ (k : Kept). IsRunOf k run.0) (sym same) run.1)
 
 module _ (f : View) (seat : ℕ) (c : Command) where
   stopped_runs : (why : RowStop) (v t : View) (b : Bool) → ends why ≡ b → phase_at v seat ≡ Active → IsRunAt v seat → WereCutBeside f seat (FrontOf c) (AsksOf c) why v t → IsRunNow t seat
@@ -78,7 +65,7 @@ module _ (f : View) (seat : ℕ) (c : Command) where
 -- READY. Nothing happened to the session; its transaction went on, or was aborted; it began one, sealed it or gave it up.
 pub same_ready : (v t : View) (seat : ℕ) (r : Option Receipt) → t.session seat ≡ v.session seat → t.saves seat ≡ v.saves seat → IsReady v seat r → IsReady t seat r
 same_ready v t seat r session saves ready = record {
-  run = same_runs v t seat session saves ready.run;
+  run = run_same v t seat session saves ready.run;
   receipt = subst (λ (s : Session). IsReceiptOf s.over r) (sym session) ready.receipt;
 }
 
@@ -97,22 +84,16 @@ grown_receipt s t r (face.same is) receipt = over_receipt s t r (ap (λ (x : Ses
 grown_receipt s t r (face.works w u begins over stands more) receipt = over_receipt s t r over receipt
 grown_receipt s t r (face.ends w u begins over stands more) receipt = more_receipt s t r u over receipt
 
-abbrev pub NoneRuns : Type 0
-NoneRuns = (number begin : ℕ) → IsRunOf (record { work = begun number begin; saves = [] }) []
-
-begun_runs : NoneRuns → (v : View) (seat number begin : ℕ) → (v.session seat).stand ≡ world.active (begun number begin) → v.saves seat ≡ [] → IsRunNow v seat
-begun_runs none v seat number begin is saves active =
-    ([], subst (λ (k : Kept). IsRunOf k []) (sym (kept_is (work_at v seat) (begun number begin) (v.saves seat) [] (ap work_of is) saves)) (none number begin))
-
 module _ (none : NoneRuns) (f : View) (seat : ℕ) (v t : View) (r : Option Receipt) (ready : IsReady v seat r) where
-  pub begun_ready : (a : Answer) → DidCommandBeside f seat command.Begin a v t → IsReady t seat r
-  begun_ready (answer.Began stamp) (u, passes, did) = record {
-    run = begun_runs none t seat _ stamp (ap (λ (s : Session). s.stand) did.2.own) did.3;
+  pub begun_ready : (a : Answer) → phase_at v seat ≡ Idle → DidCommandBeside f seat command.Begin a v t → IsReady t seat r
+  begun_ready (answer.Began stamp) idle (u, passes, did) = record {
+    run = begun_runs none t seat _ stamp (ap (λ (s : Session). s.stand) did.2.own)
+        (begins_bare _ (u.session seat).stand (t.saves seat) (u.saves seat) (ap (λ (s : Session). phase_of s.stand) passes.own ∙ idle) did.2.saves.own);
     receipt = over_receipt (v.session seat) (t.session seat) r (ap (λ (s : Session). s.over) did.2.own ∙ ap (λ (s : Session). s.over) passes.own) ready.receipt;
   }
-  begun_ready (answer.LogEnd tail) (u, passes, did) = still_ready v u t seat r passes did.0 ready
-  begun_ready answer.NumbersEnd (u, passes, did) = still_ready v u t seat r passes did.0 ready
-  begun_ready a did = absurd did
+  begun_ready (answer.LogEnd tail) idle (u, passes, did) = still_ready v u t seat r passes did.0 ready
+  begun_ready answer.NumbersEnd idle (u, passes, did) = still_ready v u t seat r passes did.0 ready
+  begun_ready a idle did = absurd did
 
   pub saved_ready : (a : Answer) → phase_at v seat ≡ Active → DidCommandBeside f seat command.Save a v t → IsReady t seat r
   saved_ready a active (u, passes, did) = record {

@@ -10,7 +10,7 @@ use Rattle.erm_lines.proofs.Watched.{active_in, idle_where, settle_where, start_
 use Rattle.erm_lines_at_once.specs.Answers.{WasAnsweredBeside}
 use Rattle.erm_worker.specs.Work.{IsReady, WasAsked}
 use Rattle.erm_worker.proofs.Asked.{operates}
-use Rattle.erm_worker.proofs.Kept.{aborted_ready, begun_ready, sealed_ready}
+use Rattle.erm_worker.proofs.Kept.{aborted_ready, back_ready, begun_ready, saved_ready, sealed_ready}
 use Rattle.erm_worker.proofs.Ready.{committed_ready, operated_ready, same_grown, snapshot_ready}
 use Rattle.erm_worker.proofs.Short.{on_err}
 use Rattle.erm_worker.proofs.line.run.Goals as goal
@@ -30,6 +30,10 @@ save-requires-clause-active g c =
 pub back-requires-clause-active : goal.back-requires-clause-active
 back-requires-clause-active g c =
     active_in (phase_at (g.S.SharedSession.own c.args.session.now) (g.S.SharedSession.seat c.args.session.now)) c.args.command.now NeedsWriter (ap need_of c.in-Back.is) tt c.requires.plain c.requires.allowed
+
+pub back-requires-clause-ran : goal.back-requires-clause-ran
+back-requires-clause-ran g c =
+    c.requires.ready.run (active_in (phase_at (g.S.SharedSession.own c.args.session.now) (g.S.SharedSession.seat c.args.session.now)) c.args.command.now NeedsWriter (ap need_of c.in-Back.is) tt c.requires.plain c.requires.allowed)
 
 pub seal-answer-requires-clause-active : goal.seal-answer-requires-clause-active
 seal-answer-requires-clause-active g c =
@@ -94,7 +98,34 @@ pub returns-in_ok-begin-in-Begin-clause-ready : goal.returns-in_ok-begin-in-Begi
 returns-in_ok-begin-in-Begin-clause-ready g c =
     let seat = g.S.SharedSession.seat c.args.session.now in
     let v = g.S.SharedSession.own c.args.session.now in
-    begun_ready c.begun_transactions_are_runs.ensures v seat v (g.S.SharedSession.own c.begin.new.session) c.args.receipt.now c.requires.ready c.in_ok-begin-in-Begin.field-0 (c.in_ok-begin-in-Begin.ensures.answered v).did
+    begun_ready c.begun_transactions_are_runs.ensures v seat v (g.S.SharedSession.own c.begin.new.session) c.args.receipt.now c.requires.ready c.in_ok-begin-in-Begin.field-0
+    (idle_where (phase_at v seat) c.args.command.now c.requires.allowed c.in-Begin.is) (c.in_ok-begin-in-Begin.ensures.answered v).did
+
+pub returns-in_ok-save-in-Save-clause-asked : goal.returns-in_ok-save-in-Save-clause-asked
+returns-in_ok-save-in-Save-clause-asked g c =
+    let seat = g.S.SharedSession.seat c.args.session.now in
+    let v = g.S.SharedSession.own c.args.session.now in
+    λ f end. subst (λ (x : Command). WasAnsweredBeside f seat x c.in_ok-save-in-Save.field-0 v (g.S.SharedSession.own c.save.new.session)) (sym c.in-Save.is) (c.in_ok-save-in-Save.ensures.answered f)
+
+pub returns-in_ok-save-in-Save-clause-ready : goal.returns-in_ok-save-in-Save-clause-ready
+returns-in_ok-save-in-Save-clause-ready g c =
+    let seat = g.S.SharedSession.seat c.args.session.now in
+    let v = g.S.SharedSession.own c.args.session.now in
+    saved_ready c.begun_transactions_are_runs.ensures v seat v (g.S.SharedSession.own c.save.new.session) c.args.receipt.now c.requires.ready c.in_ok-save-in-Save.field-0
+    (active_in (phase_at v seat) c.args.command.now NeedsWriter (ap need_of c.in-Save.is) tt c.requires.plain c.requires.allowed) (c.in_ok-save-in-Save.ensures.answered v).did
+
+pub returns-in-Back-clause-asked : goal.returns-in-Back-clause-asked
+returns-in-Back-clause-asked g c =
+    let seat = g.S.SharedSession.seat c.args.session.now in
+    let v = g.S.SharedSession.own c.args.session.now in
+    λ f end. subst (λ (x : Command). WasAnsweredBeside f seat x c.back.result v (g.S.SharedSession.own c.back.new.session)) (sym c.in-Back.is) (c.back.ensures.answered f)
+
+pub returns-in-Back-clause-ready : goal.returns-in-Back-clause-ready
+returns-in-Back-clause-ready g c =
+    let seat = g.S.SharedSession.seat c.args.session.now in
+    let v = g.S.SharedSession.own c.args.session.now in
+    back_ready c.begun_transactions_are_runs.ensures v seat v (g.S.SharedSession.own c.back.new.session) c.args.receipt.now c.requires.ready c.in-Back.n c.back.result
+    (active_in (phase_at v seat) c.args.command.now NeedsWriter (ap need_of c.in-Back.is) tt c.requires.plain c.requires.allowed) (c.back.ensures.answered v).did
 
 pub returns-in-Seal-clause-asked : goal.returns-in-Seal-clause-asked
 returns-in-Seal-clause-asked g c =
