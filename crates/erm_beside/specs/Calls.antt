@@ -26,6 +26,7 @@ pub record Passes (seat : ℕ) (v u : View) : Type 0 where
   pub tail : v.tail ≤ u.tail
   pub flushed : v.flushed ≤ u.flushed
   pub given_up : u.given_up seat ≡ v.given_up seat
+  pub saves : u.saves seat ≡ v.saves seat
 
 -- others went on, and then the session did this
 abbrev pub After : ℕ → (View → View → Type 0) → View → View → Type 0

@@ -17,6 +17,7 @@ pub record GoesBeside (seat : ℕ) (v t : View) : Type 0 where
   pub opening : t.opening ≡ v.opening
   pub tail : v.tail ≤ t.tail
   pub flushed : v.flushed ≤ t.flushed
+  pub saves : phase_at t seat ≡ Active → t.saves seat ≡ v.saves seat
 
 -- others went on, and then the call of which this was the event was answered
 abbrev pub AnsweredAfter : ℕ → Event → View → View → Type 0

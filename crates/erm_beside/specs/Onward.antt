@@ -30,7 +30,7 @@ beside_then seat then_seat v t u is first later =
     }
 
 pub passes_itself : (seat : ℕ) (v : View) → Passes seat v v
-passes_itself seat v = record { own = refl; opening = refl; tail = omega arith; flushed = omega arith; given_up = refl }
+passes_itself seat v = record { own = refl; opening = refl; tail = omega arith; flushed = omega arith; given_up = refl; saves = refl }
 
 pub passes_then : (seat then_seat : ℕ) (v t u : View) → then_seat ≡ seat → Passes seat v t → Passes then_seat t u → Passes seat v u
 passes_then seat then_seat v t u is first later =
@@ -40,4 +40,5 @@ passes_then seat then_seat v t u is first later =
       tail = le_trans first.tail second.tail;
       flushed = le_trans first.flushed second.flushed;
       given_up = second.given_up ∙ first.given_up;
+      saves = second.saves ∙ first.saves;
     }

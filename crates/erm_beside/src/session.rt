@@ -5,13 +5,14 @@ ghost use Rattle.erm_model.specs.declared.outcome.Phase.TheVariants.{Active, Idl
 ghost use Rattle.erm_model.specs.RowTransaction.{Law, asked_claim, asked_make, asked_read};
 ghost use Rattle.erm_world.specs.Calls.{DidAbort, DidClaim, DidMake, DidRead, DidSeal, DidWrite};
 ghost use Rattle.erm_world.specs.Laws.{IsLawfulWork, IsSerializable};
+ghost use Rattle.erm_world.specs.Saves.{DidNotSave, DidSave, HasNoSave, WentBack};
 ghost use Rattle.erm_world.specs.World.{View, phase_at, work_at};
 ghost use Rattle.erm_beside.specs.Calls.{After, DidBeginBeside, DidSettleBeside, MayNotBeginBeside, NotClaimedBeside, NotMadeBeside, NotReadBeside, NotSettledBeside, Passes};
 ghost use Rattle.erm_beside.specs.Ends.{MetBeside};
 ghost use Rattle.erm_beside.specs.Laws.{GoesOnward, IsSound, IsWithin};
 
 use erm_model::{Oid, Outcome, Phase, Receipt, Row, RowStop, Stamp};
-use erm_world::{BeginStop, NotFlushed, Wait};
+use erm_world::{BeginStop, NoSave, NotFlushed, SaveStop, Wait};
 
 /// A session that shares its world with others, which may go on at any time, between its calls and within them. Its meaning is its own
 /// view: the world as far as the session knows it, in which only its own part counts, how the world was opened, and how far the log has come
@@ -108,6 +109,26 @@ pub trait SharedSession {
         ensures count { IfOk result (λ cut. cut ≤ (own self.old).opening.cuts) }
         ensures err { IfErr result (λ stop. After (seat self.old) (NotClaimedBeside (seat self.old) oid stop) (own self.old) (own self.new)) }
         ensures met { IfErr result (λ stop. (f : View) → ends self.new f → MetBeside f (seat self.old) (asked_claim oid) stop (own self.old) (own self.new)) };
+
+    /// Saves the transaction's rows as they are, as one savepoint more: how many it holds then. They end with the transaction.
+    fn save(&mut self, shared: &Self::Shared) -> Result<u32, SaveStop>
+        requires stands { stands shared.now self.old }
+        requires active { phase_at (own self.old) (seat self.old) ≡ Active }
+        ensures stands { stands shared.now self.new }
+        ensures onward { GoesOnward (seat self.old) (seat self.new) (ends self.old) (ends self.new) }
+        ensures ok { IfOk result (λ held. After (seat self.old) (λ u t. DidSave u (seat self.old) held t) (own self.old) (own self.new)) }
+        ensures err { IfErr result (λ stop. After (seat self.old) (λ u t. DidNotSave u (seat self.old) stop t) (own self.old) (own self.new)) };
+
+    /// Goes back to the savepoint of this number, from 1: each row claimed since is that of the version overwritten, and each one claimed
+    /// before is as it was then. The savepoints made since are gone, and this one stays. No claim is given up, and what was read or made
+    /// stays so. It takes no memory.
+    fn back(&mut self, shared: &Self::Shared, n: u32) -> Result<(), NoSave>
+        requires stands { stands shared.now self.old }
+        requires active { phase_at (own self.old) (seat self.old) ≡ Active }
+        ensures stands { stands shared.now self.new }
+        ensures onward { GoesOnward (seat self.old) (seat self.new) (ends self.old) (ends self.new) }
+        ensures ok { OnOk result (After (seat self.old) (λ u t. WentBack u (seat self.old) n t) (own self.old) (own self.new)) }
+        ensures err { IfErr result (λ stop. After (seat self.old) (λ u t. HasNoSave u (seat self.old) n stop.held t) (own self.old) (own self.new)) };
 
     /// Seals the transaction: its commit stamp, the place of the log, in words, where its block begins. The transaction keeps the
     /// law of rows.

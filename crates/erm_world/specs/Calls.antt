@@ -18,6 +18,18 @@ use Rattle.erm_world.specs.World.{Fate, Finished, Has, HasStamp, IsSession, Sess
 use Rattle.erm_world.specs.World as world
 use Rattle.erm_world.specs.Works.{claiming, is_claimed, making, own_row, reading, row_read, setting}
 
+-- The savepoints that a session holds where it stands so, and stood so before: those of a transaction that is in progress stay, and one that
+-- begins has none. Of a session without a transaction in progress nothing is said.
+abbrev pub KeepsOwnSaves : (now before : Stand) → (held held_before : List (List VersionWritten)) → Type 0
+KeepsOwnSaves (world.active u) (world.active w) held held_before = held ≡ held_before
+KeepsOwnSaves (world.active u) before held held_before = held ≡ []
+KeepsOwnSaves now before held held_before = Unit {0}
+
+-- those of all sessions, where one becomes this one
+pub record KeepsSaves (v : View) (seat : ℕ) (s : Session) (t : View) : Type 0 where
+  pub own : KeepsOwnSaves s.stand (v.session seat).stand (t.saves seat) (v.saves seat)
+  pub others : (q : ℕ) → q ≢ seat → t.saves q ≡ v.saves q
+
 -- one session becomes this one, and nothing else changes
 pub record Becomes (v : View) (seat : ℕ) (s : Session) (t : View) : Type 0 where
   pub own : t.session seat ≡ s
@@ -27,6 +39,7 @@ pub record Becomes (v : View) (seat : ℕ) (s : Session) (t : View) : Type 0 whe
   pub flushed : t.flushed ≡ v.flushed
   pub pinned : t.pinned ≡ v.pinned
   pub given_up : t.given_up ≡ v.given_up
+  pub saves : KeepsSaves v seat s t
 
 -- the transaction in progress has become this one
 abbrev pub Works : View → ℕ → Work → View → Type 0
@@ -204,6 +217,7 @@ pub record DidSeal (v : View) (seat stamp : ℕ) (t : View) : Type 0 where
   pub flushed : t.flushed ≡ v.flushed
   pub pinned : t.pinned ≡ v.pinned
   pub given_up : t.given_up ≡ v.given_up
+  pub saves : (q : ℕ) → q ≢ seat → t.saves q ≡ v.saves q
 
 -- another session's transaction, sealed with this stamp below the bound
 pub record IsSealedBelow (v : View) (seat bound other seen : ℕ) (work : Work) : Type 0 where

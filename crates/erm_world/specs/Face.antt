@@ -39,6 +39,8 @@ pub record Goes (v : View) (seat : ℕ) (t : View) : Type 0 where
   pub tail : t.tail ≡ v.tail
   pub flushed : t.flushed ≡ v.flushed
   pub pinned : t.pinned ≡ v.pinned
+  pub saves : phase_at t seat ≡ Active → t.saves seat ≡ v.saves seat
+  pub saves_of_others : (q : ℕ) → q ≢ seat → t.saves q ≡ v.saves q
 
 -- A session of a world as a transaction: it may have begun on the arrays that fit its work, and sees what its claims leave laid
 -- over them. `one` says that two states hold one world. Its calls are all of one seat.

@@ -3,12 +3,15 @@ use Rattle.std.specs.Prelude.{◌≡◌, ◌≢◌, ℕ, ◌+◌, ◌<◌, ◌�
 use Rattle.erm_model.specs.declared.history.TransactionRecord.{TransactionRecord}
 use Rattle.erm_model.specs.declared.history.VersionRead.{VersionRead}
 use Rattle.erm_model.specs.declared.history.VersionWritten.{VersionWritten}
+use Rattle.erm_model.specs.declared.limits.TheConstants.{SAVES}
+use Rattle.erm_model.specs.declared.outcome.Phase.TheVariants.{Active}
 use Rattle.erm_model.specs.History.{IsCertified, IsNewestBelow, IsSnapshot}
 use Rattle.erm_model.specs.Lawful.{Fits, IsLawfulRecord}
 use Rattle.erm_model.specs.Member.{◌∈◌}
 use Rattle.erm_model.specs.RowTransaction.{Law}
 use Rattle.erm_model.specs.Rows.{Rows}
-use Rattle.erm_world.specs.World.{Finished, Has, HasStamp, IsSession, Session, View, Work, bare, history_of, made_by_all, record_of, work_at}
+use Rattle.erm_world.specs.Saves.{AreSavesOf, OnceOf}
+use Rattle.erm_world.specs.World.{Finished, Has, HasStamp, IsSession, Session, View, Work, bare, history_of, made_by_all, phase_at, record_of, work_at}
 use Rattle.erm_world.specs.World as world
 
 -- an array of rows on which a transaction may have begun
@@ -50,6 +53,10 @@ pub record IsSerializable (law : Law) (v : View) : Type 0 where
   -- no two transactions in progress have claimed one object
   pub apart : (p q : ℕ) (c d : VersionWritten) → IsSession v p → IsSession v q → p ≢ q
       → c ∈ (work_at v p).claims → d ∈ (work_at v q).claims → c.oid ≢ d.oid
+  -- a transaction in progress has claimed each object once, has still what it had claimed at its savepoints, and holds no more than it may
+  pub once : (seat : ℕ) → IsSession v seat → OnceOf (work_at v seat).claims
+  pub saves : (seat : ℕ) (w : Work) → IsSession v seat → (v.session seat).stand ≡ world.active w → AreSavesOf w (v.saves seat)
+  pub few_saves : (seat : ℕ) → IsSession v seat → phase_at v seat ≡ Active → length (v.saves seat) ≤ SAVES
   -- the law of rows: the opening's rows meet it, and reach no object that may be made; sealed transactions keep it
   pub opening_meets : law.meets v.opening.rows
   pub opening_reach : (x : ℕ) → v.opening.first ≤ x → law.reach v.opening.rows x ≡ 0

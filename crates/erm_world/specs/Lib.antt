@@ -5,6 +5,7 @@ pub mod Laws
 pub mod Log
 pub mod Onward
 pub mod Safe
+pub mod Saves
 pub mod Snapshots
 pub mod Whole
 pub mod Works

@@ -71,7 +71,8 @@ pub record GivenUp : Type 0 where
   pub oid : ℕ
 
 -- a world: how it was opened, its sessions, the end of its log, the place of the log below which all is synced, the place as of which rows are
--- pinned, where they are, and which claims its sessions gave up where another session may have met them
+-- pinned, where they are, which claims its sessions gave up where another session may have met them, and the savepoints that a session's
+-- transaction in progress holds: what it had claimed at each, the oldest first
 pub record View : Type 0 where
   pub opening : Opening
   pub session : ℕ → Session
@@ -79,6 +80,7 @@ pub record View : Type 0 where
   pub flushed : ℕ
   pub pinned : Option ℕ
   pub given_up : ℕ → List GivenUp
+  pub saves : ℕ → List (List VersionWritten)
 
 -- the seat is one of a session of the world
 abbrev pub IsSession : View → ℕ → Type 0

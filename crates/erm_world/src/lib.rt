@@ -17,6 +17,6 @@ pub use laws::{
 pub use log_world::LogWorld;
 pub use safe_world::SafeWorld;
 pub use script_world::ScriptWorld;
-pub use stops::{BeginStop, NotFlushed, SafeStop, Wait};
+pub use stops::{BeginStop, NoSave, NotFlushed, SafeStop, SaveStop, Wait};
 pub use txn::WorldTxn;
 pub use world::RowWorld;

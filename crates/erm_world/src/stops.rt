@@ -1,4 +1,4 @@
-//! Why a begin, a settle or a look at the log is refused.
+//! Why a begin, a settle, a savepoint, a way back or a look at the log is refused.
 use erm_model::{Seat, Stamp};
 
 /// Why a transaction doesn't begin. The session stays idle.
@@ -30,6 +30,21 @@ pub enum SafeStop {
     /// This seat's session has committed a transaction, with this stamp, at or above the own begin stamp, whose turn in the serial order is
     /// before its stamp. The snapshot is over.
     Unsafe { seat: Seat, stamp: Stamp },
+}
+
+/// Why a transaction gets no more savepoints. Those that it holds stay.
+#[derive(Clone, Copy, Debug, PartialEq, Eq)]
+pub enum SaveStop {
+    /// It holds as many as a transaction may.
+    SavesFull { held: u32 },
+    /// Memory ran out.
+    Memory,
+}
+
+/// A transaction has no savepoint of the number asked for: it holds so many, from number 1 on.
+#[derive(Clone, Copy, Debug, PartialEq, Eq)]
+pub struct NoSave {
+    pub held: u32,
 }
 
 /// A commit isn't on the disk yet: all words of the log below `flushed` are.

@@ -5,9 +5,10 @@ ghost use Rattle.erm_model.specs.declared.outcome.Phase.TheVariants.{Active, Idl
 ghost use Rattle.erm_model.specs.RowTransaction.{Law};
 ghost use Rattle.erm_world.specs.Calls.{DidAbort, DidBegin, DidClaim, DidMake, DidNotClaim, DidNotMake, DidNotRead, DidNotSettle, DidRead, DidSeal, DidSettle, DidWrite, MayNotBegin};
 ghost use Rattle.erm_world.specs.Laws.{IsLawfulWork, IsPossibleIn, IsSerializable};
+ghost use Rattle.erm_world.specs.Saves.{DidNotSave, DidSave, HasNoSave, WentBack};
 ghost use Rattle.erm_world.specs.World.{IsSession, View, phase_at, work_at};
 
-use crate::stops::{BeginStop, NotFlushed, Wait};
+use crate::stops::{BeginStop, NoSave, NotFlushed, SaveStop, Wait};
 use erm_model::{Oid, Outcome, Phase, Receipt, Row, RowStop, Seat, Stamp};
 
 /// A world of sessions, each with one transaction at a time. Its meaning is its view: how it was opened, what each session has
@@ -90,6 +91,26 @@ pub trait RowWorld {
         ensures ok { OnOk result (DidClaim (view self.old) seat oid (view self.new)) }
         ensures count { IfOk result (λ cut. cut ≤ (view self.old).opening.cuts) }
         ensures err { IfErr result (λ stop. DidNotClaim (view self.old) seat oid stop (view self.new)) };
+
+    /// Saves the transaction's rows as they are, as one savepoint more: how many it holds then. They end with the transaction.
+    fn save(&mut self, seat: Seat) -> Result<u32, SaveStop>
+        requires stands { stands self.old }
+        requires session { IsSession (view self.old) seat }
+        requires active { phase_at (view self.old) seat ≡ Active }
+        ensures stands { stands self.new }
+        ensures ok { IfOk result (λ held. DidSave (view self.old) seat held (view self.new)) }
+        ensures err { IfErr result (λ stop. DidNotSave (view self.old) seat stop (view self.new)) };
+
+    /// Goes back to the savepoint of this number, from 1: each row claimed since is that of the version overwritten, and each one claimed
+    /// before is as it was then. The savepoints made since are gone, and this one stays. No claim is given up, and what was read or made
+    /// stays so. It takes no memory.
+    fn back(&mut self, seat: Seat, n: u32) -> Result<(), NoSave>
+        requires stands { stands self.old }
+        requires session { IsSession (view self.old) seat }
+        requires active { phase_at (view self.old) seat ≡ Active }
+        ensures stands { stands self.new }
+        ensures ok { OnOk result (WentBack (view self.old) seat n (view self.new)) }
+        ensures err { IfErr result (λ stop. HasNoSave (view self.old) seat n stop.held (view self.new)) };
 
     /// Seals the transaction: its commit stamp, the place of the log, in words, where its block begins. The transaction keeps the
     /// law of rows.
