@@ -101,6 +101,8 @@ from_waits (Some c) seat seen p = from_map (with_look (Some c) (answer.WaitSeat 
 abbrev pub IsPlain : Answer → Type 0
 IsPlain (answer.Safe begin) = ⊥
 IsPlain (answer.Replied r) = ⊥
+IsPlain (answer.Saved held) = ⊥
+IsPlain (answer.Back n) = ⊥
 IsPlain a = Unit {0}
 
 still_comes : (p : Progress) → Comes p p
@@ -109,6 +111,8 @@ still_comes p = comes_on p p refl (from_same p.snapshot)
 pub hears_comes : (seat : ℕ) (asked : Option Command) (a : Answer) (p : Progress) → IsPlain a → Comes p (heard seat asked a p)
 hears_comes seat asked (answer.Safe begin) p plain = absurd plain
 hears_comes seat asked (answer.Replied r) p plain = absurd plain
+hears_comes seat asked (answer.Saved held) p plain = absurd plain
+hears_comes seat asked (answer.Back n) p plain = absurd plain
 hears_comes seat asked (answer.Began begin) p plain = comes_on p (heard seat asked (answer.Began begin) p) refl (from_same p.snapshot)
 hears_comes seat asked (answer.Sealed stamp) p plain = comes_on p (heard seat asked (answer.Sealed stamp) p) refl (from_same p.snapshot)
 hears_comes seat asked (answer.Unsafe other stamp) p plain =
@@ -137,8 +141,15 @@ hears_comes seat asked answer.NotSafe p plain = still_comes p
 hears_comes seat asked (answer.WaitSeat other seen) p plain = comes_on p (heard seat asked (answer.WaitSeat other seen) p) refl (from_waits asked other seen p)
 hears_comes seat asked a p plain = comes_on p (heard seat asked a p) refl (from_map (with_look asked a) (like_look asked a refl) p.snapshot)
 
--- a reply where there is no snapshot
+-- a reply where there is no snapshot, and a savepoint there
+looks_none : (asked : Option Command) (a : Answer) (p : Progress) → p.snapshot ≡ None → AllFrom p.snapshot (option_map (with_look asked a) p.snapshot)
+looks_none asked a p none = subst (λ (o : Option Snapshot). AllFrom p.snapshot (option_map (with_look asked a) o)) (sym none) (λ s is. absurd (cc))
+
 pub replied_none : (seat : ℕ) (asked : Option Command) (r : Reply) (p : Progress) → p.snapshot ≡ None → Comes p (heard seat asked (answer.Replied r) p)
-replied_none seat asked r p none =
-    comes_on p (heard seat asked (answer.Replied r) p) refl
-    (subst (λ (o : Option Snapshot). AllFrom p.snapshot (option_map (with_look asked (answer.Replied r)) o)) (sym none) (λ s is. absurd (cc)))
+replied_none seat asked r p none = comes_on p (heard seat asked (answer.Replied r) p) refl (looks_none asked (answer.Replied r) p none)
+
+pub saved_none : (seat : ℕ) (asked : Option Command) (held : ℕ) (p : Progress) → p.snapshot ≡ None → Comes p (heard seat asked (answer.Saved held) p)
+saved_none seat asked held p none = comes_on p (heard seat asked (answer.Saved held) p) refl (looks_none asked (answer.Saved held) p none)
+
+pub back_none : (seat : ℕ) (asked : Option Command) (n : ℕ) (p : Progress) → p.snapshot ≡ None → Comes p (heard seat asked (answer.Back n) p)
+back_none seat asked n p none = comes_on p (heard seat asked (answer.Back n) p) refl (looks_none asked (answer.Back n) p none)

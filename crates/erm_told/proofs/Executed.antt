@@ -1,5 +1,5 @@
 -- What moves in turn tell, and how sessions go on by them.
-use Rattle.std.proofs.Common.{◌≡◌, ◌≢◌, ℕ, ◌==◌, ◌≤◌, Bool, cond, List, [], ◌∷◌, Option, Some, None, refl, sym, ap, ◌∙◌, subst, inl, inr, fold, eq-eqb, ne_eqb, le_trans}
+use Rattle.std.proofs.Common.{◌≡◌, ◌≢◌, ℕ, ◌==◌, ◌≤◌, Bool, cond, List, [], ◌∷◌, length, Option, Some, None, refl, sym, ap, ◌∙◌, subst, inl, inr, fold, eq-eqb, ne_eqb, le_trans}
 use Rattle.std.proofs.lemmas.Bool.{cases_eq}
 use Rattle.erm_model.specs.declared.outcome.Phase.{Phase}
 use Rattle.erm_model.specs.declared.outcome.Phase.TheVariants.{Idle}
@@ -7,18 +7,20 @@ use Rattle.erm_model.specs.Run.{Step}
 use Rattle.erm_report.specs.declared.answer.Answer.{Answer}
 use Rattle.erm_script.specs.declared.script.Command.{Command}
 use Rattle.erm_world.specs.Going.{Extends}
-use Rattle.erm_world.specs.World.{IsSession, Opening, Session, View, Work, phase_at, phase_of}
+use Rattle.erm_world.specs.World.{IsSession, Opening, Session, View, Work, phase_at, phase_of, work_at, work_of}
 use Rattle.erm_world.specs.World as world
-use Rattle.erm_maps.specs.Runs.{IsAnswered, IsRunOf}
+use Rattle.erm_maps.specs.Runs.{IsAnswered, IsRunOf, Kept}
 use Rattle.erm_good_report.specs.Phases.{phase_after}
-use Rattle.erm_good_report.specs.Transactions.{Progress, Said, heard, nothing}
+use Rattle.erm_good_report.specs.Transactions.{Progress, Said, heard, nothing, steps_of}
 use Rattle.erm_lines.specs.Executions.{DidFlush, IsExecution, Move, close, flush, line, log, said_in}
 use Rattle.erm_lines.specs.Laws.{ExecutionsGoOn, ExecutionsTell}
 use Rattle.erm_lines.specs.Told.{Continues, Tells}
+use Rattle.erm_lines.proofs.Keeping.{NoneRuns}
 use Rattle.erm_lines.proofs.Moved.{log_flushes, log_of_none}
+use Rattle.erm_lines.proofs.Saved.{kept_is}
 use Rattle.erm_told.proofs.Going.{continues_itself, continues_then}
 use Rattle.erm_told.proofs.Lines.{turn_end, turn_line}
-use Rattle.erm_told.proofs.Turns.{Turn, same_tail}
+use Rattle.erm_told.proofs.Turns.{TellsAt, Turn, same_tail}
 
 -- what a session has told after one more place
 abbrev pub hears : ℕ → Progress → Said → Progress
@@ -29,13 +31,22 @@ turns seat phase s = cond (s.session == seat) (phase_after s.asked s.answer phas
 
 -- what was told of a session, and its phase
 pub record Knows (seat : ℕ) (p : Progress) (phase : Phase) (v : View) : Type 0 where
-  pub tells : Tells seat p (v.session seat)
+  pub told : TellsAt seat p v
   pub phase_is : phase ≡ phase_at v seat
 
--- a session that is the same
-pub knows_still : (seat : ℕ) (p : Progress) (phase : Phase) (v t : View) → t.session seat ≡ v.session seat → Knows seat p phase v → Knows seat p phase t
-knows_still seat p phase v t is knows = record {
-  tells = subst (λ (s : Session). Tells seat p s) (sym is) knows.tells;
+-- a session that is the same, with its savepoints
+told_same : (seat : ℕ) (p : Progress) (v t : View) → t.session seat ≡ v.session seat → t.saves seat ≡ v.saves seat → TellsAt seat p v → TellsAt seat p t
+told_same seat p v t is saves told = record {
+  tells = subst (λ (s : Session). Tells seat p s) (sym is) told.tells;
+  runs = λ one at active. let by = told.runs one at (sym (ap (λ (s : Session). phase_of s.stand) is) ∙ active) in record {
+    run = subst (λ (k : Kept). IsRunOf k (steps_of one)) (sym (kept_is (work_at t seat) (work_at v seat) (t.saves seat) (v.saves seat) (ap (λ (s : Session). work_of s.stand) is) saves)) by.run;
+    held = by.held ∙ ap length (sym saves);
+  };
+}
+
+pub knows_still : (seat : ℕ) (p : Progress) (phase : Phase) (v t : View) → t.session seat ≡ v.session seat → t.saves seat ≡ v.saves seat → Knows seat p phase v → Knows seat p phase t
+knows_still seat p phase v t is saves knows = record {
+  told = told_same seat p v t is saves knows.told;
   phase_is = knows.phase_is ∙ sym (ap (λ (s : Session). phase_of s.stand) is);
 }
 
@@ -48,21 +59,21 @@ knows_turn seat at asked a p phase v t turn knows = elim (cases_eq at seat) as (
       (own (subst (λ (q : ℕ). Turn v q asked a t) is turn))
   | inr another ↦
       subst (λ (b : Bool). Knows seat (cond b (heard seat asked a p) p) (cond b (phase_after asked a phase) phase) t) (sym (ne_eqb at seat another))
-      (knows_still seat p phase v t (turn.others seat (λ e. another (sym e))) knows)
+      (knows_still seat p phase v t (turn.others seat (λ e. another (sym e))) (turn.saves seat (λ e. another (sym e))) knows)
 ]
   where
     own : Turn v seat asked a t → Knows seat (heard seat asked a p) (phase_after asked a phase) t
     own its = record {
-      tells = its.tells p knows.tells;
+      told = its.tells p knows.told;
       phase_is = ap (λ (x : Phase). phase_after asked a x) knows.phase_is ∙ its.phase;
     }
 
 -- a line of another session, or of none, which left this one
-pub knows_logged : (seat at : ℕ) (asked : Option Command) (a : Answer) (p : Progress) (phase : Phase) (v t : View) → at ≢ seat → t.session seat ≡ v.session seat → Knows seat p phase v
+pub knows_logged : (seat at : ℕ) (asked : Option Command) (a : Answer) (p : Progress) (phase : Phase) (v t : View) → at ≢ seat → t.session seat ≡ v.session seat → t.saves seat ≡ v.saves seat → Knows seat p phase v
     → Knows seat (cond (at == seat) (heard seat asked a p) p) (cond (at == seat) (phase_after asked a phase) phase) t
-knows_logged seat at asked a p phase v t another is knows =
+knows_logged seat at asked a p phase v t another is saves knows =
     subst (λ (b : Bool). Knows seat (cond b (heard seat asked a p) p) (cond b (phase_after asked a phase) phase) t) (sym (ne_eqb at seat another))
-    (knows_still seat p phase v t is knows)
+    (knows_still seat p phase v t is saves knows)
 
 -- a session of a world that was opened so is one of it still
 pub still_session : (v t : View) (seat : ℕ) → t.opening ≡ v.opening → IsSession v seat → IsSession t seat
@@ -71,8 +82,10 @@ still_session v t seat is session = (session.0, subst (λ (o : Opening). seat �
 -- what was told of one that was just opened
 pub knows_start : (v : View) (seat : ℕ) → v.session seat ≡ record { over = []; stand = world.idle } → Knows seat nothing Idle v
 knows_start v seat idle =
-    knows_still seat nothing Idle (record v { session = λ q. record { over = []; stand = world.idle } }) v idle
-    (record { tells = record { over = (refl, refl); now = tt; watched = tt }; phase_is = refl })
+    record {
+      told = record { tells = subst (λ (s : Session). Tells seat nothing s) (sym idle) (record { over = (refl, refl); now = tt; watched = tt }); runs = λ one is active. absurd (cc) };
+      phase_is = sym (ap (λ (s : Session). phase_of s.stand) idle);
+    }
 
 -- a session that has a turn goes on, and another one stays
 goes_turn : (seat at : ℕ) (asked : Option Command) (a : Answer) (v t : View) → Turn v at asked a t → Continues (v.session seat) (t.session seat)
@@ -112,7 +125,7 @@ goes_itself v t is = record {
   session = λ seat session. continues_itself (v.session seat) (t.session seat) (ap (λ (u : View). u.session seat) is);
 }
 
-module _ (runs : (number begin : ℕ) → IsRunOf (world.begun number begin) []) (stay : (w u : Work) (steps : List Step) → Extends w u → IsAnswered w steps → IsAnswered u steps) where
+module _ (runs : NoneRuns) (stay : (w u : Work) (steps : List Step) → Extends w u → IsAnswered w steps → IsAnswered u steps) where
   knows_all : (seat : ℕ) (moves : List Move) (p : Progress) (phase : Phase) (v t : View) → IsSession v seat → IsExecution v moves t → Knows seat p phase v
       → Knows seat (fold (hears seat) p (said_in moves)) (fold (turns seat) phase (said_in moves)) t
   knows_all seat [] p phase v t session is knows = subst (λ (u : View). Knows seat p phase u) (sym is) knows
@@ -125,19 +138,19 @@ module _ (runs : (number begin : ℕ) → IsRunOf (world.begun number begin) [])
       let did_flush = log_flushes v u l a did in
       knows_all seat moves (hears seat p (record { session = l.session; asked = Some l.command; answer = a })) (turns seat phase (record { session = l.session; asked = Some l.command; answer = a }))
       u t (still_session v u seat did_flush.opening session) rest
-      (knows_logged seat l.session (Some l.command) a p phase v u (log_of_none v u l a seat did session.0) (did_flush.session seat session) knows)
+      (knows_logged seat l.session (Some l.command) a p phase v u (log_of_none v u l a seat did session.0) (did_flush.session seat session) (did_flush.saves seat session) knows)
   knows_all seat (close at a ∷ moves) p phase v t session (u, did, lawful, rest) knows =
       let s : Said = record { session = at; asked = None; answer = a } in
       let turn = turn_end v at a u did in
       knows_all seat moves (hears seat p s) (turns seat phase s) u t (still_session v u seat turn.opening session) rest
       (knows_turn seat at None a p phase v u turn knows)
   knows_all seat (flush ∷ moves) p phase v t session (u, did, lawful, rest) knows =
-      knows_all seat moves p phase u t (still_session v u seat did.opening session) rest (knows_still seat p phase v u (did.session seat session) knows)
+      knows_all seat moves p phase u t (still_session v u seat did.opening session) rest (knows_still seat p phase v u (did.session seat session) (did.saves seat session) knows)
 
   pub executions_tell : ExecutionsTell
   executions_tell v t moves opened executed seat session =
       let known = knows_all seat moves nothing Idle v t session executed (knows_start v seat (opened.idle seat session)) in
-      (known.tells, known.phase_is)
+      (known.told.tells, known.phase_is)
 
   goes_all : (moves : List Move) (v t : View) → IsExecution v moves t → AllGo v t
   goes_all [] v t is = goes_itself v t is

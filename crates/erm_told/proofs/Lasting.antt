@@ -15,11 +15,12 @@ use Rattle.erm_world.specs.Calls.{IsDone}
 use Rattle.erm_world.specs.World.{Finished, Has, IsCurrent, IsOver, IsSession, Session, Stand, View, Work, phase_at, phase_of, work_at, work_of}
 use Rattle.erm_world.specs.World as world
 use Rattle.erm_world.specs.Going.{Extends}
-use Rattle.erm_maps.specs.Runs.{IsAnswered, IsRunOf}
+use Rattle.erm_maps.specs.Runs.{IsAnswered}
 use Rattle.erm_good_report.specs.Phases.{HasNoSnapshot, refusal_of}
 use Rattle.erm_lines.specs.Answers.{DidAskSafe, DidAsked, DidClose, DidLine, DidOfSnapshot}
 use Rattle.erm_lines.specs.Executions.{DidEnd, IsExecution, Move, close, flush, line, log}
 use Rattle.erm_lines.specs.Laws.{ExecutionsGoOn}
+use Rattle.erm_lines.proofs.Keeping.{NoneRuns}
 use Rattle.erm_lines.proofs.Moved.{asked_still, log_flushes}
 use Rattle.erm_told.specs.Snapshots.{ExecutionsKeepBegins}
 use Rattle.erm_told.proofs.Executed.{still_session}
@@ -98,7 +99,7 @@ lasts_end v t at a seat x stand did others = elim (cases_eq seat at) as (λ _. L
   | inr another ↦ lasts_same (world.begun x.number x.begin) x (v.session seat) (t.session seat) stand refl (others another)
 ]
 
-module _ (runs : (number begin : ℕ) → IsRunOf (world.begun number begin) []) (stay : (w u : Work) (steps : List Step) → Extends w u → IsAnswered w steps → IsAnswered u steps) (go : ExecutionsGoOn) where
+module _ (runs : NoneRuns) (stay : (w u : Work) (steps : List Step) → Extends w u → IsAnswered w steps → IsAnswered u steps) (go : ExecutionsGoOn) where
   -- what is over stays so
   over_later : (v t : View) (moves : List Move) (seat : ℕ) (w : Work) → IsExecution v moves t → IsSession v seat → IsOver (v.session seat).over w → IsOver (t.session seat).over w
   over_later v t moves seat w executed session (f, m, is) =

@@ -15,6 +15,7 @@ pub mod Ranges
 pub mod Reported
 pub mod Running
 pub mod Runs
+pub mod Saves
 pub mod Sealing
 pub mod Sessions
 pub mod Stamping

@@ -13,20 +13,21 @@ use Rattle.erm_world.specs.Going.{Extends}
 use Rattle.erm_world.specs.Safe.{HasSnapshot}
 use Rattle.erm_world.specs.World.{Session, View, Work, phase_at, phase_of}
 use Rattle.erm_world.specs.World as world
-use Rattle.erm_maps.specs.Runs.{IsAnswered, IsRunOf}
+use Rattle.erm_maps.specs.Runs.{IsAnswered}
 use Rattle.erm_good_report.specs.Phases.{Closes, FitsRefusal, HasNoSnapshot, NeedsAny, NeedsReader, NeedsWriter, asks_safe, need_of, phase_after, phase_after_wait, refusal_in, refusal_of}
 use Rattle.erm_good_report.specs.Transactions.{Commits, Excludes, Progress, heard}
 use Rattle.erm_good_report.proofs.Phases.{phase_refuses}
 use Rattle.erm_lines.specs.Answers.{DidAsked, DidClose, DidCommand, DidCommit, DidDecide, DidIn, DidLine, DidOfSnapshot}
 use Rattle.erm_lines.specs.Executions.{DidEnd}
-use Rattle.erm_lines.specs.Told.{Tells}
 use Rattle.erm_lines.specs.Whole.{is_snapshot}
+use Rattle.erm_lines.proofs.Keeping.{NoneRuns}
 use Rattle.erm_lines.proofs.Moved.{active_where}
 use Rattle.erm_lines.proofs.Watched.{idle_where, snapshot_there, start_where}
 use Rattle.erm_told.proofs.Going.{continues_then}
 use Rattle.erm_told.proofs.Operations.{turn_operation}
+use Rattle.erm_told.proofs.Saves.{turn_back, turn_save}
 use Rattle.erm_told.proofs.Steps.{added}
-use Rattle.erm_told.proofs.Turns.{Turn, told_sealed, told_still, turn_aborted, turn_begun, turn_decided, turn_sealed, turn_still}
+use Rattle.erm_told.proofs.Turns.{TellsAt, Turn, told_sealed, told_still, turn_aborted, turn_begun, turn_decided, turn_sealed, turn_still}
 use Rattle.erm_told.proofs.Watching.{turn_durable, turn_given_up, turn_of_snapshot, turn_snapshot}
 
 -- THE PHASE. What the phase refuses is told as that, and changes nothing.
@@ -52,7 +53,7 @@ turn_refused : (v : View) (seat : ℕ) (c : Command) (a r : Answer) (t : View) �
 turn_refused v seat c a r t refusal is still =
     subst (λ (b : Answer). Turn v seat (Some c) b t) (sym is)
     (turn_still v seat (Some c) r t still (quiet_phase (Some c) r (phase_at v seat) refusal)
-    (λ p told. subst (λ q. q) (ap (λ (q : Progress). Tells seat q (v.session seat)) (sym (quiet_heard seat (Some c) r p refusal))) told))
+    (λ p told. subst (λ (q : Progress). TellsAt seat q v) (sym (quiet_heard seat (Some c) r p refusal)) told))
 
 -- THE DECISION. A sealed transaction is decided, or waits.
 turn_decides : (v : View) (seat : ℕ) (asked : Option Command) (a : Answer) (t : View) → ((b : Answer) → added asked b ≡ [])
@@ -65,10 +66,10 @@ turn_decides v seat asked (answer.Excluded stamp succ pred) t silent calm waits 
     (settled.1, refl, refl) refl (λ steps run. run)
 turn_decides v seat asked (answer.WaitSeat other seen) t silent calm waits (is, waited) =
     turn_still v seat asked (answer.WaitSeat other seen) t is waits
-    (λ p told. told_still seat asked (answer.WaitSeat other seen) p (v.session seat) calm (silent (answer.WaitSeat other seen)) told)
+    (λ p told. told_still seat asked (answer.WaitSeat other seen) p v calm (silent (answer.WaitSeat other seen)) told)
 turn_decides v seat asked (answer.WaitRing flushed) t silent calm waits (is, waited) =
     turn_still v seat asked (answer.WaitRing flushed) t is waits
-    (λ p told. told_still seat asked (answer.WaitRing flushed) p (v.session seat) calm (silent (answer.WaitRing flushed)) told)
+    (λ p told. told_still seat asked (answer.WaitRing flushed) p v calm (silent (answer.WaitRing flushed)) told)
 turn_decides v seat asked a t silent calm waits did = absurd did
 
 -- whatever the phase was, a commit that was decided or waits leaves the same
@@ -86,6 +87,7 @@ turn_commit v seat a t active did =
     let second : Turn u seat (Some command.Commit) a t = turn_decides u seat (Some command.Commit) a t (λ b. refl) refl (sym sealed) did.decided in
     let first : Turn v seat (Some command.Seal) (answer.Sealed did.stamp) u = turn_sealed v seat did.stamp (Some command.Seal) u active did.sealed in record {
       others = λ q another. second.others q another ∙ first.others q another;
+      saves = λ q another. second.saves q another ∙ first.saves q another;
       opening = second.opening ∙ first.opening;
       tail = le_trans first.tail second.tail;
       goes = continues_then (v.session seat) (u.session seat) (t.session seat) first.goes second.goes;
@@ -106,31 +108,33 @@ in_either Q v t seat c a plain watched did = by (phase_at v seat) refl did
     by Safe is did = watched (snapshot_there v seat (ap is_snapshot is)) did
 
 -- THE LINES.
-module _ (runs : (number begin : ℕ) → IsRunOf (world.begun number begin) []) (stay : (w u : Work) (steps : List Step) → Extends w u → IsAnswered w steps → IsAnswered u steps) where
+module _ (runs : NoneRuns) (stay : (w u : Work) (steps : List Step) → Extends w u → IsAnswered w steps → IsAnswered u steps) where
   turn_command : (v : View) (seat : ℕ) (c : Command) (a : Answer) (t : View) → refusal_of (phase_at v seat) c ≡ None → HasNoSnapshot (phase_at v seat) → DidCommand v seat c a t → Turn v seat (Some c) a t
   turn_command v seat command.Begin (answer.Began stamp) t free plain did =
       turn_begun v seat stamp (Some command.Begin) t runs (idle_where (phase_at v seat) command.Begin free refl) did
   turn_command v seat command.Begin (answer.LogEnd tail) t free plain did =
-      turn_still v seat (Some command.Begin) (answer.LogEnd tail) t did.0 refl (λ p told. told_still seat (Some command.Begin) (answer.LogEnd tail) p (v.session seat) refl refl told)
+      turn_still v seat (Some command.Begin) (answer.LogEnd tail) t did.0 refl (λ p told. told_still seat (Some command.Begin) (answer.LogEnd tail) p v refl refl told)
   turn_command v seat command.Begin answer.NumbersEnd t free plain did =
-      turn_still v seat (Some command.Begin) answer.NumbersEnd t did.0 refl (λ p told. told_still seat (Some command.Begin) answer.NumbersEnd p (v.session seat) refl refl told)
+      turn_still v seat (Some command.Begin) answer.NumbersEnd t did.0 refl (λ p told. told_still seat (Some command.Begin) answer.NumbersEnd p v refl refl told)
   turn_command v seat command.Safe a t free plain did = turn_snapshot v seat a t (start_where (phase_at v seat) command.Safe free refl plain) did
+  turn_command v seat command.Save a t free plain did = turn_save v seat a t (active_where NeedsWriter (phase_at v seat) tt plain free) did
+  turn_command v seat (command.Back n) a t free plain did = turn_back v seat n a t (active_where NeedsWriter (phase_at v seat) tt plain free) did
   turn_command v seat command.Seal (answer.Sealed stamp) t free plain did = turn_sealed v seat stamp (Some command.Seal) t (active_where NeedsWriter (phase_at v seat) tt plain free) did
   turn_command v seat command.Settle a t free plain did = turn_decides v seat (Some command.Settle) a t (λ b. refl) refl refl did
   turn_command v seat command.Commit a t free plain did = turn_commit v seat a t (active_where NeedsReader (phase_at v seat) tt plain free) did
   turn_command v seat command.Abort answer.Aborted t free plain did = turn_aborted v seat (Some command.Abort) t (active_where NeedsAny (phase_at v seat) tt plain free) did
   turn_command v seat (command.Get table key) a t free plain did =
-      turn_operation stay v seat (command.Get table key) t (active_where NeedsReader (phase_at v seat) tt plain free) refl refl a did
+      turn_operation stay v seat (command.Get table key) t (active_where NeedsReader (phase_at v seat) tt plain free) refl refl refl a did
   turn_command v seat (command.Put table key value) a t free plain did =
-      turn_operation stay v seat (command.Put table key value) t (active_where NeedsWriter (phase_at v seat) tt plain free) refl refl a did
+      turn_operation stay v seat (command.Put table key value) t (active_where NeedsWriter (phase_at v seat) tt plain free) refl refl refl a did
   turn_command v seat (command.Del table key) a t free plain did =
-      turn_operation stay v seat (command.Del table key) t (active_where NeedsWriter (phase_at v seat) tt plain free) refl refl a did
+      turn_operation stay v seat (command.Del table key) t (active_where NeedsWriter (phase_at v seat) tt plain free) refl refl refl a did
   turn_command v seat (command.Next table from) a t free plain did =
-      turn_operation stay v seat (command.Next table from) t (active_where NeedsReader (phase_at v seat) tt plain free) refl refl a did
+      turn_operation stay v seat (command.Next table from) t (active_where NeedsReader (phase_at v seat) tt plain free) refl refl refl a did
   turn_command v seat (command.Scan table low high) a t free plain did =
-      turn_operation stay v seat (command.Scan table low high) t (active_where NeedsReader (phase_at v seat) tt plain free) refl refl a did
+      turn_operation stay v seat (command.Scan table low high) t (active_where NeedsReader (phase_at v seat) tt plain free) refl refl refl a did
   turn_command v seat (command.Tidy table key) a t free plain did =
-      turn_operation stay v seat (command.Tidy table key) t (active_where NeedsWriter (phase_at v seat) tt plain free) refl refl a did
+      turn_operation stay v seat (command.Tidy table key) t (active_where NeedsWriter (phase_at v seat) tt plain free) refl refl refl a did
   turn_command v seat command.Durable a t free plain did = turn_durable v seat a t did
   turn_command v seat c a t free plain did = absurd did
 

@@ -1,5 +1,5 @@
 -- Turns of an active session: operations that were answered, and those that were cut off by a refusal.
-use Rattle.std.proofs.Common.{◌≡◌, ℕ, true, false, IsSome, List, [], ◌∷◌, ◌++◌, append-nil, length, Option, Some, None, option_map, refl, sym, ap, ◌∙◌, subst, inl, inr}
+use Rattle.std.proofs.Common.{◌≡◌, ◌≢◌, ℕ, true, false, IsSome, List, [], ◌∷◌, ◌++◌, append-nil, length, Option, Some, None, option_map, refl, sym, ap, ◌∙◌, subst, inl, inr}
 use Rattle.erm_model.specs.declared.outcome.Phase.TheVariants.{Idle, Active}
 use Rattle.erm_model.specs.declared.row_stop.RowStop.{RowStop}
 use Rattle.erm_model.specs.declared.row_stop.RowStop.TheVariants as stop
@@ -32,44 +32,68 @@ use Rattle.erm_told.proofs.Turns.{RunsBy, TellsAt, Turn, none_active, now_active
 pub none_after : (asked : Option Command) (a : Answer) (p : Progress) → asks_safe asked ≡ false → p.snapshot ≡ None → snapshot_after a asked p ≡ None
 none_after asked a p calm none = look_after a asked p calm ∙ ap (λ (o : Option Snapshot). option_map (with_look asked a) o) none
 
--- a session that goes on with its transaction
-went_on : (v : View) (seat : ℕ) (asked : Option Command) (a : Answer) (t : View) → phase_at v seat ≡ Active → asks_safe asked ≡ false → GoesOn v seat t
-    → ((before : List Step) → IsRunOf (kept_at v seat) before → IsRunOf (kept_at t seat) (before ++ added asked a))
-    → ((u : Transaction) → held_of u ≡ length (v.saves seat) → held_of (with_line asked a u) ≡ length (t.saves seat))
-    → phase_after asked a (phase_at v seat) ≡ phase_at v seat → ((p : Progress) → heard seat asked a p ≡ goes_on asked a p) → Turn v seat asked a t
-went_on v seat asked a t active calm on run held phase hears =
-    let over : (t.session seat).over ≡ (v.session seat).over = over_still (v.session seat) (t.session seat) on.work on.goes.own on.stand in record {
-      others = on.goes.others;
-      saves = on.goes.saves;
-      opening = on.goes.opening;
-      tail = same_tail v.tail t.tail on.goes.tail;
-      goes = continues_from (v.session seat) (t.session seat) (world.active (work_at v seat)) (active_in (v.session seat).stand active) []
-          (over ∙ sym (append-nil (v.session seat).over)) (on.work, on.more, inl on.stand);
-      phase = phase ∙ active ∙ sym (ap phase_of on.stand);
-      tells = λ p told. subst (λ (q : Progress). TellsAt seat q t) (sym (hears p)) (goes_told p told over);
-    }
-  where
-    runs_by : (u : Transaction) → RunsBy v seat u → RunsBy t seat (with_line asked a u)
-    runs_by u by = record {
-      run = subst (λ (steps : List Step). IsRunOf (kept_at t seat) steps) (sym (steps_with asked a u)) (run (steps_of u) by.run);
-      held = held u by.held;
-    }
+-- An active session goes on with its transaction, and no other session with its own.
+pub record Works (v : View) (seat : ℕ) (t : View) : Type 0 where
+  pub active : phase_at t seat ≡ Active
+  pub over : (t.session seat).over ≡ (v.session seat).over
+  pub more : Extends (work_at v seat) (work_at t seat)
+  pub others : (q : ℕ) → q ≢ seat → t.session q ≡ v.session q
+  pub saves : (q : ℕ) → q ≢ seat → t.saves q ≡ v.saves q
+  pub opening : t.opening ≡ v.opening
+  pub tail : t.tail ≡ v.tail
 
-    was_run : (u : Transaction) → RunsBy v seat u → WasRun on.work (steps_of (with_line asked a u))
-    was_run u by = (t.saves seat, subst (λ (w : Work). IsRunOf (record { work = w; saves = t.saves seat }) (steps_of (with_line asked a u))) (ap work_of on.stand) (runs_by u by).run)
+works_on : (v : View) (seat : ℕ) (t : View) → GoesOn v seat t → Works v seat t
+works_on v seat t on = record {
+  active = ap phase_of on.stand;
+  over = over_still (v.session seat) (t.session seat) on.work on.goes.own on.stand;
+  more = subst (λ (w : Work). Extends (work_at v seat) w) (sym (ap work_of on.stand)) on.more;
+  others = on.goes.others;
+  saves = on.goes.saves;
+  opening = on.goes.opening;
+  tail = on.goes.tail;
+}
 
-    goes_told : (p : Progress) → TellsAt seat p v → (t.session seat).over ≡ (v.session seat).over → TellsAt seat (goes_on asked a p) t
-    goes_told p told over = record {
-      tells = record {
-        over = subst (λ (fs : List Finished). TellsOver seat p.over p.snapshots fs) (sym over) told.tells.over;
-        now = subst (λ (stand : Stand). TellsNow seat (goes_on asked a p).current stand) (sym on.stand)
-            (active_told seat asked a p.current (work_at v seat) on.work on.more.number on.more.begin (λ u is. was_run u (told.runs u is active))
-            (now_active seat p (v.session seat) active told.tells));
-        watched = subst (λ (stand : Stand). TellsWatched (goes_on asked a p).snapshot stand) (sym on.stand)
-            (none_watched (goes_on asked a p).snapshot (world.active on.work) tt (none_after asked a p calm (none_active seat p (v.session seat) active told.tells)));
-      };
-      runs = runs_lined t seat asked a p.current (λ u is at. runs_by u (told.runs u is active));
-    }
+-- A session that goes on with its transaction, by a line that is told
+module _ (v : View) (seat : ℕ) (asked : Option Command) (a : Answer) (t : View) (active : phase_at v seat ≡ Active) (calm : asks_safe asked ≡ false) (on : Works v seat t)
+    (runs : (u : Transaction) → RunsBy v seat u → RunsBy t seat (with_line asked a u)) where
+  stands : (t.session seat).stand ≡ world.active (work_at t seat)
+  stands = active_in (t.session seat).stand on.active
+
+  was_run : (u : Transaction) → RunsBy v seat u → WasRun (work_at t seat) (steps_of (with_line asked a u))
+  was_run u by = (t.saves seat, (runs u by).run)
+
+  goes_told : (p : Progress) → TellsAt seat p v → TellsAt seat (goes_on asked a p) t
+  goes_told p told = record {
+    tells = record {
+      over = subst (λ (fs : List Finished). TellsOver seat p.over p.snapshots fs) (sym on.over) told.tells.over;
+      now = subst (λ (stand : Stand). TellsNow seat (goes_on asked a p).current stand) (sym stands)
+          (active_told seat asked a p.current (work_at v seat) (work_at t seat) on.more.number on.more.begin (λ u is. was_run u (told.runs u is active))
+          (now_active seat p (v.session seat) active told.tells));
+      watched = subst (λ (stand : Stand). TellsWatched (goes_on asked a p).snapshot stand) (sym stands)
+          (none_watched (goes_on asked a p).snapshot (world.active (work_at t seat)) tt (none_after asked a p calm (none_active seat p (v.session seat) active told.tells)));
+    };
+    runs = runs_lined t seat asked a p.current (λ u is at. runs u (told.runs u is active));
+  }
+
+  pub went_on : phase_after asked a (phase_at v seat) ≡ phase_at v seat → ((p : Progress) → heard seat asked a p ≡ goes_on asked a p) → Turn v seat asked a t
+  went_on phase hears = record {
+    others = on.others;
+    saves = on.saves;
+    opening = on.opening;
+    tail = same_tail v.tail t.tail on.tail;
+    goes = continues_from (v.session seat) (t.session seat) (world.active (work_at v seat)) (active_in (v.session seat).stand active) []
+        (on.over ∙ sym (append-nil (v.session seat).over)) (work_at t seat, on.more, inl stands);
+    phase = phase ∙ active ∙ sym on.active;
+    tells = λ p told. subst (λ (q : Progress). TellsAt seat q t) (sym (hears p)) (goes_told p told);
+  }
+
+-- what a line tells of calls that count as operations
+runs_by : (v : View) (seat : ℕ) (asked : Option Command) (a : Answer) (t : View) → ((before : List Step) → IsRunOf (kept_at v seat) before → IsRunOf (kept_at t seat) (before ++ added asked a))
+    → ((u : Transaction) → held_of u ≡ length (v.saves seat) → held_of (with_line asked a u) ≡ length (t.saves seat)) → (u : Transaction) → RunsBy v seat u → RunsBy t seat (with_line asked a u)
+runs_by v seat asked a t run held u by = record {
+  run = subst (λ (steps : List Step). IsRunOf (kept_at t seat) steps) (sym (steps_with asked a u)) (run (steps_of u) by.run);
+  held = held u by.held;
+}
 
 -- it holds as many savepoints as before, by the view and by the lines
 same_held : (v : View) (seat : ℕ) (t : View) (asked : Option Command) (a : Answer) → t.saves seat ≡ v.saves seat → ((u : Transaction) → held_of (with_line asked a u) ≡ held_of u)
@@ -81,9 +105,9 @@ pub turn_ran : (v : View) (seat : ℕ) (asked : Option Command) (a : Answer) (t 
     → asks_safe asked ≡ false → DidCalls v seat steps kind t → added asked a ≡ steps → ((u : Transaction) → held_of (with_line asked a u) ≡ held_of u)
     → phase_after asked a (phase_at v seat) ≡ phase_at v seat → ((p : Progress) → heard seat asked a p ≡ goes_on asked a p) → Turn v seat asked a t
 turn_ran v seat asked a t steps kind active calm did tells held phase hears =
-    went_on v seat asked a t active calm (ran_on v seat did.events t active did.ran)
-    (λ before was. subst (λ (list : List Step). IsRunOf (kept_at t seat) (before ++ list)) (sym tells) (did.run before was))
-    (same_held v seat t asked a (ran_saves v seat did.events t active did.ran) held) phase hears
+    went_on v seat asked a t active calm (works_on v seat t (ran_on v seat did.events t active did.ran))
+    (runs_by v seat asked a t (λ before was. subst (λ (list : List Step). IsRunOf (kept_at t seat) (before ++ list)) (sym tells) (did.run before was))
+    (same_held v seat t asked a (ran_saves v seat did.events t active did.ran) held)) phase hears
 
 -- a refusal that leaves the transaction as it is
 pub turn_cut : (v : View) (seat : ℕ) (c : Command) (a : Answer) (t : View) (why : RowStop) (front : Rows → List Event → Type 0) (asks : List Event → Rows → Asked → Type 0)
@@ -92,10 +116,10 @@ pub turn_cut : (v : View) (seat : ℕ) (c : Command) (a : Answer) (t : View) (wh
 turn_cut v seat c a t why front asks active calm cut stays none phase hears =
     let on = ran_on v seat cut.events cut.at active cut.ran in
     let is : t ≡ cut.at = (stopped cut.at seat cut.asked why t (ap phase_of on.stand) cut.refused).stays stays in
-    went_on v seat (Some c) a t active calm (subst (λ (u : View). GoesOn v seat u) (sym is) on)
-    (λ before was. subst (λ (list : List Step). IsRunOf (kept_at t seat) list)
+    went_on v seat (Some c) a t active calm (works_on v seat t (subst (λ (u : View). GoesOn v seat u) (sym is) on))
+    (runs_by v seat (Some c) a t (λ before was. subst (λ (list : List Step). IsRunOf (kept_at t seat) list)
     (sym (ap (λ (list : List Step). before ++ list) (none_replied c a none) ∙ append-nil before)) (cut.run stays before was))
-    (same_held v seat t (Some c) a (ap (λ (u : View). u.saves seat) is ∙ ran_saves v seat cut.events cut.at active cut.ran) (λ u. held_still (Some c) a u (none_replied c a none))) phase hears
+    (same_held v seat t (Some c) a (ap (λ (u : View). u.saves seat) is ∙ ran_saves v seat cut.events cut.at active cut.ran) (λ u. held_still (Some c) a u (none_replied c a none)))) phase hears
 
 -- one that ends it
 pub turn_ended : (v : View) (seat : ℕ) (c : Command) (a : Answer) (t : View) (why : RowStop) (front : Rows → List Event → Type 0) (asks : List Event → Rows → Asked → Type 0)

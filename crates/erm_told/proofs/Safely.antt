@@ -24,18 +24,19 @@ use Rattle.erm_world.specs.Going.{Extends}
 use Rattle.erm_world.specs.Safe.{HasSnapshot, IsSafeIn}
 use Rattle.erm_world.specs.World.{IsSession, Session, Stand, View, Work, history_of, phase_at, phase_of, work_at, work_of}
 use Rattle.erm_world.specs.World as world
-use Rattle.erm_maps.specs.Runs.{IsAnswered, IsRunOf}
-use Rattle.erm_good_report.specs.Phases.{Closes, HasNoSnapshot, IsAnswerTo, refusal_of}
+use Rattle.erm_maps.specs.Runs.{IsAnswered}
+use Rattle.erm_good_report.specs.Phases.{Closes, HasNoSnapshot, IsAnswerTo, refusal_in, refusal_of}
 use Rattle.erm_good_report.specs.Transactions.{Progress, Said, Snapshot, heard, looks_of, next_number, nothing, own_snapshot, with_begin, with_look}
 use Rattle.erm_good_report.proofs.Phases.{answers_so}
 use Rattle.erm_lines.specs.Answers.{DidAskSafe, DidAsked, DidIn, DidLine, DidOfSnapshot}
 use Rattle.erm_lines.specs.Executions.{DidEnd, IsExecution, Move, close, flush, line, log, said_in}
 use Rattle.erm_lines.specs.Looks.{DidLook}
 use Rattle.erm_lines.specs.Told.{Tells, TellsWatch, TellsWatched}
+use Rattle.erm_lines.proofs.Keeping.{NoneRuns}
 use Rattle.erm_lines.proofs.Moved.{log_flushes, log_of_none}
 use Rattle.erm_lines.proofs.Watched.{has_phase, pending_where}
 use Rattle.erm_told.specs.Snapshots.{ExecutionsKeepSafe, IsKeptSafe}
-use Rattle.erm_told.proofs.Comes.{Comes, first_is, hears_comes, IsPlain, looks_with, replied_none}
+use Rattle.erm_told.proofs.Comes.{Comes, back_none, first_is, hears_comes, IsPlain, looks_with, replied_none, saved_none}
 use Rattle.erm_told.proofs.Executed.{Knows, hears, knows_logged, knows_start, knows_still, knows_turn, still_session, turns}
 use Rattle.erm_told.proofs.Keeping.{kept_like, kept_new, kept_on, kept_with}
 use Rattle.erm_told.proofs.Lines.{in_either, turn_end, turn_line}
@@ -218,9 +219,34 @@ module _ (laws : MovingLaws) where
       (λ has done. looked v seat p has.0 has.1 tells before l.command r t fits.0 done)
       (did_in v t l (answer.Replied r) did fits.0)
 
+  -- no snapshot has savepoints
+  no_saved : (v t : View) (seat held : ℕ) (c : Command) → DidOfSnapshot v seat c (answer.Saved held) t → ⊥
+  no_saved v t seat held command.Safe did = did
+  no_saved v t seat held command.Durable did = did
+  no_saved v t seat held c did = did
+
+  no_back : (v t : View) (seat n : ℕ) (c : Command) → DidOfSnapshot v seat c (answer.Back n) t → ⊥
+  no_back v t seat n command.Safe did = did
+  no_back v t seat n command.Durable did = did
+  no_back v t seat n c did = did
+
+  unwatched_line : (v t : View) (l : ScriptLine) (a : Answer) (p : Progress) → DidLine v l a t → refusal_in a ≡ None → Tells l.session p (v.session l.session)
+      → ((c : Command) → DidOfSnapshot v l.session c a t → ⊥) → (p.snapshot ≡ None → Comes p (heard l.session (Some l.command) a p)) → Keeps p t → Keeps (heard l.session (Some l.command) a p) t
+  unwatched_line v t l a p did unrefused tells never comes keeps =
+      let seat = l.session in
+      let fits = answers_so (phase_at v seat) l.command a unrefused did.fits in
+      in_either (Keeps (heard seat (Some l.command) a p) t) v t seat l.command a
+      (λ plain done. keeps_comes p (heard seat (Some l.command) a p) t (comes (none_at p.snapshot (v.session seat).stand plain tells.watched)) keeps)
+      (λ has done. absurd (never l.command done))
+      (did_in v t l a did fits.0)
+
   own_line : (v t : View) (l : ScriptLine) (a : Answer) (p : Progress) → DidLine v l a t → Tells l.session p (v.session l.session) → Keeps p v → Keeps p t → Keeps (heard l.session (Some l.command) a p) t
   own_line v t l (answer.Safe begin) p did tells before keeps = safe_line v t l begin p did tells keeps
   own_line v t l (answer.Replied r) p did tells before keeps = replied_line v t l r p did tells before keeps
+  own_line v t l (answer.Saved held) p did tells before keeps =
+      unwatched_line v t l (answer.Saved held) p did refl tells (λ c watched. no_saved v t l.session held c watched) (λ none. saved_none l.session (Some l.command) held p none) keeps
+  own_line v t l (answer.Back n) p did tells before keeps =
+      unwatched_line v t l (answer.Back n) p did refl tells (λ c watched. no_back v t l.session n c watched) (λ none. back_none l.session (Some l.command) n p none) keeps
   own_line v t l a p did tells before keeps = keeps_comes p (heard l.session (Some l.command) a p) t (hears_comes l.session (Some l.command) a p tt) keeps
 
   -- and its end
@@ -235,6 +261,16 @@ module _ (laws : MovingLaws) where
   closes_plain phase.Sealed (answer.Replied r) fits = fits
   closes_plain phase.Pending (answer.Replied r) fits = fits
   closes_plain phase.Safe (answer.Replied r) fits = fits
+  closes_plain phase.Idle (answer.Saved held) fits = fits
+  closes_plain phase.Active (answer.Saved held) fits = fits
+  closes_plain phase.Sealed (answer.Saved held) fits = fits
+  closes_plain phase.Pending (answer.Saved held) fits = fits
+  closes_plain phase.Safe (answer.Saved held) fits = fits
+  closes_plain phase.Idle (answer.Back n) fits = fits
+  closes_plain phase.Active (answer.Back n) fits = fits
+  closes_plain phase.Sealed (answer.Back n) fits = fits
+  closes_plain phase.Pending (answer.Back n) fits = fits
+  closes_plain phase.Safe (answer.Back n) fits = fits
   closes_plain ph a fits = tt
 
   own_end : (v t : View) (seat : ℕ) (a : Answer) (p : Progress) → DidEnd v seat a t → Keeps p t → Keeps (heard seat None a p) t
@@ -248,7 +284,7 @@ module _ (laws : MovingLaws) where
   ]
 
   -- IN TURN
-  module _ (runs : (number begin : ℕ) → IsRunOf (world.begun number begin) []) (stay : (w u : Work) (steps : List Step) → Extends w u → IsAnswered w steps → IsAnswered u steps) where
+  module _ (runs : NoneRuns) (stay : (w u : Work) (steps : List Step) → Extends w u → IsAnswered w steps → IsAnswered u steps) where
     keeps_all : (seat : ℕ) (moves : List Move) (p : Progress) (ph : Phase) (v t : View) → IsSession v seat → IsExecution v moves t → Knows seat p ph v → Keeps p v
         → Keeps (fold (hears seat) p (said_in moves)) t
     keeps_all seat [] p ph v t session is knows keeps = subst (λ (u : View). Keeps p u) (sym is) keeps
@@ -260,14 +296,14 @@ module _ (laws : MovingLaws) where
         (knows_turn seat l.session (Some l.command) a p ph v u turn knows)
         (at_seat seat l.session (Some l.command) a p u
         (λ is. subst (λ (q : ℕ). Keeps (heard q (Some l.command) a p) u) is
-        (own_line v u l a p did (subst (λ (q : ℕ). Tells q p (v.session q)) (sym is) knows.tells) keeps still)) still)
+        (own_line v u l a p did (subst (λ (q : ℕ). Tells q p (v.session q)) (sym is) knows.told.tells) keeps still)) still)
     keeps_all seat (log l a ∷ moves) p ph v t session (u, did, lawful, rest) knows keeps =
         let s : Said = record { session = l.session; asked = Some l.command; answer = a } in
         let flushes = log_flushes v u l a did in
         let another = log_of_none v u l a seat did session.0 in
         let still = keeps_on p v u (flush_moves laws v u flushes) lawful.snapshots keeps in
         keeps_all seat moves (hears seat p s) (turns seat ph s) u t (still_session v u seat flushes.opening session) rest
-        (knows_logged seat l.session (Some l.command) a p ph v u another (flushes.session seat session) knows)
+        (knows_logged seat l.session (Some l.command) a p ph v u another (flushes.session seat session) (flushes.saves seat session) knows)
         (at_seat seat l.session (Some l.command) a p u (λ is. absurd (another is)) still)
     keeps_all seat (close at a ∷ moves) p ph v t session (u, did, lawful, rest) knows keeps =
         let s : Said = record { session = at; asked = None; answer = a } in
@@ -277,7 +313,7 @@ module _ (laws : MovingLaws) where
         (knows_turn seat at None a p ph v u turn knows)
         (at_seat seat at None a p u (λ is. subst (λ (q : ℕ). Keeps (heard q None a p) u) is (own_end v u at a p did still)) still)
     keeps_all seat (flush ∷ moves) p ph v t session (u, did, lawful, rest) knows keeps =
-        keeps_all seat moves p ph u t (still_session v u seat did.opening session) rest (knows_still seat p ph v u (did.session seat session) knows)
+        keeps_all seat moves p ph u t (still_session v u seat did.opening session) rest (knows_still seat p ph v u (did.session seat session) (did.saves seat session) knows)
         (keeps_on p v u (flush_moves laws v u did) lawful.snapshots keeps)
 
     keeps_nothing : (v : View) → Keeps nothing v

@@ -10,6 +10,7 @@ use Rattle.erm_script.specs.declared.script.Command.{Command}
 use Rattle.erm_script.specs.declared.script.Command.TheVariants as command
 use Rattle.erm_world.specs.Calls.{DidAbort}
 use Rattle.erm_world.specs.Safe.{DidBeginSafe, HasSnapshot, with_snapshot}
+use Rattle.erm_world.specs.Snapshots.{snapshot_not_active}
 use Rattle.erm_world.specs.World.{Finished, Session, Stand, View, Work, phase_at, phase_of, work_at, work_of}
 use Rattle.erm_world.specs.World as world
 use Rattle.erm_good_report.specs.Phases.{phase_after, refusal_of}
@@ -21,7 +22,7 @@ use Rattle.erm_lines.proofs.Watched.{begun_pending, has_phase, pending_where}
 use Rattle.erm_told.proofs.Going.{continues_from, continues_then}
 use Rattle.erm_told.proofs.Sessions.{ended_told, look_watched, next_is, now_none, now_watching, unchanged_told, watched_none}
 use Rattle.erm_told.proofs.Steps.{added}
-use Rattle.erm_told.proofs.Turns.{Turn, becomes, idle_in, told_still, turn_still}
+use Rattle.erm_told.proofs.Turns.{RunsNow, TellsAt, Turn, becomes, idle_in, runs_still, told_still, turn_still}
 
 -- where a pending one stands
 pub record IsPending (stand : Stand) : Type 0 where
@@ -100,7 +101,7 @@ module _ (v : View) (seat : ℕ) (x : world.Snapshot) (stand : (v.session seat).
       let f : Finished = record { work = w; fate = world.aborts } in
       let over = (v.session seat).over in
       let s : Session = record { over = over ++ f ∷ []; stand = world.idle } in
-      becomes v seat s asked a t now (continues_from (v.session seat) s (world.snapshot x) stand (f ∷ []) refl tt) phase
+      becomes v seat s asked a t now (λ active. cc) (continues_from (v.session seat) s (world.snapshot x) stand (f ∷ []) refl tt) phase
       (λ p told. subst (λ (q : Progress). Tells seat q s) (sym (hears p)) (record {
         over =
             let own = ends p told in
@@ -133,12 +134,18 @@ module _ (v : View) (seat : ℕ) (x : world.Snapshot) (stand : (v.session seat).
   turn_placed asked t now = turn_over asked answer.Ended t (λ p. option_map with_end p.snapshot) now refl (λ p. refl) ends_placed
 
   -- IT GOES ON.
+  watched_rests : (current : Option Transaction) → RunsNow v seat current
+  watched_rests current one is active = absurd (snapshot_not_active x (ap phase_of (sym stand) ∙ active))
+
   -- a look is one of its lines
   pub turn_look : (c : Command) (r : Reply) (t : View) → t ≡ v → Turn v seat (Some c) (answer.Replied r) t
   turn_look c r t is = turn_still v seat (Some c) (answer.Replied r) t is refl (λ p told. record {
-    over = told.over;
-    now = subst (λ (at : Stand). TellsNow seat (option_map (with_line (Some c) (answer.Replied r)) p.current) at) (sym stand) (still_none p.current (now_at p told));
-    watched = look_watched (Some c) (answer.Replied r) p.snapshot (v.session seat).stand told.watched;
+    tells = record {
+      over = told.tells.over;
+      now = subst (λ (at : Stand). TellsNow seat (option_map (with_line (Some c) (answer.Replied r)) p.current) at) (sym stand) (still_none p.current (now_at p told.tells));
+      watched = look_watched (Some c) (answer.Replied r) p.snapshot (v.session seat).stand told.tells.watched;
+    };
+    runs = watched_rests (option_map (with_line (Some c) (answer.Replied r)) p.current);
   })
     where
       still_none : (current : Option Transaction) → TellsNow seat current (world.snapshot x)
@@ -153,7 +160,7 @@ module _ (v : View) (seat : ℕ) (x : world.Snapshot) (stand : (v.session seat).
       let z : world.Snapshot = record y { is_safe = true } in
       let s : Session = with_snapshot v seat z in
       let is : world.snapshot y ≡ world.snapshot x = sym at ∙ stand in
-      becomes v seat s (Some command.Safe) (answer.Safe stamp) t now
+      becomes v seat s (Some command.Safe) (answer.Safe stamp) t now (λ active. snapshot_not_active z active)
       (continues_from (v.session seat) s (world.snapshot y) at [] (sym (append-nil over)) tt) refl
       (λ p told.
       let own = own_watched p y (subst (λ (stand : Stand). TellsWatched p.snapshot stand) at told.watched) in
@@ -169,9 +176,12 @@ module _ (v : View) (seat : ℕ) (x : world.Snapshot) (stand : (v.session seat).
 
   turn_waits : (other seen : ℕ) (t : View) → phase_at v seat ≡ Pending → DidAskSafe v seat (answer.WaitSeat other seen) t → Turn v seat (Some command.Safe) (answer.WaitSeat other seen) t
   turn_waits other seen t pending did = turn_still v seat (Some command.Safe) (answer.WaitSeat other seen) t did.0 (sym pending) (λ p told. record {
-    over = told.over;
-    now = unchanged_told seat (Some command.Safe) (answer.WaitSeat other seen) p.current (v.session seat).stand refl told.now;
-    watched = subst (λ (at : Stand). TellsWatched (Some (own_snapshot p)) at) (sym stand) (own_watched p x (watched_at p told));
+    tells = record {
+      over = told.tells.over;
+      now = unchanged_told seat (Some command.Safe) (answer.WaitSeat other seen) p.current (v.session seat).stand refl told.tells.now;
+      watched = subst (λ (at : Stand). TellsWatched (Some (own_snapshot p)) at) (sym stand) (own_watched p x (watched_at p told.tells));
+    };
+    runs = watched_rests (option_map (with_line (Some command.Safe) (answer.WaitSeat other seen)) p.current);
   })
 
   turn_unsafe : (other stamp : ℕ) (t : View) → DidAskSafe v seat (answer.Unsafe other stamp) t → Turn v seat (Some command.Safe) (answer.Unsafe other stamp) t
@@ -205,40 +215,44 @@ turn_starts v seat a t idle did =
     let second : Turn u seat (Some command.Safe) a t = turn_asks u seat at.own at.is a t pending did.asked in
     let over : (u.session seat).over ≡ (v.session seat).over ++ [] = ap (λ (s : Session). s.over) now.own ∙ sym (append-nil (v.session seat).over) in record {
       others = λ q another. second.others q another ∙ now.others q another;
+      saves = λ q another. second.saves q another ∙ now.saves.others q another;
       opening = second.opening ∙ now.opening;
       tail = omega (arith, second.tail, now.tail);
       goes = continues_then (v.session seat) (u.session seat) (t.session seat)
           (continues_from (v.session seat) (u.session seat) world.idle (idle_in (v.session seat).stand idle) [] over tt) second.goes;
       phase = ap (λ (x : Phase). phase_after (Some command.Safe) a x) idle ∙ asked_leaves u seat a t did.asked
           ∙ sym (ap (λ (x : Phase). phase_after (Some command.Safe) a x) pending) ∙ second.phase;
-      tells = λ p told. subst (λ (q : Progress). Tells seat q (t.session seat)) (asked_hears u seat a t p did.asked)
-          (second.tells (with_own p) (told_begun v u seat did.begin p idle did.began told));
+      tells = λ p told. subst (λ (q : Progress). TellsAt seat q t) (asked_hears u seat a t p did.asked)
+          (second.tells (with_own p) (record { tells = told_begun v u seat did.begin p idle did.began told.tells; runs = watched_rests u seat at.own at.is p.current }));
     }
 
 -- none begins
-told_looked : (seat : ℕ) (asked : Option Command) (a : Answer) (p : Progress) (s : Session) → added asked a ≡ [] → Tells seat p s
-    → Tells seat (record p { current = option_map (with_line asked a) p.current; snapshot = option_map (with_look asked a) p.snapshot }) s
-told_looked seat asked a p s none told = record {
-  over = told.over;
-  now = unchanged_told seat asked a p.current s.stand none told.now;
-  watched = look_watched asked a p.snapshot s.stand told.watched;
+told_looked : (seat : ℕ) (asked : Option Command) (a : Answer) (p : Progress) (v : View) → added asked a ≡ [] → TellsAt seat p v
+    → TellsAt seat (record p { current = option_map (with_line asked a) p.current; snapshot = option_map (with_look asked a) p.snapshot }) v
+told_looked seat asked a p v none told = record {
+  tells = record {
+    over = told.tells.over;
+    now = unchanged_told seat asked a p.current (v.session seat).stand none told.tells.now;
+    watched = look_watched asked a p.snapshot (v.session seat).stand told.tells.watched;
+  };
+  runs = runs_still v seat asked a p.current none told.runs;
 }
 
 pub turn_snapshot : (v : View) (seat : ℕ) (a : Answer) (t : View) → phase_at v seat ≡ Idle → DidAskSnapshot v seat a t → Turn v seat (Some command.Safe) a t
 turn_snapshot v seat (answer.LogEnd tail) t idle did =
-    turn_still v seat (Some command.Safe) (answer.LogEnd tail) t did.0 refl (λ p told. told_looked seat (Some command.Safe) (answer.LogEnd tail) p (v.session seat) refl told)
+    turn_still v seat (Some command.Safe) (answer.LogEnd tail) t did.0 refl (λ p told. told_looked seat (Some command.Safe) (answer.LogEnd tail) p v refl told)
 turn_snapshot v seat answer.NumbersEnd t idle did =
-    turn_still v seat (Some command.Safe) answer.NumbersEnd t did.0 refl (λ p told. told_looked seat (Some command.Safe) answer.NumbersEnd p (v.session seat) refl told)
+    turn_still v seat (Some command.Safe) answer.NumbersEnd t did.0 refl (λ p told. told_looked seat (Some command.Safe) answer.NumbersEnd p v refl told)
 turn_snapshot v seat a t idle did = turn_starts v seat a t idle did
 
 -- A LINE of a session that has a snapshot
 pub turn_durable : (v : View) (seat : ℕ) (a : Answer) (t : View) → DidAskDurable v seat a t → Turn v seat (Some command.Durable) a t
 turn_durable v seat (answer.Durable stamp) t did =
-    turn_still v seat (Some command.Durable) (answer.Durable stamp) t did.0 refl (λ p told. told_still seat (Some command.Durable) (answer.Durable stamp) p (v.session seat) refl refl told)
+    turn_still v seat (Some command.Durable) (answer.Durable stamp) t did.0 refl (λ p told. told_still seat (Some command.Durable) (answer.Durable stamp) p v refl refl told)
 turn_durable v seat (answer.NotFlushed flushed) t did =
-    turn_still v seat (Some command.Durable) (answer.NotFlushed flushed) t did.0 refl (λ p told. told_still seat (Some command.Durable) (answer.NotFlushed flushed) p (v.session seat) refl refl told)
+    turn_still v seat (Some command.Durable) (answer.NotFlushed flushed) t did.0 refl (λ p told. told_still seat (Some command.Durable) (answer.NotFlushed flushed) p v refl refl told)
 turn_durable v seat answer.NoReceipt t did =
-    turn_still v seat (Some command.Durable) answer.NoReceipt t did.0 refl (λ p told. told_still seat (Some command.Durable) answer.NoReceipt p (v.session seat) refl refl told)
+    turn_still v seat (Some command.Durable) answer.NoReceipt t did.0 refl (λ p told. told_still seat (Some command.Durable) answer.NoReceipt p v refl refl told)
 turn_durable v seat a t did = absurd did
 
 pub turn_of_snapshot : (v : View) (seat : ℕ) (c : Command) (a : Answer) (t : View) → HasSnapshot v seat → refusal_of (phase_at v seat) c ≡ None → DidOfSnapshot v seat c a t → Turn v seat (Some c) a t
