@@ -1,6 +1,5 @@
 -- A look at several keys, as its line is answered.
-use Rattle.std.proofs.Common.{◌≡◌, refl, sym, ◌∙◌, subst, ℕ, List, [], ◌∷◌, ◌++◌, append-nil, Some, Result, Ok, Err, IfOk, IfErr}
-use Rattle.std.proofs.lemmas.List.Elements.{All-cons, All-nil}
+use Rattle.std.proofs.Common.{◌≡◌, refl, sym, ◌∙◌, subst, ℕ, List, [], ◌∷◌, ◌++◌, append-nil, map, Some, Result, Ok, Err, IfOk, IfErr}
 use Rattle.std.proofs.lemmas.Result.{IfOk-at_ok}
 use Rattle.erm_model.specs.declared.operation.Op.TheVariants as op
 use Rattle.erm_model.specs.declared.operation.Reply.TheVariants as reply
@@ -20,7 +19,7 @@ use Rattle.erm_tree.specs.Operations.{stuttered}
 use Rattle.erm_tree.proofs.Operations.{Stutters-look, Stutters-saw}
 use Rattle.erm_world.specs.Laws.{FitsWork}
 use Rattle.erm_world.specs.Works.{seen_by}
-use Rattle.erm_world.specs.Onward.{extends_itself}
+use Rattle.erm_world.specs.Going.{Extends, found_by}
 use Rattle.erm_world.specs.World.{View, Work, work_at}
 use Rattle.erm_maps.specs.Runs.{IsRunOf, kept_at}
 use Rattle.erm_maps.proofs.GoingOn.{IsRunOf-on_map}
@@ -30,6 +29,19 @@ use Rattle.erm_lines.specs.Whole.{WasAnswered}
 use Rattle.erm_lines.proofs.Bridge.{CallsAreRuns, RunsOn, cut_off, face, runs_on, seen}
 use Rattle.erm_lines.proofs.Refused.{refused, scan_fits}
 use Rattle.erm_lines.proofs.Scanning.{Scanned}
+
+-- a transaction has what it had
+extends_itself : (w : Work) → Extends w w
+extends_itself w = record {
+  number = refl;
+  begin = refl;
+  read = [];
+  reads = sym (append-nil w.reads);
+  claimed = [];
+  claims = sym (append-nil (map found_by w.claims));
+  more = [];
+  made = sym (append-nil w.made);
+}
 
 module _ {S : Type 0} (law : Law) (view : S → View) (seat : S → ℕ) (stands : S → Type 0) (one : S → S → Type 0) (same : SameLaw law sound_law)
     (are_runs : CallsAreRuns law view seat stands one same) where
@@ -56,7 +68,7 @@ module _ {S : Type 0} (law : Law) (view : S → View) (seat : S → ℕ) (stands
       let on = Saw-on (face law view seat stands one same) s t fact lawful saw rows ((same.meets rows).1 sound) (fits_now s t rows is fits) in
       subst (λ (q : ℕ). IsReplyOn (map_of_rows (seen_by (work_at (view t) q) rows)) step.op step.reply) is
       (subst (λ (array : Rows). IsReplyOn (map_of_rows array) step.op step.reply) (sym on.1) (replies (seen_by (work_at (view s) (seat s)) rows) on.0)) in
-      IsRunOf-on_map (kept_at (view t) (seat s)) w before (step ∷ []) (All-cons (λ (x : Step). IsOnMap x.op) step [] on_map (All-nil (λ (x : Step). IsOnMap x.op))) stays (record {
+      IsRunOf-on_map (kept_at (view t) (seat s)) w before (step ∷ []) (on_map, tt) stays (record {
         extends = extends_itself w;
         run = λ rows sound fits. (replied rows sound fits, tt);
         after = λ rows sound fits. sym (leaves (map_of_rows (seen_by w rows)));

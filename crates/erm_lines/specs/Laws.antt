@@ -1,6 +1,7 @@
 -- What executions owe: the laws, as statements.
-use Rattle.std.specs.Prelude.{◌≡◌, ℕ, ◌≤◌, List, []}
+use Rattle.std.specs.Prelude.{◌≡◌, ℕ, ◌≤◌, List, [], length, Some}
 use Rattle.erm_model.specs.declared.limits.TheConstants.{SESSIONS}
+use Rattle.erm_model.specs.declared.outcome.Phase.TheVariants.{Active}
 use Rattle.erm_model.specs.Committed.{HasSnapshotReplies, RunsInOrder, Committed, rank_of, state_after}
 use Rattle.erm_model.specs.Member.{◌∈◌}
 use Rattle.erm_model.specs.SerialOrder.{IsSerialOrder}
@@ -15,7 +16,7 @@ use Rattle.erm_good_report.specs.Phases.{Closed, ClosesAgree, PhasesAgree, phase
 use Rattle.erm_good_report.specs.Refusals.{HasCauses, moment_at}
 use Rattle.erm_good_report.specs.Snapshots.{SnapshotsAgree}
 use Rattle.erm_good_report.specs.Stamps.{StampsAgree}
-use Rattle.erm_good_report.specs.Transactions.{Transaction, history_of, progress_of, said_of, steps_of, transactions_of}
+use Rattle.erm_good_report.specs.Transactions.{Transaction, held_of, history_of, progress_of, said_of, steps_of, transactions_of}
 use Rattle.erm_lines.specs.Answers.{DidLine}
 use Rattle.erm_lines.specs.Executions.{AreClosed, DidEnd, IsCourse, IsExecution, IsOpened, IsOpeningOf, IsPart, IsRun, Move, said_in}
 use Rattle.erm_lines.specs.Told.{Continues, Tells}
@@ -24,6 +25,11 @@ use Rattle.erm_lines.specs.Told.{Continues, Tells}
 abbrev pub ExecutionsTell : Type 0
 ExecutionsTell = (v t : View) (moves : List Move) → IsOpened v → IsExecution v moves t → (seat : ℕ) → IsSession v seat
     → Tells seat (progress_of seat (said_in moves)) (t.session seat) × (phase_of seat (said_in moves) ≡ phase_at t seat)
+
+-- after moves a session's transaction in progress holds as many savepoints as its lines tell
+abbrev pub ExecutionsHold : Type 0
+ExecutionsHold = (v t : View) (moves : List Move) → IsOpened v → IsExecution v moves t → (seat : ℕ) → IsSession v seat
+    → (own : Transaction) → (progress_of seat (said_in moves)).current ≡ Some own → phase_at t seat ≡ Active → held_of own ≡ length (t.saves seat)
 
 -- sessions go on by moves, and the opening stays
 abbrev pub ExecutionsGoOn : Type 0

@@ -13,7 +13,7 @@ use Rattle.erm_maps.specs.Runs.{IsAnswered, IsRunOf, Kept}
 use Rattle.erm_good_report.specs.Phases.{phase_after}
 use Rattle.erm_good_report.specs.Transactions.{Progress, Said, heard, nothing, steps_of}
 use Rattle.erm_lines.specs.Executions.{DidFlush, IsExecution, Move, close, flush, line, log, said_in}
-use Rattle.erm_lines.specs.Laws.{ExecutionsGoOn, ExecutionsTell}
+use Rattle.erm_lines.specs.Laws.{ExecutionsGoOn, ExecutionsHold, ExecutionsTell}
 use Rattle.erm_lines.specs.Told.{Continues, Tells}
 use Rattle.erm_lines.proofs.Keeping.{NoneRuns}
 use Rattle.erm_lines.proofs.Moved.{log_flushes, log_of_none}
@@ -151,6 +151,10 @@ module _ (runs : NoneRuns) (stay : (w u : Work) (steps : List Step) → Extends 
   executions_tell v t moves opened executed seat session =
       let known = knows_all seat moves nothing Idle v t session executed (knows_start v seat (opened.idle seat session)) in
       (known.told.tells, known.phase_is)
+
+  pub executions_hold : ExecutionsHold
+  executions_hold v t moves opened executed seat session own is active =
+      ((knows_all seat moves nothing Idle v t session executed (knows_start v seat (opened.idle seat session))).told.runs own is active).held
 
   goes_all : (moves : List Move) (v t : View) → IsExecution v moves t → AllGo v t
   goes_all [] v t is = goes_itself v t is

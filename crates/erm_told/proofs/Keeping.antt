@@ -3,14 +3,14 @@ use Rattle.std.proofs.Common.{◌≡◌, ◌⊎◌, ◌≢◌, ℕ, ◌==◌, �
 use Rattle.std.proofs.lemmas.Bool.{cases_eq}
 use Rattle.erm_model.specs.declared.history.TransactionRecord.{TransactionRecord}
 use Rattle.erm_model.specs.declared.operation.Op.{Op}
-use Rattle.erm_model.specs.declared.operation.Op.TheVariants.{Get, Put, Del, Next, Scan}
+use Rattle.erm_model.specs.declared.operation.Op.TheVariants.{Get, Next, Scan}
 use Rattle.erm_model.specs.declared.operation.Reply.{Reply}
 use Rattle.erm_model.specs.declared.outcome.Phase.{Phase}
 use Rattle.erm_model.specs.Database.{Database}
 use Rattle.erm_model.specs.History.{HasNewestRows, History, IsNewestBelow, IsSnapshot, IsVersion}
 use Rattle.erm_model.specs.Member.{◌∈◌}
 use Rattle.erm_model.specs.Rows.{Rows}
-use Rattle.erm_model.specs.Run.{IsReply, RunsOne, Step, after, after_all, ops_of}
+use Rattle.erm_model.specs.Run.{IsReply, IsReplyOn, RunsOne, Saving, Step, after, after_from, begins, ops_of}
 use Rattle.erm_model.proofs.Members.{none_in_nil}
 use Rattle.erm_model.proofs.Runs.{RunsOne-push}
 use Rattle.erm_machine.proofs.Listed.{∈-either, ∈-first, ∈-second}
@@ -97,16 +97,15 @@ kept_like v s r begin same looks kept = record {
 }
 
 -- READINGS leave the map.
-reading_leaves : (op : Op) (m : Database) → IsReading op → after op m ≡ m
-reading_leaves (Get table key) m r = refl
-reading_leaves (Next table from) m r = refl
-reading_leaves (Scan table low high) m r = refl
-reading_leaves (Put table key value) m r = absurd r
-reading_leaves (Del table key) m r = absurd r
+reading_leaves : (op : Op) (s : Saving Database) → IsReading op → after op s ≡ s
+reading_leaves (Get table key) s r = refl
+reading_leaves (Next table from) s r = refl
+reading_leaves (Scan table low high) s r = refl
+reading_leaves op s r = absurd r
 
-readings_leave : (steps : List Step) (m : Database) → AreReadings steps → after_all (ops_of steps) m ≡ m
-readings_leave [] m all = refl
-readings_leave (step ∷ steps) m all = ap (λ (n : Database). after_all (ops_of steps) n) (reading_leaves step.op m all.0) ∙ readings_leave steps m all.1
+readings_leave : (steps : List Step) (s : Saving Database) → AreReadings steps → after_from (ops_of steps) s ≡ s
+readings_leave [] s all = refl
+readings_leave (step ∷ steps) s all = ap (after_from (ops_of steps)) (reading_leaves step.op s all.0) ∙ readings_leave steps s all.1
 
 readings_push : (steps : List Step) (step : Step) → AreReadings steps → IsReading step.op → AreReadings (steps ++ step ∷ [])
 readings_push [] step all one = (one, tt)
@@ -114,7 +113,7 @@ readings_push (first ∷ steps) step all one = (all.0, readings_push steps step 
 
 -- a look more
 pub kept_with : (v : View) (s r : Snapshot) (begin : ℕ) (step : Step) → s.begin ≡ r.begin → looks_of s ≡ looks_of r ++ step ∷ [] → IsReading step.op
-    → ((rows : Rows) → IsSound rows → HasNewestRows (history_of v) v.opening.rows begin rows → IsReply (map_of_rows rows) step.op step.reply) → IsKeptSafe v r begin → IsKeptSafe v s begin
+    → ((rows : Rows) → IsSound rows → HasNewestRows (history_of v) v.opening.rows begin rows → IsReplyOn (map_of_rows rows) step.op step.reply) → IsKeptSafe v r begin → IsKeptSafe v s begin
 kept_with v s r begin step same looks reads reply kept = record {
   stays = record {
     told = same ∙ kept.stays.told;
@@ -123,7 +122,7 @@ kept_with v s r begin step same looks reads reply kept = record {
         let m = map_of_rows rows in
         subst (λ (steps : List Step). RunsOne m steps) (sym looks)
         (RunsOne-push m (looks_of r) step (kept.stays.replies rows sound newest)
-        (subst (λ (n : Database). IsReply n step.op step.reply) (sym (readings_leave (looks_of r) m kept.reads)) (reply rows sound newest)));
+        (subst (λ (s : Saving Database). IsReply s step.op step.reply) (sym (readings_leave (looks_of r) (begins m) kept.reads)) (reply rows sound newest)));
   };
   reads = subst AreReadings (sym looks) (readings_push (looks_of r) step kept.reads reads);
 }

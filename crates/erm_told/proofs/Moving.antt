@@ -21,6 +21,7 @@ use Rattle.erm_world.specs.declared.stops.SafeStop.TheVariants as safe
 use Rattle.erm_world.specs.Face.{Answered, WasRefused}
 use Rattle.erm_world.specs.Calls.{DidAbort, DidBegin, DidClaim, DidMake, DidNotClaim, DidNotMake, DidNotRead, DidRead, DidSeal, DidSettle, DidWrite, MayNotBegin}
 use Rattle.erm_world.specs.Safe.{DidBeginSafe, DidNotSafe, DidSafe, IsSafeIn}
+use Rattle.erm_world.specs.Saves.{DidSave, WentBack}
 use Rattle.erm_world.specs.World.{Finished, IsSession, IsWorking, Session, View, history_of, phase_at, phase_of}
 use Rattle.erm_world.specs.Laws.{IsCommitOf}
 use Rattle.erm_world.specs.World as world
@@ -28,7 +29,7 @@ use Rattle.erm_world.proofs.Commits.{tells_commits}
 use Rattle.erm_world.proofs.Txns.{went}
 use Rattle.erm_safe_world.specs.Moves.{MovesOn}
 use Rattle.erm_good_report.specs.Phases.{HasNoSnapshot, NeedsAny, NeedsReader, NeedsWriter, refusal_of}
-use Rattle.erm_lines.specs.Answers.{DidAskDurable, DidAskSafe, DidAskSnapshot, DidAsked, DidClose, DidCommand, DidCommit, DidDecide, DidLine, DidOfSnapshot, DidOperation, WasRefusedAs}
+use Rattle.erm_lines.specs.Answers.{DidAskBack, DidAskDurable, DidAskSave, DidAskSafe, DidAskSnapshot, DidAsked, DidClose, DidCommand, DidCommit, DidDecide, DidLine, DidOfSnapshot, DidOperation, WasRefusedAs}
 use Rattle.erm_lines.specs.Executions.{DidEnd, DidFlush, DidMove, Move, close, flush, line, log}
 use Rattle.erm_lines.specs.Operations.{Ran}
 use Rattle.erm_lines.proofs.Moved.{active_where, asked_still, log_flushes}
@@ -45,6 +46,8 @@ pub record MovingLaws : Type 0 where
   pub claims : (v t : View) (seat oid : ℕ) → IsSession v seat → phase_at v seat ≡ Active → DidClaim v seat oid t → MovesOn v t
   pub writes : (v t : View) (seat oid : ℕ) (row : List ℕ) → IsSession v seat → phase_at v seat ≡ Active → DidWrite v seat oid row t → MovesOn v t
   pub makes : (v t : View) (seat oid : ℕ) → IsSession v seat → phase_at v seat ≡ Active → DidMake v seat oid t → MovesOn v t
+  pub saves : (v t : View) (seat held : ℕ) → DidSave v seat held t → MovesOn v t
+  pub backs : (v t : View) (seat n : ℕ) → IsSession v seat → phase_at v seat ≡ Active → WentBack v seat n t → MovesOn v t
   pub seals : (v t : View) (seat stamp : ℕ) → IsSession v seat → phase_at v seat ≡ Active → DidSeal v seat stamp t → MovesOn v t
   pub settles : (v t : View) (seat : ℕ) (outcome : Outcome) → IsSession v seat → DidSettle v seat outcome t → MovesOn v t
   pub aborts : (v t : View) (seat : ℕ) → DidAbort v seat t → MovesOn v t
@@ -87,6 +90,17 @@ module _ (laws : MovingLaws) where
   operation_moves v t seat c (answer.Cut cells) session active did = ran_moves did.2.events v t seat session active did.2.ran
   operation_moves v t seat c a session active did = cut_moves v t seat c a session active did
 
+  -- SAVEPOINTS
+  save_moves : (v t : View) (seat : ℕ) (a : Answer) → DidAskSave v seat a t → MovesOn v t
+  save_moves v t seat (answer.Saved held) did = laws.saves v t seat held did
+  save_moves v t seat answer.SavesFull did = laws.stays v t did.0
+  save_moves v t seat a did = absurd did
+
+  back_moves : (v t : View) (seat n : ℕ) (a : Answer) → IsSession v seat → phase_at v seat ≡ Active → DidAskBack v seat n a t → MovesOn v t
+  back_moves v t seat n (answer.Back m) session active did = laws.backs v t seat n session active did.1
+  back_moves v t seat n (answer.NoSave held) session active did = laws.stays v t did.0
+  back_moves v t seat n a session active did = absurd did
+
   -- DECISIONS
   decide_moves : (v t : View) (seat : ℕ) (a : Answer) → IsSession v seat → DidDecide v seat a t → MovesOn v t
   decide_moves v t seat (answer.Committed stamp succ pred) session (r, at, after, before, did) = laws.settles v t seat (outcome.Committed r) session did
@@ -122,6 +136,8 @@ module _ (laws : MovingLaws) where
   command_moves v t seat command.Settle a session free plain did = decide_moves v t seat a session did
   command_moves v t seat command.Commit a session free plain did = commit_moves v t seat a session (active_where NeedsReader (phase_at v seat) tt plain free) did
   command_moves v t seat command.Abort answer.Aborted session free plain did = laws.aborts v t seat did
+  command_moves v t seat command.Save a session free plain did = save_moves v t seat a did
+  command_moves v t seat (command.Back n) a session free plain did = back_moves v t seat n a session (active_where NeedsWriter (phase_at v seat) tt plain free) did
   command_moves v t seat command.Durable a session free plain did = laws.stays v t (asked_still v t seat a did)
   command_moves v t seat (command.Get table key) a session free plain did = operation_moves v t seat (command.Get table key) a session (active_where NeedsReader (phase_at v seat) tt plain free) did
   command_moves v t seat (command.Put table key value) a session free plain did = operation_moves v t seat (command.Put table key value) a session (active_where NeedsWriter (phase_at v seat) tt plain free) did

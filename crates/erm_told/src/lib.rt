@@ -2,12 +2,20 @@
 //! Each law is the contract of a function that does nothing.
 #![tactic(auto)]
 
-ghost use Rattle.erm_lines.specs.Laws.{ExecutionsGoOn, ExecutionsTell, PartsCutFew, PartsHavePhases, PartsHaveStamps, RunsCloseSessions, RunsCutFew, RunsHavePhases, RunsHaveStamps, RunsTell};
+ghost use Rattle.erm_lines.specs.Laws.{ExecutionsGoOn, ExecutionsHold, ExecutionsTell, PartsCutFew, PartsHavePhases, PartsHaveStamps, RunsCloseSessions, RunsCutFew, RunsHavePhases, RunsHaveStamps, RunsTell};
 ghost use Rattle.erm_told.specs.Snapshots.{ExecutionsKeepBegins, ExecutionsKeepSafe};
 
 /// After any moves each session's transactions are those that the moves tell, and its phase is the one that the answers leave.
 pub fn executions_tell_sessions()
     ensures { ExecutionsTell }
+{
+    erm_maps::begun_transactions_are_runs();
+    erm_maps::answers_stay();
+}
+
+/// After any moves a session's transaction in progress holds as many savepoints as its lines tell.
+pub fn executions_hold_savepoints()
+    ensures { ExecutionsHold }
 {
     erm_maps::begun_transactions_are_runs();
     erm_maps::answers_stay();
