@@ -14,7 +14,7 @@ use Rattle.erm_report.specs.declared.answer.Answer.TheVariants as answer
 use Rattle.erm_script.specs.declared.script.Command.{Command}
 use Rattle.erm_script.specs.declared.script.Command.TheVariants as command
 use Rattle.erm_script.specs.declared.script.ScriptLine.{ScriptLine}
-use Rattle.erm_world.specs.Calls.{DidSeal, IsDone, KeepsOwnSaves}
+use Rattle.erm_world.specs.Calls.{DidSeal, IsDone, KeepsOwnSaves, Works}
 use Rattle.erm_world.specs.World.{Fate, IsSession, Opening, Session, Stand, View, Work, begun, phase_at, phase_of, work_at, work_of}
 use Rattle.erm_world.specs.World as world
 use Rattle.erm_world.proofs.Txns.{stopped, went}
@@ -85,6 +85,10 @@ begins_bare u world.idle held before idle keeps = keeps
 begins_bare u (world.active w) held before idle keeps = absurd (cc)
 begins_bare u (world.sealed w stamp) held before idle keeps = keeps
 begins_bare u (world.snapshot s) held before idle keeps = keeps
+
+pub begins_run : NoneRuns → (v : View) (seat : ℕ) (t : View) (number begin : ℕ) → phase_at v seat ≡ Idle → Works v seat (begun number begin) t → phase_at t seat ≡ Active → IsRunAt t seat
+begins_run none v seat t number begin idle did =
+    begun_runs none t seat number begin (ap (λ (s : Session). s.stand) did.own) (begins_bare (begun number begin) (v.session seat).stand (t.saves seat) (v.saves seat) idle did.saves.own)
 
 done_turns : (v t : View) (seat : ℕ) (w : Work) (fate : Fate) → IsDone v seat w fate t → Turns v seat t
 done_turns v t seat w fate did =
@@ -182,7 +186,7 @@ back_turns v t seat n a run did =
 module _ (none : NoneRuns) (v t : View) (seat : ℕ) (runs : AreRunsNow v) where
   begun_kept : (a : Answer) → phase_at v seat ≡ Idle → DidCommand v seat command.Begin a t → StayRuns v t
   begun_kept (answer.Began stamp) idle did = kept v t seat runs (record {
-    own = begun_runs none t seat _ stamp (ap (λ (s : Session). s.stand) did.3.own) (begins_bare _ (v.session seat).stand (t.saves seat) (v.saves seat) idle did.3.saves.own);
+    own = begins_run none v seat t _ stamp idle did.3;
     others = did.3.others;
     saves = did.3.saves.others;
     opening = did.3.opening;

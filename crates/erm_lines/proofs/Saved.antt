@@ -65,6 +65,12 @@ saved v t seat (answer.Saved held) did = holds v t seat (v.saves seat ++ (work_a
 saved v t seat answer.SavesFull did = still v t seat did.0
 saved v t seat a did = absurd did
 
+-- whatever its answer, the session is the same
+pub saved_session : (v t : View) (seat : ℕ) (a : Answer) → DidAskSave v seat a t → t.session ≡ v.session
+saved_session v t seat (answer.Saved held) did = ap (λ (u : View). u.session) did.saved
+saved_session v t seat answer.SavesFull did = ap (λ (u : View). u.session) did.0
+saved_session v t seat a did = absurd did
+
 -- A WAY BACK
 pub back_goes : (v t : View) (seat n : ℕ) → WentBack v seat n t → Saves v seat t
 back_goes v t seat n did =

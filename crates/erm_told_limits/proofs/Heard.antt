@@ -13,7 +13,7 @@ use Rattle.erm_script.specs.declared.script.Command.TheVariants as command
 use Rattle.erm_good_report.specs.Phases.{Need, refusal_for, refusal_in}
 use Rattle.erm_good_report.proofs.Phases.{phase_refuses}
 use Rattle.erm_good_report.specs.Refusals.{claims_of, reads_of}
-use Rattle.erm_good_report.specs.Transactions.{Exchange, Progress, Transaction, heard, table_of, with_line}
+use Rattle.erm_good_report.specs.Transactions.{Exchange, Progress, Transaction, exchange_of, heard, with_line}
 use Rattle.erm_lines.specs.Answers.{DidCommand, DidOperation, stop_told}
 
 -- what the lines of a transaction add up to: how many objects they may claim, and how many they may read
@@ -74,7 +74,7 @@ was_mapped count (Some u) change more grows t e =
 
 pub was_line : (count : Command → ℕ) (c : Command) (a : Answer) (u : Transaction) → tally count u + 0 ≤ tally count (with_line (Some c) a u)
 was_line count c a u =
-    let more : List Exchange = option_to_list (option_map (λ (table : ℕ). record { asked = c; answer = a }) (table_of c)) in
+    let more : List Exchange = option_to_list (exchange_of (Some c) a) in
     let parts = sum_by-append (λ (e : Exchange). count e.asked) u.lines more in
     omega (arith, parts)
 

@@ -8,7 +8,6 @@ use Rattle.erm_model.specs.declared.limits.TheConstants.{GREATEST_BLOCK, WRITE_L
 use Rattle.erm_model.specs.declared.history.VersionRead.{VersionRead}
 use Rattle.erm_model.specs.declared.history.VersionWritten.{VersionWritten}
 use Rattle.erm_model.specs.declared.outcome.Phase.TheVariants.{Active}
-use Rattle.erm_model.specs.Run.{Step}
 use Rattle.erm_machine.proofs.Listed.{∈-first}
 use Rattle.erm_node.specs.Sound.{reached, sound_law}
 use Rattle.erm_world.specs.Laws.{IsSerializable}
@@ -16,7 +15,6 @@ use Rattle.erm_world.specs.Works.{row_read}
 use Rattle.erm_world.specs.World.{IsSession, Session, View, Work, claims_by_all, made_by_all, phase_at, phase_of, work_at, work_of}
 use Rattle.erm_world.specs.World as world
 use Rattle.erm_world.proofs.Lists.{∈-last}
-use Rattle.erm_maps.specs.Runs.{IsRunOf}
 use Rattle.erm_report.specs.declared.answer.Answer.{Answer}
 use Rattle.erm_script.specs.declared.script.Command.{Command}
 use Rattle.erm_script.specs.declared.script.Command.TheVariants as command
@@ -26,6 +24,7 @@ use Rattle.erm_good_report.specs.Refusals.{claims_of, draws_of, makes_of, total_
 use Rattle.erm_good_report.specs.Transactions.{Exchange, Progress, Said, Transaction, heard, nothing, progress_of, with_line}
 use Rattle.erm_lines.specs.Answers.{DidAsked, DidCommand, DidLine, DidOperation}
 use Rattle.erm_lines.specs.Executions.{DidFlush, DidLogLine, DidMove, move_of}
+use Rattle.erm_lines.proofs.Keeping.{run_same}
 use Rattle.erm_lines.proofs.Moved.{log_flushes, log_of_none, moved}
 use Rattle.erm_told_limits.specs.Limits.{AreInRange}
 use Rattle.erm_told_limits.proofs.Arrays.{HaveRowsBelow}
@@ -113,9 +112,10 @@ module _ (laws : Laws) (ls : List ScriptLine) (said : List Said) (v : View) (bef
 
   runs_then : (seat : ℕ) → IsSession t seat → phase_at t seat ≡ Active → HasRun t seat
   runs_then seat session =
-      by_seat (λ s. phase_of s.stand ≡ Active → (steps : List Step) × IsRunOf (work_of s.stand) steps) seat
-      (λ is. subst (λ q. phase_at t q ≡ Active → HasRun t q) is (line_runs laws.start v l a t did (before.runs l.session did.session)))
-      (before.runs seat (there seat session))
+      elim (cases_eq seat l.session) as (λ _. phase_at t seat ≡ Active → HasRun t seat) [
+        | inl is ↦ subst (λ q. phase_at t q ≡ Active → HasRun t q) (sym is) (line_runs laws.start v l a t did (before.runs l.session did.session))
+        | inr another ↦ run_same v t seat (turned.others seat another) (turned.saves seat another) (before.runs seat (there seat session))
+      ]
 
   over_then : (seat : ℕ) → IsSession t seat → length (t.session seat).over ≤ length (ls ++ l ∷ [])
   over_then seat session =
@@ -285,7 +285,7 @@ module _ (ls : List ScriptLine) (said : List Said) (v : View) (before : Holds ls
   pub holds_logged : Holds (ls ++ l ∷ []) (said ++ said_by l a ∷ []) t
   holds_logged = record {
     serializable = holds;
-    runs = λ seat session. by_same (λ s. phase_of s.stand ≡ Active → (steps : List Step) × IsRunOf (work_of s.stand) steps) seat session (before.runs seat (was_there seat session));
+    runs = λ seat session. run_same v t seat (kept.session seat (was_there seat session)) (kept.saves seat (was_there seat session)) (before.runs seat (was_there seat session));
     mades = omega (arith, mades_kept v t kept, before.mades, sum_by_push (λ (k : ScriptLine). makes_of k.command) ls l);
     claims = omega (arith, claims_kept v t kept, before.claims, sum_by_push (λ (k : ScriptLine). claims_of k.command) ls l);
     tail =

@@ -16,6 +16,7 @@ pub mod Holds
 pub mod At
 pub mod Pigeons
 pub mod Refused
+pub mod Saved
 pub mod Limits
 pub mod Causes
 pub mod Logs

@@ -20,7 +20,7 @@ use Rattle.erm_world.specs.World.{Fate, Finished, Has, IsCurrent, IsOver, IsSess
 use Rattle.erm_world.specs.World as world
 use Rattle.erm_world.proofs.Lists.{∈-last}
 use Rattle.erm_world.proofs.Txns.{stopped}
-use Rattle.erm_maps.specs.Runs.{IsRunOf}
+use Rattle.erm_maps.specs.Runs.{IsRunOf, kept_at}
 use Rattle.erm_report.specs.declared.answer.Answer.{Answer}
 use Rattle.erm_script.specs.declared.script.Command.{Command}
 use Rattle.erm_script.specs.Script.{IsInRange}
@@ -41,7 +41,7 @@ Known c t x = IsInRange c → 0 < reached t.opening.rows x + made_by_all t x
 
 -- the transaction in progress is the run of some operations
 abbrev pub HasRun : View → ℕ → Type 0
-HasRun v seat = (steps : List Step) × IsRunOf (work_at v seat) steps
+HasRun v seat = (steps : List Step) × IsRunOf (kept_at v seat) steps
 
 -- a session's transaction is over with what it had, goes on with that, or begins where there was none
 pub done_moved : (P : ℕ → Type 0) (s t : Session) (w : Work) (fate : Fate) → w ≡ work_of s.stand → t ≡ record { over = s.over ++ record { work = w; fate = fate } ∷ []; stand = world.idle } → Moved P 0 0 1 s t
@@ -72,6 +72,7 @@ module _ (P : ℕ → Type 0) (v : View) (seat : ℕ) (t : View) where
         (λ x. let made = moves.made x in omega (arith, made))
         (λ x read. elim (moves.reads x read) [ inl before ↦ inl before | inr new ↦ inr (known x new) ]);
     others = stays.others;
+    saves = stays.saves;
     opening = stays.opening;
   }
 
@@ -81,21 +82,24 @@ module _ (P : ℕ → Type 0) (v : View) (seat : ℕ) (t : View) where
   done_turned w fate m k done made claimed more = record {
     own = moved_out P m k (v.session seat) (t.session seat) w fate done.own made claimed more;
     others = done.others;
+    saves = done.saves.others;
     opening = done.opening;
   }
 
   pub done_as_was : (w : Work) (fate : Fate) → w ≡ work_at v seat → IsDone v seat w fate t → Turned P 0 0 1 v seat t
-  done_as_was w fate is done = record { own = done_moved P (v.session seat) (t.session seat) w fate is done.own; others = done.others; opening = done.opening }
+  done_as_was w fate is done = record { own = done_moved P (v.session seat) (t.session seat) w fate is done.own; others = done.others; saves = done.saves.others; opening = done.opening }
 
   -- the same work goes on
-  pub same_turned : (t.session seat).over ≡ (v.session seat).over → work_at t seat ≡ work_at v seat → ((q : ℕ) → q ≢ seat → t.session q ≡ v.session q) → t.opening ≡ v.opening → Turned P 0 0 0 v seat t
-  same_turned over work others opening = record { own = same_moved P (v.session seat) (t.session seat) over work; others = others; opening = opening }
+  pub same_turned : (t.session seat).over ≡ (v.session seat).over → work_at t seat ≡ work_at v seat → ((q : ℕ) → q ≢ seat → t.session q ≡ v.session q)
+      → ((q : ℕ) → q ≢ seat → t.saves q ≡ v.saves q) → t.opening ≡ v.opening → Turned P 0 0 0 v seat t
+  same_turned over work others saves opening = record { own = same_moved P (v.session seat) (t.session seat) over work; others = others; saves = saves; opening = opening }
 
   -- a transaction, or a snapshot, begins where there was none
   pub begun_session : (s : Session) (n b : ℕ) → (v.session seat).stand ≡ world.idle → Becomes v seat s t → s.over ≡ (v.session seat).over → work_of s.stand ≡ begun n b → Turned P 0 0 0 v seat t
   begun_session s n b idle now over work = record {
     own = begun_moved P (v.session seat) (t.session seat) n b idle (ap (λ (r : Session). r.over) now.own ∙ over) (ap (λ (r : Session). work_of r.stand) now.own ∙ work);
     others = now.others;
+    saves = now.saves.others;
     opening = now.opening;
   }
 
@@ -103,6 +107,7 @@ module _ (P : ℕ → Type 0) (v : View) (seat : ℕ) (t : View) where
   begun_turned n b idle works = record {
     own = begun_moved P (v.session seat) (t.session seat) n b idle (ap (λ (s : Session). s.over) works.own) (ap (λ (s : Session). work_of s.stand) works.own);
     others = works.others;
+    saves = works.saves.others;
     opening = works.opening;
   }
 

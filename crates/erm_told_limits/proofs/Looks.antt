@@ -27,6 +27,7 @@ use Rattle.erm_told_limits.proofs.Lines.{HasRun, Known, Looked, begun_turned, cu
 use Rattle.erm_told_limits.proofs.Moved.{Turned, turned_nothing, turned_then}
 use Rattle.erm_told_limits.proofs.Pigeons.{reads_grow}
 use Rattle.erm_told_limits.proofs.Reached.{Ways}
+use Rattle.erm_told_limits.proofs.Saved.{back_turned, saved_turned}
 use Rattle.erm_told_limits.proofs.Turns.{decided, idle_stand, sealed, snapshot_turned}
 
 -- a line of this command may read all that there are, or its transaction has read no more than the command may
@@ -73,6 +74,8 @@ module _ (rows_below : HaveRowsBelow) (ways : Ways) (v : View) (seat : ℕ) (t :
     command_looks (command.Next table from) a allowed plain range did = inl (omega arith)
     command_looks (command.Scan table low high) a allowed plain range did = inl (omega arith)
     command_looks (command.Tidy table key) a allowed plain range did = let active = active_where NeedsWriter (phase_at v seat) tt plain allowed in operated (command.Tidy table key) range active (has_run active) a did
+    command_looks command.Save a allowed plain range did = inr (looked_nothing v seat t 0 0 0 0 (saved_turned Never v seat t a did))
+    command_looks (command.Back n) a allowed plain range did = inr (looked_nothing v seat t 0 0 0 0 (back_turned Never v seat t n a did))
     command_looks command.Safe a allowed plain range did = inr (looked_nothing v seat t 0 0 0 1 (snapshot_turned Never v seat t a (start_where (phase_at v seat) command.Safe allowed refl plain) did))
     command_looks command.Seal (answer.Sealed stamp) allowed plain range did = inr (looked_nothing v seat t 0 0 0 0 (sealed Never v seat t stamp did))
     command_looks command.Settle a allowed plain range did = inr (looked_nothing v seat t 0 0 0 1 (decided Never v seat t a did))

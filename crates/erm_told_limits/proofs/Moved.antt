@@ -87,12 +87,14 @@ moved_within P m k o n l p s t less fewer within moved = record {
 pub record Turned (P : ℕ → Type 0) (m k o : ℕ) (v : View) (seat : ℕ) (t : View) : Type 0 where
   pub own : Moved P m k o (v.session seat) (t.session seat)
   pub others : (q : ℕ) → q ≢ seat → t.session q ≡ v.session q
+  pub saves : (q : ℕ) → q ≢ seat → t.saves q ≡ v.saves q
   pub opening : t.opening ≡ v.opening
 
 pub turned_nothing : (P : ℕ → Type 0) (v : View) (seat : ℕ) (t : View) → t ≡ v → Turned P 0 0 0 v seat t
 turned_nothing P v seat t is = record {
   own = moved_nothing P (v.session seat) (t.session seat) (ap (λ (x : View). x.session seat) is);
   others = λ q another. ap (λ (x : View). x.session q) is;
+  saves = λ q another. ap (λ (x : View). x.saves q) is;
   opening = ap (λ (x : View). x.opening) is;
 }
 
@@ -100,6 +102,7 @@ pub turned_then : (P : ℕ → Type 0) (m k o n l p : ℕ) (v : View) (seat : �
 turned_then P m k o n l p v seat t u first second = record {
   own = moved_then P m k o n l p (v.session seat) (t.session seat) (u.session seat) first.own second.own;
   others = λ q another. second.others q another ∙ first.others q another;
+  saves = λ q another. second.saves q another ∙ first.saves q another;
   opening = second.opening ∙ first.opening;
 }
 
@@ -107,5 +110,6 @@ pub turned_within : (P : ℕ → Type 0) (m k o n l p : ℕ) (v : View) (seat : 
 turned_within P m k o n l p v seat t less fewer within turned = record {
   own = moved_within P m k o n l p (v.session seat) (t.session seat) less fewer within turned.own;
   others = turned.others;
+  saves = turned.saves;
   opening = turned.opening;
 }

@@ -110,11 +110,13 @@ moves_on law w u event events x first rest = record {
       );
 }
 
--- the session has the transaction still, and nothing else changed
+-- the session has the transaction still, with its savepoints, and nothing else changed
 pub record Stays (v : View) (seat : ℕ) (t : View) : Type 0 where
   pub stand : (t.session seat).stand ≡ world.active (work_at t seat)
   pub over : (t.session seat).over ≡ (v.session seat).over
   pub others : (q : ℕ) → q ≢ seat → t.session q ≡ v.session q
+  pub saves : (q : ℕ) → q ≢ seat → t.saves q ≡ v.saves q
+  pub held : t.saves seat ≡ v.saves seat
   pub opening : t.opening ≡ v.opening
   pub more : Extends (work_at v seat) (work_at t seat)
 
@@ -129,6 +131,8 @@ stays_one law v seat event t active it =
       stand = it.stand ∙ ap world.active (sym is);
       over = over_kept (v.session seat) (t.session seat) it.work it.goes.own it.stand;
       others = it.goes.others;
+      saves = it.goes.saves;
+      held = it.saves;
       opening = it.goes.opening;
       more = subst (λ (w : Work). Extends (work_at v seat) w) (sym is) it.more;
     }
@@ -138,6 +142,8 @@ stays_then v t u seat first second = record {
   stand = second.stand;
   over = second.over ∙ first.over;
   others = λ q another. second.others q another ∙ first.others q another;
+  saves = λ q another. second.saves q another ∙ first.saves q another;
+  held = second.held ∙ first.held;
   opening = second.opening ∙ first.opening;
   more = extends_then (work_at v seat) (work_at t seat) (work_at u seat) first.more second.more;
 }
@@ -148,6 +154,8 @@ stays_itself v t seat active is =
       stand = active_with (t.session seat).stand (ap (λ (s : Session). phase_of s.stand) same ∙ active);
       over = ap (λ (s : Session). s.over) same;
       others = λ q another. ap (λ (x : View). x.session q) is;
+      saves = λ q another. ap (λ (x : View). x.saves q) is;
+      held = ap (λ (x : View). x.saves seat) is;
       opening = ap (λ (x : View). x.opening) is;
       more = subst (λ (s : Session). Extends (work_at v seat) (work_of s.stand)) (sym same) (same_work (work_at v seat));
     }

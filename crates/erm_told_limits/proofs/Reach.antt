@@ -137,6 +137,16 @@ module _ (n : ℕ) where
   tidy_starts table key (answer.Cut cells) fits = quiet n (command.Tidy table key) (answer.Cut cells) refl refl
   tidy_starts table key a fits = claim_stop n (command.Tidy table key) a fits
 
+  save_starts : (a : Answer) → IsAnswerTo command.Save a → Starts n command.Save a
+  save_starts (answer.Saved held) fits = quiet n command.Save (answer.Saved held) refl refl
+  save_starts answer.SavesFull fits = quiet n command.Save answer.SavesFull refl refl
+  save_starts a fits = absurd fits
+
+  back_starts : (k : ℕ) (a : Answer) → IsAnswerTo (command.Back k) a → Starts n (command.Back k) a
+  back_starts k (answer.Back told) fits = quiet n (command.Back k) (answer.Back told) refl refl
+  back_starts k (answer.NoSave held) fits = quiet n (command.Back k) (answer.NoSave held) refl refl
+  back_starts k a fits = absurd fits
+
   durable_starts : (a : Answer) → IsAnswerTo command.Durable a → Starts n command.Durable a
   durable_starts (answer.Durable stamp) fits = quiet n command.Durable (answer.Durable stamp) refl refl
   durable_starts (answer.NotFlushed flushed) fits = quiet n command.Durable (answer.NotFlushed flushed) refl refl
@@ -172,6 +182,8 @@ command_starts v seat (command.Del table key) a t fits did = del_starts v.tail t
 command_starts v seat (command.Next table from) a t fits did = next_starts v.tail table from a fits
 command_starts v seat (command.Scan table low high) a t fits did = scan_starts v.tail table low high a fits
 command_starts v seat (command.Tidy table key) a t fits did = tidy_starts v.tail table key a fits
+command_starts v seat command.Save a t fits did = save_starts v.tail a fits
+command_starts v seat (command.Back n) a t fits did = back_starts v.tail n a fits
 command_starts v seat command.Seal (answer.Sealed own) t fits did = record { begin = λ stamp told. absurd (cc); drawn = λ stamp told. (sym (some_is own stamp told) ∙ did.stamp_is, refl) }
 command_starts v seat command.Settle a t fits did = settles v.tail v seat a t did
 command_starts v seat command.Commit a t fits did = record {

@@ -56,6 +56,8 @@ pub record Full (a : Answer) (why : RowStop) : Type 0 where
   pub operated : (v : View) (seat : ℕ) (c : Command) (t : View) → DidOperation v seat c a t → WasRefusedAs v seat c a t
   pub undecided : (v : View) (seat : ℕ) (t : View) → DidDecide v seat a t → ⊥
   pub begins : (v : View) (seat : ℕ) (t : View) → DidCommand v seat command.Begin a t → ⊥
+  pub saves : (v : View) (seat : ℕ) (t : View) → DidCommand v seat command.Save a t → ⊥
+  pub backs : (v : View) (seat n : ℕ) (t : View) → DidCommand v seat (command.Back n) a t → ⊥
   pub seals : (v : View) (seat : ℕ) (t : View) → DidCommand v seat command.Seal a t → ⊥
   pub aborts : (v : View) (seat : ℕ) (t : View) → DidCommand v seat command.Abort a t → ⊥
   pub durables : (v : View) (seat : ℕ) (t : View) → DidCommand v seat command.Durable a t → ⊥
@@ -84,19 +86,19 @@ never_oids drawn v seat c t did = did
 
 pub reads_full : Full answer.ReadsFull stop.ReadsFull
 unfolding stop_of
-reads_full = record { stop_is = refl; no_phase = refl; operated = λ v seat c t did. did; undecided = λ v seat t did. did; begins = λ v seat t did. did; seals = λ v seat t did. did; aborts = λ v seat t did. did; durables = λ v seat t did. did; begins_safe = λ v seat t did. did.asked; watches = never_reads }
+reads_full = record { stop_is = refl; no_phase = refl; operated = λ v seat c t did. did; undecided = λ v seat t did. did; begins = λ v seat t did. did; saves = λ v seat t did. did; backs = λ v seat n t did. did; seals = λ v seat t did. did; aborts = λ v seat t did. did; durables = λ v seat t did. did; begins_safe = λ v seat t did. did.asked; watches = never_reads }
 
 pub writes_full : Full answer.WritesFull stop.WritesFull
 unfolding stop_of
-writes_full = record { stop_is = refl; no_phase = refl; operated = λ v seat c t did. did; undecided = λ v seat t did. did; begins = λ v seat t did. did; seals = λ v seat t did. did; aborts = λ v seat t did. did; durables = λ v seat t did. did; begins_safe = λ v seat t did. did.asked; watches = never_writes }
+writes_full = record { stop_is = refl; no_phase = refl; operated = λ v seat c t did. did; undecided = λ v seat t did. did; begins = λ v seat t did. did; saves = λ v seat t did. did; backs = λ v seat n t did. did; seals = λ v seat t did. did; aborts = λ v seat t did. did; durables = λ v seat t did. did; begins_safe = λ v seat t did. did.asked; watches = never_writes }
 
 pub cells_full : (drawn : ℕ) → Full (answer.CellsFull drawn) (stop.CellsFull drawn)
 unfolding stop_of
-cells_full drawn = record { stop_is = refl; no_phase = refl; operated = λ v seat c t did. did; undecided = λ v seat t did. did; begins = λ v seat t did. did; seals = λ v seat t did. did; aborts = λ v seat t did. did; durables = λ v seat t did. did; begins_safe = λ v seat t did. did.asked; watches = never_cells drawn }
+cells_full drawn = record { stop_is = refl; no_phase = refl; operated = λ v seat c t did. did; undecided = λ v seat t did. did; begins = λ v seat t did. did; saves = λ v seat t did. did; backs = λ v seat n t did. did; seals = λ v seat t did. did; aborts = λ v seat t did. did; durables = λ v seat t did. did; begins_safe = λ v seat t did. did.asked; watches = never_cells drawn }
 
 pub oids_full : (drawn : ℕ) → Full (answer.OidsFull drawn) (stop.OidsFull drawn)
 unfolding stop_of
-oids_full drawn = record { stop_is = refl; no_phase = refl; operated = λ v seat c t did. did; undecided = λ v seat t did. did; begins = λ v seat t did. did; seals = λ v seat t did. did; aborts = λ v seat t did. did; durables = λ v seat t did. did; begins_safe = λ v seat t did. did.asked; watches = never_oids drawn }
+oids_full drawn = record { stop_is = refl; no_phase = refl; operated = λ v seat c t did. did; undecided = λ v seat t did. did; begins = λ v seat t did. did; saves = λ v seat t did. did; backs = λ v seat n t did. did; seals = λ v seat t did. did; aborts = λ v seat t did. did; durables = λ v seat t did. did; begins_safe = λ v seat t did. did.asked; watches = never_oids drawn }
 
 module _ (a : Answer) (why : RowStop) (full : Full a why) (v : View) (seat : ℕ) (t : View) where
   cut_off : (c : Command) (need : Need) → need_of c ≡ Some need → IsOfActive need → HasNoSnapshot (phase_at v seat) → refusal_of (phase_at v seat) c ≡ None → DidOperation v seat c a t → WasFull v seat c why t
@@ -116,6 +118,8 @@ module _ (a : Answer) (why : RowStop) (full : Full a why) (v : View) (seat : ℕ
   commanded (command.Tidy table key) allowed plain did = cut_off (command.Tidy table key) NeedsWriter refl tt plain allowed did
   commanded command.Safe allowed plain did = absurd (full.begins_safe v seat t did)
   commanded command.Begin allowed plain did = absurd (full.begins v seat t did)
+  commanded command.Save allowed plain did = absurd (full.saves v seat t did)
+  commanded (command.Back n) allowed plain did = absurd (full.backs v seat n t did)
   commanded command.Seal allowed plain did = absurd (full.seals v seat t did)
   commanded command.Abort allowed plain did = absurd (full.aborts v seat t did)
   commanded command.Settle allowed plain did = absurd (full.undecided v seat t did)

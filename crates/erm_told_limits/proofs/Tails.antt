@@ -17,6 +17,7 @@ use Rattle.erm_good_report.specs.Refusals.{draws_of}
 use Rattle.erm_lines.specs.Answers.{DidAskSafe, DidAskSnapshot, DidAsked, DidCommand, DidDecide, DidOfSnapshot, DidLine, DidOperation, WasRefusedAs}
 use Rattle.erm_lines.specs.Operations.{Ran}
 use Rattle.erm_lines.proofs.Moved.{active_where, asked_still}
+use Rattle.erm_lines.proofs.Saved.{saved, went_back}
 use Rattle.erm_told_limits.proofs.Grown.{all_active, still_active}
 use Rattle.erm_told_limits.proofs.Turns.{in_either}
 
@@ -86,6 +87,8 @@ module _ (v : View) (seat : ℕ) (t : View) where
   commanded (command.Next table from) a allowed plain did = operation (command.Next table from) a (operated_tail (active_where NeedsReader (phase_at v seat) tt plain allowed) (command.Next table from) a did)
   commanded (command.Scan table low high) a allowed plain did = operation (command.Scan table low high) a (operated_tail (active_where NeedsReader (phase_at v seat) tt plain allowed) (command.Scan table low high) a did)
   commanded (command.Tidy table key) a allowed plain did = operation (command.Tidy table key) a (operated_tail (active_where NeedsWriter (phase_at v seat) tt plain allowed) (command.Tidy table key) a did)
+  commanded command.Save a allowed plain did = operation command.Save a (saved v t seat a did).tail
+  commanded (command.Back n) a allowed plain did = operation (command.Back n) a (went_back v t seat n a did).tail
   commanded command.Safe a allowed plain did = operation command.Safe a (snapshot_tail v t seat a did)
   commanded command.Seal (answer.Sealed stamp) allowed plain did = omega (arith, did.tail, did.fits)
   commanded command.Settle a allowed plain did = operation command.Settle a (decided_tail v seat t a did)

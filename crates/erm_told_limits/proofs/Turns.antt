@@ -14,7 +14,6 @@ use Rattle.erm_world.specs.Snapshots.{snapshot_not_idle}
 use Rattle.erm_world.specs.World.{Fate, IsSession, Session, Stand, View, Work, begun, phase_at, phase_of, size_of, work_at, work_of}
 use Rattle.erm_world.specs.World as world
 use Rattle.erm_world.proofs.Txns.{stopped}
-use Rattle.erm_maps.specs.Runs.{IsRunOf}
 use Rattle.erm_report.specs.declared.answer.Answer.{Answer}
 use Rattle.erm_report.specs.declared.answer.Answer.TheVariants as answer
 use Rattle.erm_script.specs.declared.script.Command.{Command}
@@ -25,7 +24,9 @@ use Rattle.erm_good_report.specs.Refusals.{claims_of, makes_of}
 use Rattle.erm_lines.specs.Answers.{DidAskSafe, DidAskSnapshot, DidAsked, DidCommand, DidDecide, DidIn, DidOfSnapshot, DidLine, DidOperation, WasRefusedAs}
 use Rattle.erm_lines.specs.Operations.{AsksOf, DidCalls, FrontOf, WereCutOff, WholeOf}
 use Rattle.erm_lines.specs.Whole.{is_snapshot}
+use Rattle.erm_lines.proofs.Keeping.{NoneRuns, begins_run}
 use Rattle.erm_lines.proofs.Moved.{active_where, asked_still}
+use Rattle.erm_lines.proofs.Saved.{saved_runs, went_back_runs}
 use Rattle.erm_lines.proofs.Watched.{asked_snapshot, has_phase, idle_where, safe_rests, snapshot_rests, snapshot_there, start_where, watched}
 use Rattle.erm_world.specs.Safe.{HasSnapshot, with_snapshot}
 use Rattle.erm_told_limits.proofs.Arrays.{HaveRowsBelow}
@@ -33,6 +34,7 @@ use Rattle.erm_told_limits.proofs.Grown.{all_active}
 use Rattle.erm_told_limits.proofs.Lines.{HasRun, Known, begun_session, begun_turned, cut_of, cut_turned, done_as_was, same_turned, whole_turned}
 use Rattle.erm_told_limits.proofs.Moved.{Turned, turned_nothing, turned_then, turned_within}
 use Rattle.erm_told_limits.proofs.Reached.{Ways}
+use Rattle.erm_told_limits.proofs.Saved.{back_turned, saved_turned}
 
 pub idle_stand : (stand : Stand) → phase_of stand ≡ Idle → stand ≡ world.idle
 idle_stand world.idle e = refl
@@ -57,7 +59,7 @@ module _ (P : ℕ → Type 0) (v : View) (seat : ℕ) (t : View) where
   decided a did = absurd did
 
   pub sealed : (stamp : ℕ) → DidSeal v seat stamp t → Turned P 0 0 0 v seat t
-  sealed stamp did = same_turned P v seat t (ap (λ (s : Session). s.over) did.own) (ap (λ (s : Session). work_of s.stand) did.own) did.others did.opening
+  sealed stamp did = same_turned P v seat t (ap (λ (s : Session). s.over) did.own) (ap (λ (s : Session). work_of s.stand) did.own) did.others did.saves did.opening
 
   -- a snapshot was asked whether it is safe, looked, or ended
   still_so : t ≡ v → Turned P 0 0 1 v seat t
@@ -66,7 +68,7 @@ module _ (P : ℕ → Type 0) (v : View) (seat : ℕ) (t : View) where
   pub asked_safe : (a : Answer) → DidAskSafe v seat a t → Turned P 0 0 1 v seat t
   asked_safe (answer.Safe stamp) ((y, at, now, safe), same) =
       within_one 0 0 0 (omega arith)
-      (same_turned P v seat t (ap (λ (s : Session). s.over) now.own) (ap (λ (s : Session). work_of s.stand) now.own ∙ sym (ap work_of at)) now.others now.opening)
+      (same_turned P v seat t (ap (λ (s : Session). s.over) now.own) (ap (λ (s : Session). work_of s.stand) now.own ∙ sym (ap work_of at)) now.others now.saves.others now.opening)
   asked_safe (answer.WaitSeat other seen) did = still_so did.0
   asked_safe (answer.Unsafe other stamp) did = done_as_was P v seat t (work_at v seat) world.aborts refl did.0
   asked_safe a did = absurd did
@@ -163,6 +165,9 @@ module _ (rows_below : HaveRowsBelow) (ways : Ways) (v : View) (seat : ℕ) (t :
     commanded (command.Next table from) a allowed plain did = let active = active_where NeedsReader (phase_at v seat) tt plain allowed in operated (command.Next table from) active (has_run active) a did
     commanded (command.Scan table low high) a allowed plain did = let active = active_where NeedsReader (phase_at v seat) tt plain allowed in operated (command.Scan table low high) active (has_run active) a did
     commanded (command.Tidy table key) a allowed plain did = let active = active_where NeedsWriter (phase_at v seat) tt plain allowed in operated (command.Tidy table key) active (has_run active) a did
+    commanded command.Save a allowed plain did = within_one (Known command.Save t) v seat t 0 0 0 (omega arith) (saved_turned (Known command.Save t) v seat t a did)
+    commanded (command.Back n) a allowed plain did =
+        within_one (Known (command.Back n) t) v seat t 0 0 0 (omega arith) (back_turned (Known (command.Back n) t) v seat t n a did)
     commanded command.Safe a allowed plain did = snapshot_turned (Known command.Safe t) v seat t a (start_where (phase_at v seat) command.Safe allowed refl plain) did
     commanded command.Seal (answer.Sealed stamp) allowed plain did = within_one (Known command.Seal t) v seat t 0 0 0 (omega arith) (sealed (Known command.Seal t) v seat t stamp did)
     commanded command.Settle a allowed plain did = decided (Known command.Settle t) v seat t a did
@@ -186,7 +191,7 @@ line_turned rows_below ways v l a t did holds has_run =
 
 -- RUNS. The transaction in progress is the run of some operations still.
 abbrev pub BegunAreRuns : Type 0
-BegunAreRuns = (number begin : ℕ) → IsRunOf (begun number begin) []
+BegunAreRuns = NoneRuns
 
 not_active : (stand : Stand) → stand ≡ world.idle → phase_of stand ≡ Active → ⊥
 not_active stand idle active = let no : phase_of world.idle ≡ Active = subst (λ (s : Stand). phase_of s ≡ Active) idle active in cc
@@ -233,22 +238,23 @@ module _ (v : View) (seat : ℕ) (t : View) where
   commit_runs : (u : View) (stamp : ℕ) (a : Answer) → DidSeal v seat stamp u → DidDecide u seat a t → phase_at t seat ≡ Active → HasRun t seat
   commit_runs u stamp a sealing did active = decide_after u seat t a did (seal_after v seat u stamp sealing) active
 
-  begin_runs : BegunAreRuns → (a : Answer) → DidCommand v seat command.Begin a t → (phase_at v seat ≡ Active → HasRun v seat) → phase_at t seat ≡ Active → HasRun t seat
-  begin_runs start (answer.Began stamp) did has_run active =
-      ([], subst (λ (w : Work). IsRunOf w []) (sym (ap (λ (s : Session). work_of s.stand) did.3.own)) (start _ stamp))
-  begin_runs start (answer.LogEnd tail) did has_run active = same_after v seat t did.0 has_run active
-  begin_runs start answer.NumbersEnd did has_run active = same_after v seat t did.0 has_run active
-  begin_runs start a did has_run active = absurd did
+  begin_runs : BegunAreRuns → (a : Answer) → phase_at v seat ≡ Idle → DidCommand v seat command.Begin a t → (phase_at v seat ≡ Active → HasRun v seat) → phase_at t seat ≡ Active → HasRun t seat
+  begin_runs start (answer.Began stamp) idle did has_run active = begins_run start v seat t _ stamp idle did.3 active
+  begin_runs start (answer.LogEnd tail) idle did has_run active = same_after v seat t did.0 has_run active
+  begin_runs start answer.NumbersEnd idle did has_run active = same_after v seat t did.0 has_run active
+  begin_runs start a idle did has_run active = absurd did
 
   module _ (start : BegunAreRuns) (has_run : phase_at v seat ≡ Active → HasRun v seat) (then : phase_at t seat ≡ Active) where
     command_runs : (c : Command) (a : Answer) → refusal_of (phase_at v seat) c ≡ None → HasNoSnapshot (phase_at v seat) → DidCommand v seat c a t → HasRun t seat
-    command_runs command.Begin a allowed plain did = begin_runs start a did has_run then
+    command_runs command.Begin a allowed plain did = begin_runs start a (idle_where (phase_at v seat) command.Begin allowed refl) did has_run then
     command_runs (command.Get table key) a allowed plain did = let active = active_where NeedsReader (phase_at v seat) tt plain allowed in operation_runs (command.Get table key) a did active (has_run active) then
     command_runs (command.Put table key value) a allowed plain did = let active = active_where NeedsWriter (phase_at v seat) tt plain allowed in operation_runs (command.Put table key value) a did active (has_run active) then
     command_runs (command.Del table key) a allowed plain did = let active = active_where NeedsWriter (phase_at v seat) tt plain allowed in operation_runs (command.Del table key) a did active (has_run active) then
     command_runs (command.Next table from) a allowed plain did = let active = active_where NeedsReader (phase_at v seat) tt plain allowed in operation_runs (command.Next table from) a did active (has_run active) then
     command_runs (command.Scan table low high) a allowed plain did = let active = active_where NeedsReader (phase_at v seat) tt plain allowed in operation_runs (command.Scan table low high) a did active (has_run active) then
     command_runs (command.Tidy table key) a allowed plain did = let active = active_where NeedsWriter (phase_at v seat) tt plain allowed in operation_runs (command.Tidy table key) a did active (has_run active) then
+    command_runs command.Save a allowed plain did = saved_runs v t seat a (has_run (active_where NeedsWriter (phase_at v seat) tt plain allowed)) did
+    command_runs (command.Back n) a allowed plain did = went_back_runs v t seat n a (has_run (active_where NeedsWriter (phase_at v seat) tt plain allowed)) did
     command_runs command.Safe a allowed plain did = absurd ((asked_snapshot v t seat a (safe_rests (phase_at v seat) allowed) did).inactive then)
     command_runs command.Seal (answer.Sealed stamp) allowed plain did = seal_after v seat t stamp did then
     command_runs command.Settle a allowed plain did = decide_after v seat t a did has_run then

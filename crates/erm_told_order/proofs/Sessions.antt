@@ -9,7 +9,7 @@ use Rattle.erm_machine.proofs.Listed.{∈-cons, ∈-either, ∈-first, ∈-head,
 use Rattle.erm_world.specs.Laws.{IsNumbered}
 use Rattle.erm_world.specs.World.{Fate, Finished, IsCurrent, IsOver, Session, Stand, Work, stamp_of}
 use Rattle.erm_world.specs.World as world
-use Rattle.erm_maps.specs.Runs.{IsAnswered, IsRunOf}
+use Rattle.erm_maps.specs.Runs.{IsAnswered, WasRun}
 use Rattle.erm_good_report.specs.Transactions.{Progress, Snapshot, Transaction, steps_of}
 use Rattle.erm_lines.specs.Told.{RanAs, Tells, TellsCurrent, TellsNow, TellsOne, TellsOver}
 use Rattle.erm_told.proofs.Reported.{in_option, number_last, Numbered, numbered_behind, over_between, told_ascend, told_at}
@@ -106,11 +106,11 @@ is_now seat t (world.snapshot s) tells = absurd tells
 
 -- replies of a transaction that is over are right, and it is the run of its operations where it was sealed
 answered_as : (fate : Fate) (w : Work) (steps : List Step) → RanAs fate w steps → IsAnswered w steps
-answered_as (world.commits s u p) w steps ran = ran.run
-answered_as (world.excluded s u p) w steps ran = ran.run
+answered_as (world.commits s u p) w steps ran = ran.1.run
+answered_as (world.excluded s u p) w steps ran = ran.1.run
 answered_as world.aborts w steps ran = ran
 
-run_as : (fate : Fate) (w : Work) (steps : List Step) (stamp : ℕ) → RanAs fate w steps → stamp_of fate ≡ Some stamp → IsRunOf w steps
+run_as : (fate : Fate) (w : Work) (steps : List Step) (stamp : ℕ) → RanAs fate w steps → stamp_of fate ≡ Some stamp → WasRun w steps
 run_as (world.commits s u p) w steps stamp ran e = ran
 run_as (world.excluded s u p) w steps stamp ran e = ran
 run_as world.aborts w steps stamp ran e = absurd (cc)
@@ -171,34 +171,34 @@ module _ (seat : ℕ) (p : Progress) (s : Session) (tells : Tells seat p s) (num
       (has_told seat (λ number. steps_of_number (all_of p) number) p.over s.over over_told f over.1))
   answered w (inr now) =
       ⊎_elim
-      (λ (r : IsToldNow seat p.current w). subst (λ steps. IsAnswered w steps) (sym (steps_now r.t w r.is r.tells)) r.tells.ran.run)
+      (λ (r : IsToldNow seat p.current w). subst (λ steps. IsAnswered w steps) (sym (steps_now r.t w r.is r.tells)) r.tells.ran.1.run)
       (λ (none : p.current ≡ None). bare_answered w (steps_of_number (all_of p) w.number) (steps_bare w now none))
       (told_now seat p.current s.stand w tells.now now)
 
   aborts_none : (fate : Fate) (stamp : ℕ) (P : Type 0) → fate ≡ world.aborts → stamp_of fate ≡ Some stamp → P
   aborts_none fate stamp P aborts is = let no : None ≡ Some stamp = sym (ap stamp_of aborts) ∙ is in absurd (cc)
 
-  run_over : (f : Finished) (stamp : ℕ) → f ∈ s.over → stamp_of f.fate ≡ Some stamp → IsRunOf f.work (steps_of_number (all_of p) f.work.number)
+  run_over : (f : Finished) (stamp : ℕ) → f ∈ s.over → stamp_of f.fate ≡ Some stamp → WasRun f.work (steps_of_number (all_of p) f.work.number)
   run_over f stamp m e =
       ⊎_elim
       (λ (r : HasTold seat (λ number. steps_of_number (all_of p) number) p.over f).
-      subst (λ steps. IsRunOf f.work steps) (sym r.steps) (run_as f.fate f.work (steps_of r.t) stamp r.tells.ran e))
+      subst (λ steps. WasRun f.work steps) (sym r.steps) (run_as f.fate f.work (steps_of r.t) stamp r.tells.ran e))
       (λ (bare : (f.fate ≡ world.aborts) × (steps_of_number (all_of p) f.work.number ≡ [])).
-      aborts_none f.fate stamp (IsRunOf f.work (steps_of_number (all_of p) f.work.number)) bare.0 e)
+      aborts_none f.fate stamp (WasRun f.work (steps_of_number (all_of p) f.work.number)) bare.0 e)
       (has_told seat (λ number. steps_of_number (all_of p) number) p.over s.over over_told f m)
 
-  run_now : (w : Work) (stamp : ℕ) → s.stand ≡ world.sealed w stamp → IsRunOf w (steps_of_number (all_of p) w.number)
+  run_now : (w : Work) (stamp : ℕ) → s.stand ≡ world.sealed w stamp → WasRun w (steps_of_number (all_of p) w.number)
   run_now w stamp stand =
       let now = sealed_now p.current (subst (λ st. TellsNow seat p.current st) stand tells.now) in
-      subst (λ steps. IsRunOf w steps) (sym (steps_now now.0 w now.1 now.2)) now.2.ran
+      subst (λ steps. WasRun w steps) (sym (steps_now now.0 w now.1 now.2)) now.2.ran
     where
       sealed_now : (current : Option Transaction) → TellsNow seat current (world.sealed w stamp) → (t : Transaction) × (current ≡ Some t) × TellsCurrent seat t w
       sealed_now None told = absurd told
       sealed_now (Some t) told = (t, refl, told.0)
 
   pub run : (w : Work) (stamp : ℕ) → ((f : Finished) × (f ∈ s.over) × (f.work ≡ w) × (stamp_of f.fate ≡ Some stamp)) ⊎ (s.stand ≡ world.sealed w stamp)
-      → IsRunOf w (steps_of_number (all_of p) w.number)
-  run w stamp (inl over) = subst (λ u. IsRunOf u (steps_of_number (all_of p) u.number)) over.2 (run_over over.0 stamp over.1 over.3)
+      → WasRun w (steps_of_number (all_of p) w.number)
+  run w stamp (inl over) = subst (λ u. WasRun u (steps_of_number (all_of p) u.number)) over.2 (run_over over.0 stamp over.1 over.3)
   run w stamp (inr stand) = run_now w stamp stand
 
   stands_now : (t : Transaction) → p.current ≡ Some t → Stands s (λ number. steps_of_number (all_of p) number) t
