@@ -142,7 +142,7 @@ along (e ∷ es) v t seat active (u, answered, rest) =
     let second = along es u t seat (ap phase_of first.stand) rest in record {
       active = second.active;
       others = λ q another. second.others q another ∙ first.goes.others q another;
-      saves = λ q another. second.saves q another ∙ first.goes.saves q another;
+      saves = λ q another. second.saves q another ∙ first.goes.saves_of_others q another;
       opening = second.opening ∙ first.goes.opening;
     }
 
@@ -162,7 +162,7 @@ refused_turns v t seat c a active run (stop, told, cut) =
     let last = stopped cut.at seat cut.asked stop t on.active cut.refused in record {
       own = cut_off_own v t seat stop (ends stop) refl run last.ended cut.run;
       others = λ q another. last.goes.others q another ∙ on.others q another;
-      saves = λ q another. last.goes.saves q another ∙ on.saves q another;
+      saves = λ q another. last.goes.saves_of_others q another ∙ on.saves q another;
       opening = last.goes.opening ∙ on.opening;
     }
 

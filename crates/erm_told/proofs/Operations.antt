@@ -48,7 +48,7 @@ works_on v seat t on = record {
   over = over_still (v.session seat) (t.session seat) on.work on.goes.own on.stand;
   more = subst (λ (w : Work). Extends (work_at v seat) w) (sym (ap work_of on.stand)) on.more;
   others = on.goes.others;
-  saves = on.goes.saves;
+  saves = on.goes.saves_of_others;
   opening = on.goes.opening;
   tail = on.goes.tail;
 }
@@ -136,7 +136,7 @@ turn_ended v seat c a t why front asks ending stay active calm cut ends none abo
     let done = over_then (v.session seat) (t.session seat) w goes.own stand idle in
     let f : Finished = record { work = done.0; fate = world.aborts } in record {
       others = goes.others;
-      saves = goes.saves;
+      saves = goes.saves_of_others;
       opening = goes.opening;
       tail = same_tail v.tail t.tail goes.tail;
       goes = continues_from (v.session seat) (t.session seat) (world.active w) stand (f ∷ []) done.2

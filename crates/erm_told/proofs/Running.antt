@@ -70,4 +70,4 @@ over_then s t w (ends x u was over after more) before idle =
 pub ran_saves : (v : View) (seat : ℕ) (events : List Event) (t : View) → phase_at v seat ≡ Active → Ran v seat events t → t.saves seat ≡ v.saves seat
 ran_saves v seat [] t active is = ap (λ (u : View). u.saves seat) is
 ran_saves v seat (event ∷ events) t active (u, answered, rest) =
-    let first = went sound_law v seat event u active answered in ran_saves u seat events t (ap phase_of first.stand) rest ∙ first.saves
+    let first = went sound_law v seat event u active answered in ran_saves u seat events t (ap phase_of first.stand) rest ∙ first.goes.saves (ap phase_of first.stand)

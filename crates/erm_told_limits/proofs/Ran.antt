@@ -131,8 +131,8 @@ stays_one law v seat event t active it =
       stand = it.stand ∙ ap world.active (sym is);
       over = over_kept (v.session seat) (t.session seat) it.work it.goes.own it.stand;
       others = it.goes.others;
-      saves = it.goes.saves;
-      held = it.saves;
+      saves = it.goes.saves_of_others;
+      held = it.goes.saves (ap phase_of it.stand);
       opening = it.goes.opening;
       more = subst (λ (w : Work). Extends (work_at v seat) w) (sym is) it.more;
     }
