@@ -22,6 +22,7 @@ use Rattle.erm_good_report.specs.Transactions.{Aborts, Ending, Excludes, Progres
 use Rattle.erm_lines.specs.Answers.{DidOperation, WasRefusedAs, stop_told}
 use Rattle.erm_lines.specs.Operations.{AsksOf, DidCalls, FrontOf, WereCutOff, WholeOf}
 use Rattle.erm_lines.specs.Told.{EndsAs, Tells, TellsNow, TellsOver, TellsWatched}
+use Rattle.erm_lines.proofs.Saved.{was_run}
 use Rattle.erm_told.proofs.Going.{continues_from}
 use Rattle.erm_told.proofs.Running.{GoesOn, active_in, over_still, over_then, ran_on, ran_saves}
 use Rattle.erm_told.proofs.Sessions.{aborted_told, active_told, look_after, none_watched, unchanged_told}
@@ -59,15 +60,15 @@ module _ (v : View) (seat : ℕ) (asked : Option Command) (a : Answer) (t : View
   stands : (t.session seat).stand ≡ world.active (work_at t seat)
   stands = active_in (t.session seat).stand on.active
 
-  was_run : (u : Transaction) → RunsBy v seat u → WasRun (work_at t seat) (steps_of (with_line asked a u))
-  was_run u by = (t.saves seat, (runs u by).run)
+  run_then : (u : Transaction) → RunsBy v seat u → WasRun (work_at t seat) (steps_of (with_line asked a u))
+  run_then u by = was_run (kept_at t seat) (steps_of (with_line asked a u)) (runs u by).run
 
   goes_told : (p : Progress) → TellsAt seat p v → TellsAt seat (goes_on asked a p) t
   goes_told p told = record {
     tells = record {
       over = subst (λ (fs : List Finished). TellsOver seat p.over p.snapshots fs) (sym on.over) told.tells.over;
       now = subst (λ (stand : Stand). TellsNow seat (goes_on asked a p).current stand) (sym stands)
-          (active_told seat asked a p.current (work_at v seat) (work_at t seat) on.more.number on.more.begin (λ u is. was_run u (told.runs u is active))
+          (active_told seat asked a p.current (work_at v seat) (work_at t seat) on.more.number on.more.begin (λ u is. run_then u (told.runs u is active))
           (now_active seat p (v.session seat) active told.tells));
       watched = subst (λ (stand : Stand). TellsWatched (goes_on asked a p).snapshot stand) (sym stands)
           (none_watched (goes_on asked a p).snapshot (world.active (work_at t seat)) tt (none_after asked a p calm (none_active seat p (v.session seat) active told.tells)));

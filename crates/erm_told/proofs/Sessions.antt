@@ -178,7 +178,7 @@ aborted_told seat ending ts (Some t) ss watched over w u ends number begin answe
     (one_more seat ts ss over (with_ending ending t) (record { work = u; fate = world.aborts }) told (record {
       work = record { session = now.0.work.session; number = now.0.work.number ∙ sym number; begin = now.0.work.begin ∙ sym begin };
       ends = ends;
-      ran = answered (steps_of t) now.0.ran.1.run;
+      ran = answered (steps_of t) now.0.ran.run;
       sealed = λ stamp is. unsealed t.sealed stamp (stamp_of world.aborts ≡ Some stamp) now.1 is;
     }))
 

@@ -15,7 +15,7 @@ use Rattle.erm_good_report.specs.Phases.{asks_safe, phase_after}
 use Rattle.erm_good_report.specs.Transactions.{Ending, Aborts, Progress, Transaction, begun, ended, goes_on, heard, held_of, steps_of, with_line}
 use Rattle.erm_lines.specs.Told.{Continues, EndsAs, RanAs, Tells, TellsNow, TellsWatched}
 use Rattle.erm_lines.proofs.Keeping.{NoneRuns}
-use Rattle.erm_lines.proofs.Saved.{kept_is}
+use Rattle.erm_lines.proofs.Saved.{kept_is, was_run}
 use Rattle.erm_told.proofs.Going.{continues_from, continues_itself, extends_itself}
 use Rattle.erm_told.proofs.Running.{active_in}
 use Rattle.erm_told.proofs.Sessions.{aborted_told, begun_told, decided_told, none_watched, same_steps, sealed_told, sealed_untold, still_watched, unchanged_told, watched_none}
@@ -129,8 +129,9 @@ turn_begun v seat begin asked t none idle (few, room, is, now) =
     let s : Session = record { over = over; stand = world.active w } in
     let stand = idle_in (v.session seat).stand idle in
     let bare : t.saves seat ≡ [] = begun_bare w (v.session seat).stand (t.saves seat) (v.saves seat) stand now.saves.own in
+    let bare_run : IsRunOf (record { work = world.begun (length over + 1) begin; saves = [] }) [] = none (length over + 1) begin in
     let run : IsRunOf (kept_at t seat) [] =
-    subst (λ (k : Kept). IsRunOf k []) (sym (kept_is (work_at t seat) w (t.saves seat) [] (ap (λ (r : Session). work_of r.stand) now.own) bare)) (none (length over + 1) begin) in record {
+    subst (λ (k : Kept). IsRunOf k []) (sym (kept_is (work_at t seat) w (t.saves seat) [] (ap (λ (r : Session). work_of r.stand) now.own) bare)) bare_run in record {
       others = now.others;
       saves = now.saves.others;
       opening = now.opening;
@@ -139,7 +140,7 @@ turn_begun v seat begin asked t none idle (few, room, is, now) =
       phase = sym (ap (λ (r : Session). phase_of r.stand) now.own);
       tells = λ p told. record {
         tells = subst (λ (r : Session). Tells seat (heard seat asked (answer.Began begin) p) r) (sym now.own)
-            (begun_told seat begin asked p over ([], none (length over + 1) begin) told.tells.over (subst (λ (at : Stand). TellsWatched p.snapshot at) stand told.tells.watched));
+            (begun_told seat begin asked p over (was_run (record { work = world.begun (length over + 1) begin; saves = [] }) [] bare_run) told.tells.over (subst (λ (at : Stand). TellsWatched p.snapshot at) stand told.tells.watched));
         runs = λ one same active. subst (λ (x : Transaction). RunsBy t seat x) (the_one (begun seat begin p) one same) (record { run = run; held = ap length (sym bare) });
       };
     }

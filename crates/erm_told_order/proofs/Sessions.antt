@@ -106,8 +106,8 @@ is_now seat t (world.snapshot s) tells = absurd tells
 
 -- replies of a transaction that is over are right, and it is the run of its operations where it was sealed
 answered_as : (fate : Fate) (w : Work) (steps : List Step) → RanAs fate w steps → IsAnswered w steps
-answered_as (world.commits s u p) w steps ran = ran.1.run
-answered_as (world.excluded s u p) w steps ran = ran.1.run
+answered_as (world.commits s u p) w steps ran = ran.run
+answered_as (world.excluded s u p) w steps ran = ran.run
 answered_as world.aborts w steps ran = ran
 
 run_as : (fate : Fate) (w : Work) (steps : List Step) (stamp : ℕ) → RanAs fate w steps → stamp_of fate ≡ Some stamp → WasRun w steps
@@ -171,7 +171,7 @@ module _ (seat : ℕ) (p : Progress) (s : Session) (tells : Tells seat p s) (num
       (has_told seat (λ number. steps_of_number (all_of p) number) p.over s.over over_told f over.1))
   answered w (inr now) =
       ⊎_elim
-      (λ (r : IsToldNow seat p.current w). subst (λ steps. IsAnswered w steps) (sym (steps_now r.t w r.is r.tells)) r.tells.ran.1.run)
+      (λ (r : IsToldNow seat p.current w). subst (λ steps. IsAnswered w steps) (sym (steps_now r.t w r.is r.tells)) r.tells.ran.run)
       (λ (none : p.current ≡ None). bare_answered w (steps_of_number (all_of p) w.number) (steps_bare w now none))
       (told_now seat p.current s.stand w tells.now now)
 
