@@ -11,51 +11,41 @@ use Rattle.erm_script.specs.declared.script.ScriptLine.{ScriptLine}
 use Rattle.erm_world.specs.Going.{Extends}
 use Rattle.erm_world.specs.World.{Session, Stand, View, Work, phase_at, phase_of}
 use Rattle.erm_world.specs.World as world
-use Rattle.erm_maps.specs.Runs.{IsAnswered, IsRunOf}
+use Rattle.erm_maps.specs.Runs.{IsAnswered}
 use Rattle.erm_good_report.specs.Phases.{Closes, FitsRefusal, HasNoSnapshot, NeedsAny, NeedsReader, NeedsWriter, need_of, phase_after, refusal_in, refusal_of}
 use Rattle.erm_good_report.specs.Transactions.{Commits, Excludes, Progress, heard}
 use Rattle.erm_good_report.proofs.Phases.{phase_refuses}
-use Rattle.erm_lines.specs.Told.{Tells, TellsWatched}
 use Rattle.erm_lines.specs.Whole.{is_snapshot}
+use Rattle.erm_lines.proofs.Keeping.{NoneRuns}
 use Rattle.erm_lines.proofs.Moved.{active_where}
 use Rattle.erm_lines.proofs.Watched.{idle_where, snapshot_there, start_where}
 use Rattle.erm_beside.specs.Calls.{DidBeginBeside, Passes}
-use Rattle.erm_told.proofs.Going.{continues_from, continues_then}
+use Rattle.erm_told.proofs.Going.{continues_then}
 use Rattle.erm_told.proofs.Lines.{quiet_heard, quiet_phase}
-use Rattle.erm_told.proofs.Sessions.{begun_told}
-use Rattle.erm_told.proofs.Turns.{idle_in, told_sealed, told_still, turn_aborted, turn_decided, turn_sealed, turn_still}
+use Rattle.erm_told.proofs.Saves.{turn_back, turn_save}
+use Rattle.erm_told.proofs.Turns.{TellsAt, told_sealed, told_still, turn_aborted, turn_begins, turn_decided, turn_sealed, turn_still}
 use Rattle.erm_lines_at_once.specs.Answers.{DidAskedBeside, DidCloseBeside, DidCommandBeside, DidCommitBeside, DidDecideBeside, DidEndBeside, DidLineBeside}
 use Rattle.erm_lines_at_once.proofs.Watched.{in_phase}
 use Rattle.erm_told_at_once.proofs.Operated.{turns_operation}
-use Rattle.erm_told_at_once.proofs.Turns.{Turns, onward_passes, onward_then, took_as, turns_after}
+use Rattle.erm_told_at_once.proofs.Turns.{Turns, onward_then, tells_same, turns_after}
 use Rattle.erm_told_at_once.proofs.Watched.{turns_closed, turns_of_snapshot, turns_snapshot}
 
 -- nothing happened but that others went on
 turns_still : (seat : ℕ) (asked : Option Command) (a : Answer) (v u t : View) → Passes seat v u → t ≡ u → ((phase : Phase) → phase_after asked a phase ≡ phase)
-    → ((p : Progress) (s : Session) → Tells seat p s → Tells seat (heard seat asked a p) s) → Turns seat asked a v t
-turns_still seat asked a v u t passes is phase tells =
-    turns_after seat asked a v u t passes (turn_still u seat asked a t is (phase (phase_at u seat)) (λ p told. tells p (u.session seat) told))
+    → ((p : Progress) → TellsAt seat p u → TellsAt seat (heard seat asked a p) u) → Turns seat asked a v t
+turns_still seat asked a v u t passes is phase tells = turns_after seat asked a v u t passes (turn_still u seat asked a t is (phase (phase_at u seat)) tells)
 
 turns_refused : (seat : ℕ) (c : Command) (a r : Answer) (v t : View) → refusal_in r ≡ Some r → a ≡ r → Passes seat v t → Turns seat (Some c) a v t
 turns_refused seat c a r v t refusal is passes =
     subst (λ (b : Answer). Turns seat (Some c) b v t) (sym is)
     (turns_still seat (Some c) r v t t passes refl (λ phase. quiet_phase (Some c) r phase refusal)
-    (λ p s told. subst (λ (q : Progress). Tells seat q s) (sym (quiet_heard seat (Some c) r p refusal)) told))
+    (λ p told. subst (λ (q : Progress). TellsAt seat q t) (sym (quiet_heard seat (Some c) r p refusal)) told))
 
 -- a begin
-turns_begun : ((number begin : ℕ) → IsRunOf (world.begun number begin) []) → (seat begin : ℕ) (asked : Option Command) (v u t : View) → Passes seat v u → phase_at u seat ≡ Idle
-    → DidBeginBeside seat begin u t → Turns seat asked (answer.Began begin) v t
-turns_begun runs seat begin asked v u t passes idle (few, is, now) =
-    let over = (u.session seat).over in
-    let s : Session = record { over = over; stand = world.active (world.begun (length over + 1) begin) } in
-    let stand = idle_in (u.session seat).stand idle in record {
-      took = took_as seat asked (answer.Began begin) (v.session seat) (t.session seat) (u.session seat) s passes.own now.own (record {
-        goes = continues_from (u.session seat) s world.idle stand [] (sym (append-nil over)) tt;
-        phase = refl;
-        tells = λ p told. begun_told seat begin asked p over (runs (length over + 1) begin) told.over (subst (λ (at : Stand). TellsWatched p.snapshot at) stand told.watched);
-      });
-      onward = onward_then v u t (onward_passes seat v u passes) (record { opening = now.opening; tail = omega (arith, now.tail) });
-    }
+turns_begun : NoneRuns → (seat begin : ℕ) (asked : Option Command) (v u t : View) → Passes seat v u → phase_at u seat ≡ Idle → DidBeginBeside seat begin u t
+    → Turns seat asked (answer.Began begin) v t
+turns_begun none seat begin asked v u t passes idle (few, is, now) =
+    turns_after seat asked (answer.Began begin) v u t passes (turn_begins u seat begin asked t none idle now)
 
 -- THE DECISION.
 turns_decides : (seat : ℕ) (asked : Option Command) (a : Answer) (v t : View) → DidDecideBeside seat a v t → Turns seat asked a v t
@@ -85,20 +75,20 @@ turns_commit seat a v t active did =
       took = record {
         goes = continues_then (v.session seat) (m.session seat) (t.session seat) first.took.goes second.took.goes;
         phase = decide_leaves seat (Some command.Commit) a m t (phase_at v seat) (phase_at m seat) did.decided ∙ second.took.phase;
-        tells = λ p told. second.took.tells p (told_sealed u seat did.stamp m p now sealed (subst (λ (s : Session). Tells seat p s) (sym passes.own) told));
+        tells = λ p told. second.took.tells p (told_sealed u seat did.stamp m p now sealed (tells_same seat p v u passes.own passes.saves told));
       };
       onward = onward_then v m t first.onward second.onward;
     }
 
 -- THE LINES.
-module _ (runs : (number begin : ℕ) → IsRunOf (world.begun number begin) []) (stay : (w u : Work) (steps : List Step) → Extends w u → IsAnswered w steps → IsAnswered u steps) where
+module _ (runs : NoneRuns) (stay : (w u : Work) (steps : List Step) → Extends w u → IsAnswered w steps → IsAnswered u steps) where
   turns_command : (f : View) (seat : ℕ) (c : Command) (a : Answer) (v t : View) → refusal_of (phase_at v seat) c ≡ None → HasNoSnapshot (phase_at v seat) → DidCommandBeside f seat c a v t → Turns seat (Some c) a v t
   turns_command f seat command.Begin (answer.Began stamp) v t free plain (u, passes, did) =
       turns_begun runs seat stamp (Some command.Begin) v u t passes (ap (λ (s : Session). phase_of s.stand) passes.own ∙ idle_where (phase_at v seat) command.Begin free refl) did
   turns_command f seat command.Begin (answer.LogEnd tail) v t free plain (u, passes, did) =
-      turns_still seat (Some command.Begin) (answer.LogEnd tail) v u t passes did.0 (λ phase. refl) (λ p s told. told_still seat (Some command.Begin) (answer.LogEnd tail) p s refl refl told)
+      turns_still seat (Some command.Begin) (answer.LogEnd tail) v u t passes did.0 (λ phase. refl) (λ p told. told_still seat (Some command.Begin) (answer.LogEnd tail) p u refl refl told)
   turns_command f seat command.Begin answer.NumbersEnd v t free plain (u, passes, did) =
-      turns_still seat (Some command.Begin) answer.NumbersEnd v u t passes did.0 (λ phase. refl) (λ p s told. told_still seat (Some command.Begin) answer.NumbersEnd p s refl refl told)
+      turns_still seat (Some command.Begin) answer.NumbersEnd v u t passes did.0 (λ phase. refl) (λ p told. told_still seat (Some command.Begin) answer.NumbersEnd p u refl refl told)
   turns_command f seat command.Safe a v t free plain did = turns_snapshot f seat a v t (start_where (phase_at v seat) command.Safe free refl plain) did
   turns_command f seat command.Seal (answer.Sealed stamp) v t free plain (u, passes, did) =
       turns_after seat (Some command.Seal) (answer.Sealed stamp) v u t passes
@@ -108,16 +98,20 @@ module _ (runs : (number begin : ℕ) → IsRunOf (world.begun number begin) [])
   turns_command f seat command.Abort answer.Aborted v t free plain (u, passes, did) =
       turns_after seat (Some command.Abort) answer.Aborted v u t passes
       (turn_aborted u seat (Some command.Abort) t (ap (λ (s : Session). phase_of s.stand) passes.own ∙ active_where NeedsAny (phase_at v seat) tt plain free) did)
-  turns_command f seat (command.Get table key) a v t free plain did = turns_operation stay f seat (command.Get table key) a v t (active_where NeedsReader (phase_at v seat) tt plain free) refl did
-  turns_command f seat (command.Put table key value) a v t free plain did = turns_operation stay f seat (command.Put table key value) a v t (active_where NeedsWriter (phase_at v seat) tt plain free) refl did
-  turns_command f seat (command.Del table key) a v t free plain did = turns_operation stay f seat (command.Del table key) a v t (active_where NeedsWriter (phase_at v seat) tt plain free) refl did
-  turns_command f seat (command.Next table from) a v t free plain did = turns_operation stay f seat (command.Next table from) a v t (active_where NeedsReader (phase_at v seat) tt plain free) refl did
-  turns_command f seat (command.Scan table low high) a v t free plain did = turns_operation stay f seat (command.Scan table low high) a v t (active_where NeedsReader (phase_at v seat) tt plain free) refl did
-  turns_command f seat (command.Tidy table key) a v t free plain did = turns_operation stay f seat (command.Tidy table key) a v t (active_where NeedsWriter (phase_at v seat) tt plain free) refl did
+  turns_command f seat (command.Get table key) a v t free plain did = turns_operation stay f seat (command.Get table key) a v t (active_where NeedsReader (phase_at v seat) tt plain free) refl refl did
+  turns_command f seat (command.Put table key value) a v t free plain did = turns_operation stay f seat (command.Put table key value) a v t (active_where NeedsWriter (phase_at v seat) tt plain free) refl refl did
+  turns_command f seat (command.Del table key) a v t free plain did = turns_operation stay f seat (command.Del table key) a v t (active_where NeedsWriter (phase_at v seat) tt plain free) refl refl did
+  turns_command f seat (command.Next table from) a v t free plain did = turns_operation stay f seat (command.Next table from) a v t (active_where NeedsReader (phase_at v seat) tt plain free) refl refl did
+  turns_command f seat (command.Scan table low high) a v t free plain did = turns_operation stay f seat (command.Scan table low high) a v t (active_where NeedsReader (phase_at v seat) tt plain free) refl refl did
+  turns_command f seat (command.Tidy table key) a v t free plain did = turns_operation stay f seat (command.Tidy table key) a v t (active_where NeedsWriter (phase_at v seat) tt plain free) refl refl did
+  turns_command f seat command.Save a v t free plain (u, passes, did) =
+      turns_after seat (Some command.Save) a v u t passes (turn_save u seat a t (ap (λ (s : Session). phase_of s.stand) passes.own ∙ active_where NeedsWriter (phase_at v seat) tt plain free) did)
+  turns_command f seat (command.Back n) a v t free plain (u, passes, did) =
+      turns_after seat (Some (command.Back n)) a v u t passes (turn_back u seat n a t (ap (λ (s : Session). phase_of s.stand) passes.own ∙ active_where NeedsWriter (phase_at v seat) tt plain free) did)
   turns_command f seat command.Durable (answer.Durable stamp) v t free plain (u, passes, did) =
-      turns_still seat (Some command.Durable) (answer.Durable stamp) v u t passes did.0 (λ phase. refl) (λ p s told. told_still seat (Some command.Durable) (answer.Durable stamp) p s refl refl told)
+      turns_still seat (Some command.Durable) (answer.Durable stamp) v u t passes did.0 (λ phase. refl) (λ p told. told_still seat (Some command.Durable) (answer.Durable stamp) p u refl refl told)
   turns_command f seat command.Durable answer.NoReceipt v t free plain (u, passes, did) =
-      turns_still seat (Some command.Durable) answer.NoReceipt v u t passes did.0 (λ phase. refl) (λ p s told. told_still seat (Some command.Durable) answer.NoReceipt p s refl refl told)
+      turns_still seat (Some command.Durable) answer.NoReceipt v u t passes did.0 (λ phase. refl) (λ p told. told_still seat (Some command.Durable) answer.NoReceipt p u refl refl told)
   turns_command f seat c a v t free plain did = absurd did
 
   turns_asked : (f : View) (seat : ℕ) (c : Command) (a : Answer) (v t : View) (refusal : Option Answer) → refusal_of (phase_at v seat) c ≡ refusal

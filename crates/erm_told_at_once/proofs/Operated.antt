@@ -1,5 +1,5 @@
 -- Turns of an active session: operations that were answered, after tries, and those that were cut off by a refusal.
-use Rattle.std.proofs.Common.{◌≡◌, ℕ, zero, suc, true, false, List, [], ◌∷◌, ◌++◌, append-nil, Option, Some, None, refl, sym, ap, ◌∙◌, subst, inl, inr}
+use Rattle.std.proofs.Common.{◌≡◌, ℕ, zero, suc, true, false, IsSome, List, [], ◌∷◌, ◌++◌, append-nil, length, Option, Some, None, refl, sym, ap, ◌∙◌, subst, inl, inr}
 use Rattle.erm_model.specs.declared.outcome.Phase.{Phase}
 use Rattle.erm_model.specs.declared.outcome.Phase.TheVariants.{Idle, Active}
 use Rattle.erm_model.specs.declared.row_stop.RowStop.{RowStop}
@@ -17,21 +17,21 @@ use Rattle.erm_world.specs.Onward.{grows_then}
 use Rattle.erm_world.specs.World.{Finished, Session, Stand, View, Work, phase_at, phase_of, work_at, work_of}
 use Rattle.erm_world.specs.World as world
 use Rattle.erm_world.proofs.Txns.{MayStop}
-use Rattle.erm_maps.specs.Runs.{IsAnswered, IsRunOf}
+use Rattle.erm_maps.specs.Runs.{IsAnswered, IsRunOf, WasRun, kept_at}
 use Rattle.erm_good_report.specs.Phases.{asks_safe, phase_after}
-use Rattle.erm_good_report.specs.Transactions.{Aborts, Ending, Excludes, Progress, Transaction, ended, goes_on, heard, reply_in, steps_of}
+use Rattle.erm_good_report.specs.Transactions.{Aborts, Ending, Excludes, Progress, Transaction, ended, goes_on, heard, held_of, reply_in, steps_of, table_of, with_line}
 use Rattle.erm_lines.specs.Operations.{AsksOf, DidCalls, FrontOf, Ran, WholeOf}
-use Rattle.erm_lines.specs.Told.{Continues, EndsAs, Tells, TellsNow, TellsOver, TellsWatched}
+use Rattle.erm_lines.specs.Told.{Continues, EndsAs, TellsNow, TellsOver, TellsWatched}
 use Rattle.erm_beside.specs.Calls.{Passes}
 use Rattle.erm_beside.proofs.Txns.{Stopped, stopped_after}
 use Rattle.erm_told.proofs.Going.{continues_from, continues_itself, continues_then}
 use Rattle.erm_told.proofs.Operations.{none_after, the_answer, turn_ran}
-use Rattle.erm_told.proofs.Running.{GoesOn, active_in, over_still, over_then, ran_on}
+use Rattle.erm_told.proofs.Running.{GoesOn, active_in, over_still, over_then, ran_on, ran_saves}
 use Rattle.erm_told.proofs.Sessions.{aborted_told, active_told, none_watched, unchanged_told}
-use Rattle.erm_told.proofs.Steps.{added, none_asked, none_replied, one_replied}
+use Rattle.erm_told.proofs.Steps.{added, held_on_map, held_still, named_on_map, none_asked, none_replied, one_replied, steps_with}
 use Rattle.erm_lines_at_once.specs.Operations.{Beside, DidOnce, DidOperationBeside, WasTried, WereCutBeside, told_at_once}
-use Rattle.erm_told_at_once.proofs.Turns.{Onward, Took, Turns, onward_passes, onward_then, turns_beside}
-use Rattle.erm_told.proofs.Turns.{none_active, now_active}
+use Rattle.erm_told_at_once.proofs.Turns.{Onward, Took, Turns, onward_passes, onward_then, tells_same, turns_beside}
+use Rattle.erm_told.proofs.Turns.{RunsBy, TellsAt, none_active, now_active, runs_lined}
 
 -- THE CALLS BEFORE. The session is active still, with a work that has gone on.
 pub record Reached (seat : ℕ) (v t : View) : Type 0 where
@@ -39,16 +39,18 @@ pub record Reached (seat : ℕ) (v t : View) : Type 0 where
   pub stand : (t.session seat).stand ≡ world.active work
   pub more : Extends (work_at v seat) work
   pub grows : Grows (v.session seat) (t.session seat)
+  pub saves : t.saves seat ≡ v.saves seat
   pub onward : Onward v t
 
 pub reached : (seat : ℕ) (events : List Event) (v t : View) → phase_at v seat ≡ Active → Beside seat (λ u w. Ran u seat events w) v t → Reached seat v t
 reached seat events v t active beside =
-    let on : GoesOn beside.from seat beside.to =
-    ran_on beside.from seat events beside.to (ap (λ (s : Session). phase_of s.stand) beside.starts ∙ active) beside.did in record {
+    let at : phase_at beside.from seat ≡ Active = ap (λ (s : Session). phase_of s.stand) beside.starts ∙ active in
+    let on : GoesOn beside.from seat beside.to = ran_on beside.from seat events beside.to at beside.did in record {
       work = on.work;
       stand = ap (λ (s : Session). s.stand) beside.stops ∙ on.stand;
       more = subst (λ (s : Session). Extends (work_of s.stand) on.work) beside.starts on.more;
       grows = subst (λ (s : Session). Grows s (t.session seat)) beside.starts (subst (λ (s : Session). Grows (beside.from.session seat) s) (sym beside.stops) on.goes.own);
+      saves = beside.stops_saves ∙ ran_saves beside.from seat events beside.to at beside.did ∙ beside.starts_saves;
       onward = record { opening = beside.opening; tail = beside.tail };
     }
 
@@ -60,41 +62,60 @@ went_from : (s t : Session) → phase_of s.stand ≡ Active → GoesFrom s t →
 went_from s t active (u, stand, more, over) =
     continues_from s t (world.active (work_of s.stand)) (active_in s.stand active) [] (over ∙ sym (append-nil s.over)) (u, more, inl stand)
 
-took_on : (seat : ℕ) (asked : Option Command) (a : Answer) (s t : Session) → phase_of s.stand ≡ Active → asks_safe asked ≡ false → GoesFrom s t
-    → ((before : List Step) → IsRunOf (work_of s.stand) before → IsRunOf (work_of t.stand) (before ++ added asked a))
-    → phase_after asked a (phase_of s.stand) ≡ phase_of s.stand → ((p : Progress) → heard seat asked a p ≡ goes_on asked a p) → Took seat asked a s t
-took_on seat asked a s t active calm (u, stand, more, over) run phase hears = record {
-  goes = went_from s t active (u, stand, more, over);
+-- its run, with the savepoints that it holds
+now_run : (t : View) (seat : ℕ) (u : Work) (x : Transaction) → (t.session seat).stand ≡ world.active u → RunsBy t seat x → WasRun u (steps_of x)
+now_run t seat u x stand by = (t.saves seat, subst (λ (w : Work). IsRunOf (record { work = w; saves = t.saves seat }) (steps_of x)) (ap work_of stand) by.run)
+
+took_on : (seat : ℕ) (asked : Option Command) (a : Answer) (v t : View) → phase_at v seat ≡ Active → asks_safe asked ≡ false → GoesFrom (v.session seat) (t.session seat)
+    → ((before : List Step) → IsRunOf (kept_at v seat) before → IsRunOf (kept_at t seat) (before ++ added asked a))
+    → ((x : Transaction) → held_of x ≡ length (v.saves seat) → held_of (with_line asked a x) ≡ length (t.saves seat))
+    → phase_after asked a (phase_at v seat) ≡ phase_at v seat → ((p : Progress) → heard seat asked a p ≡ goes_on asked a p) → Took seat asked a v t
+took_on seat asked a v t active calm (u, stand, more, over) run held phase hears = record {
+  goes = went_from (v.session seat) (t.session seat) active (u, stand, more, over);
   phase = phase ∙ active ∙ sym (ap phase_of stand);
-  tells = λ p told. subst (λ (q : Progress). Tells seat q t) (sym (hears p)) (record {
-    over = subst (λ (fs : List Finished). TellsOver seat p.over p.snapshots fs) (sym over) told.over;
-    now = subst (λ (at : Stand). TellsNow seat (goes_on asked a p).current at) (sym stand)
-        (active_told seat asked a p.current (work_of s.stand) u more.number more.begin
-        (λ before was. subst (λ (w : Work). IsRunOf w (before ++ added asked a)) (ap work_of stand) (run before was))
-        (now_active seat p s active told));
-    watched = subst (λ (at : Stand). TellsWatched (goes_on asked a p).snapshot at) (sym stand)
-        (none_watched (goes_on asked a p).snapshot (world.active u) tt (none_after asked a p calm (none_active seat p s active told)));
+  tells = λ p told. subst (λ (q : Progress). TellsAt seat q t) (sym (hears p)) (record {
+    tells = record {
+      over = subst (λ (fs : List Finished). TellsOver seat p.over p.snapshots fs) (sym over) told.tells.over;
+      now = subst (λ (at : Stand). TellsNow seat (goes_on asked a p).current at) (sym stand)
+          (active_told seat asked a p.current (work_at v seat) u more.number more.begin (λ x is. was_run x (told.runs x is active)) (now_active seat p (v.session seat) active told.tells));
+      watched = subst (λ (at : Stand). TellsWatched (goes_on asked a p).snapshot at) (sym stand)
+          (none_watched (goes_on asked a p).snapshot (world.active u) tt (none_after asked a p calm (none_active seat p (v.session seat) active told.tells)));
+    };
+    runs = runs_lined t seat asked a p.current (λ x is at. runs_by x (told.runs x is active));
   });
 }
+  where
+    runs_by : (x : Transaction) → RunsBy v seat x → RunsBy t seat (with_line asked a x)
+    runs_by x by = record {
+      run = subst (λ (steps : List Step). IsRunOf (kept_at t seat) steps) (sym (steps_with asked a x)) (run (steps_of x) by.run);
+      held = held x by.held;
+    }
 
-took_ended : (seat : ℕ) (c : Command) (a : Answer) (ending : Ending) (s t : Session) → ((w u : Work) (steps : List Step) → Extends w u → IsAnswered w steps → IsAnswered u steps)
-    → phase_of s.stand ≡ Active → asks_safe (Some c) ≡ false → Grows s t → t.stand ≡ world.idle → reply_in a ≡ None → EndsAs ending world.aborts → phase_after (Some c) a (phase_of s.stand) ≡ Idle
-    → ((p : Progress) → heard seat (Some c) a p ≡ ended ending (goes_on (Some c) a p)) → Took seat (Some c) a s t
-took_ended seat c a ending s t stay active calm grows idle none aborts phase hears =
-    let w = work_of s.stand in
+    was_run : (x : Transaction) → RunsBy v seat x → WasRun u (steps_of (with_line asked a x))
+    was_run x by = now_run t seat u (with_line asked a x) stand (runs_by x by)
+
+took_ended : (seat : ℕ) (c : Command) (a : Answer) (ending : Ending) (v t : View) → ((w u : Work) (steps : List Step) → Extends w u → IsAnswered w steps → IsAnswered u steps)
+    → phase_at v seat ≡ Active → asks_safe (Some c) ≡ false → Grows (v.session seat) (t.session seat) → (t.session seat).stand ≡ world.idle → reply_in a ≡ None → EndsAs ending world.aborts
+    → phase_after (Some c) a (phase_at v seat) ≡ Idle → ((p : Progress) → heard seat (Some c) a p ≡ ended ending (goes_on (Some c) a p)) → Took seat (Some c) a v t
+took_ended seat c a ending v t stay active calm grows idle none aborts phase hears =
+    let s = v.session seat in
+    let w = work_at v seat in
     let stand : s.stand ≡ world.active w = active_in s.stand active in
-    let done = over_then s t w grows stand idle in
+    let done = over_then s (t.session seat) w grows stand idle in
     let f : Finished = record { work = done.0; fate = world.aborts } in record {
-      goes = continues_from s t (world.active w) stand (f ∷ []) done.2 (done.0, done.1, inr (inr (f, [], s.over, done.2, refl)));
+      goes = continues_from s (t.session seat) (world.active w) stand (f ∷ []) done.2 (done.0, done.1, inr (inr (f, [], s.over, done.2, refl)));
       phase = phase ∙ sym (ap phase_of idle);
-      tells = λ p told. subst (λ (q : Progress). Tells seat q t) (sym (hears p)) (record {
-        over = subst (λ (fs : List Finished). TellsOver seat (ended ending (goes_on (Some c) a p)).over (ended ending (goes_on (Some c) a p)).snapshots fs) (sym done.2)
-            (aborted_told seat ending p.over (goes_on (Some c) a p).current p.snapshots (goes_on (Some c) a p).snapshot s.over w done.0 aborts done.1.number done.1.begin
-            (λ steps. stay w done.0 steps done.1) told.over
-            (unchanged_told seat (Some c) a p.current (world.active w) (none_replied c a none) (now_active seat p s active told))
-            (none_after (Some c) a p calm (none_active seat p s active told)));
-        now = subst (λ (at : Stand). TellsNow seat None at) (sym idle) tt;
-        watched = subst (λ (at : Stand). TellsWatched None at) (sym idle) tt;
+      tells = λ p told. subst (λ (q : Progress). TellsAt seat q t) (sym (hears p)) (record {
+        tells = record {
+          over = subst (λ (fs : List Finished). TellsOver seat (ended ending (goes_on (Some c) a p)).over (ended ending (goes_on (Some c) a p)).snapshots fs) (sym done.2)
+              (aborted_told seat ending p.over (goes_on (Some c) a p).current p.snapshots (goes_on (Some c) a p).snapshot s.over w done.0 aborts done.1.number done.1.begin
+              (λ steps. stay w done.0 steps done.1) told.tells.over
+              (unchanged_told seat (Some c) a p.current (world.active w) (none_replied c a none) (now_active seat p s active told.tells))
+              (none_after (Some c) a p calm (none_active seat p s active told.tells)));
+          now = subst (λ (at : Stand). TellsNow seat None at) (sym idle) tt;
+          watched = subst (λ (at : Stand). TellsWatched None at) (sym idle) tt;
+        };
+        runs = λ one is at. absurd (cc);
       });
     }
 
@@ -118,6 +139,9 @@ module _ (f : View) (seat : ℕ) (front : Rows → List Event → Type 0) (asks 
     ap (λ (s : Session). s.over) (last.stays stays) ∙ over_still (v.session seat) (cut.at.session seat) before.work before.grows before.stand,
   )
 
+  pub cut_saves : rows.ends why ≡ false → t.saves seat ≡ v.saves seat
+  cut_saves stays = last.saves stays ∙ before.saves
+
   pub cut_ends : rows.ends why ≡ true → Grows (v.session seat) (t.session seat) × ((t.session seat).stand ≡ world.idle)
   cut_ends ends = (grows_then (v.session seat) (cut.at.session seat) (t.session seat) before.grows last.goes.own, last.ended ends)
 
@@ -125,17 +149,17 @@ module _ (f : View) (seat : ℕ) (front : Rows → List Event → Type 0) (asks 
 pub record Holds (seat : ℕ) (v t : View) : Type 0 where
   pub phase : phase_at t seat ≡ phase_at v seat
   pub goes : Continues (v.session seat) (t.session seat)
-  pub tells : (p : Progress) → Tells seat p (v.session seat) → Tells seat p (t.session seat)
+  pub tells : (p : Progress) → TellsAt seat p v → TellsAt seat p t
   pub onward : Onward v t
 
 held_now : (seat : ℕ) (current : Option Transaction) (w u : Work) → u.number ≡ w.number → u.begin ≡ w.begin
-    → ((steps : List Step) → IsRunOf w steps → IsRunOf u steps) → TellsNow seat current (world.active w) → TellsNow seat current (world.active u)
+    → ((t : Transaction) → current ≡ Some t → WasRun u (steps_of t)) → TellsNow seat current (world.active w) → TellsNow seat current (world.active u)
 held_now seat None w u number begin run told = absurd told
 held_now seat (Some t) w u number begin run told = (
   record {
     work = record { session = told.0.work.session; number = told.0.work.number ∙ sym number; begin = told.0.work.begin ∙ sym begin };
     unfinished = told.0.unfinished;
-    ran = run (steps_of t) told.0.ran;
+    ran = run t refl;
   },
   told.1,
 )
@@ -144,7 +168,7 @@ pub holds_passes : (seat : ℕ) (v t : View) → Passes seat v t → Holds seat 
 holds_passes seat v t passes = record {
   phase = ap (λ (s : Session). phase_of s.stand) passes.own;
   goes = continues_itself (v.session seat) (t.session seat) passes.own;
-  tells = λ p told. subst (λ (s : Session). Tells seat p s) (sym passes.own) told;
+  tells = λ p told. tells_same seat p v t passes.own passes.saves told;
   onward = onward_passes seat v t passes;
 }
 
@@ -163,15 +187,23 @@ holds_cut f seat front asks why v t active cut stays =
       phase = ap phase_of stand ∙ sym active;
       goes = went_from (v.session seat) (t.session seat) active (u, stand, more, over);
       tells = λ p told. record {
-        over = subst (λ (fs : List Finished). TellsOver seat p.over p.snapshots fs) (sym over) told.over;
-        now = subst (λ (at : Stand). TellsNow seat p.current at) (sym stand)
-            (held_now seat p.current (work_at v seat) u more.number more.begin
-            (λ steps was. subst (λ (w : Work). IsRunOf w steps) (ap work_of stand) (cut.run stays steps was))
-            (now_active seat p (v.session seat) active told));
-        watched = subst (λ (at : Stand). TellsWatched p.snapshot at) (sym stand)
-            (none_watched p.snapshot (world.active u) tt (none_active seat p (v.session seat) active told));
+        tells = record {
+          over = subst (λ (fs : List Finished). TellsOver seat p.over p.snapshots fs) (sym over) told.tells.over;
+          now = subst (λ (at : Stand). TellsNow seat p.current at) (sym stand)
+              (held_now seat p.current (work_at v seat) u more.number more.begin (λ x is. now_run t seat u x stand (still x (told.runs x is active)))
+              (now_active seat p (v.session seat) active told.tells));
+          watched = subst (λ (at : Stand). TellsWatched p.snapshot at) (sym stand)
+              (none_watched p.snapshot (world.active u) tt (none_active seat p (v.session seat) active told.tells));
+        };
+        runs = λ x is at. still x (told.runs x is active);
       };
       onward = cut_onward f seat front asks why v t active cut;
+    }
+  where
+    still : (x : Transaction) → RunsBy v seat x → RunsBy t seat x
+    still x by = record {
+      run = cut.run stays (steps_of x) by.run;
+      held = by.held ∙ ap length (sym (cut_saves f seat front asks why v t active cut stays));
     }
 
 pub holds_tried : (f : View) (seat : ℕ) (c : Command) (n : ℕ) (v t : View) → phase_at v seat ≡ Active → WasTried f seat c n v t → Holds seat v t
@@ -193,7 +225,7 @@ turns_held seat asked a v u t holds turns = record {
 
 -- THE LAST TRY.
 module _ (stay : (w u : Work) (steps : List Step) → Extends w u → IsAnswered w steps → IsAnswered u steps) where
-  module _ (f : View) (seat : ℕ) (c : Command) (v t : View) (active : phase_at v seat ≡ Active) (calm : asks_safe (Some c) ≡ false) where
+  module _ (f : View) (seat : ℕ) (c : Command) (v t : View) (active : phase_at v seat ≡ Active) (named : IsSome (table_of c)) (calm : asks_safe (Some c) ≡ false) where
     abbrev Cut : RowStop → Type 0
     Cut why = WereCutBeside f seat (FrontOf c) (AsksOf c) why v t
 
@@ -203,9 +235,10 @@ module _ (stay : (w u : Work) (steps : List Step) → Extends w u → IsAnswered
     stays_so : (a : Answer) (why : RowStop) → Cut why → rows.ends why ≡ false → reply_in a ≡ None → phase_after (Some c) a (phase_at v seat) ≡ phase_at v seat
         → ((p : Progress) → heard seat (Some c) a p ≡ goes_on (Some c) a p) → At a
     stays_so a why cut stays none phase hears = record {
-      took = took_on seat (Some c) a (v.session seat) (t.session seat) active calm (cut_goes f seat (FrontOf c) (AsksOf c) why v t active cut stays)
-          (λ steps was. subst (λ (list : List Step). IsRunOf (work_at t seat) list)
-          (sym (ap (λ (list : List Step). steps ++ list) (none_replied c a none) ∙ append-nil steps)) (cut.run stays steps was)) phase hears;
+      took = took_on seat (Some c) a v t active calm (cut_goes f seat (FrontOf c) (AsksOf c) why v t active cut stays)
+          (λ steps was. subst (λ (list : List Step). IsRunOf (kept_at t seat) list)
+          (sym (ap (λ (list : List Step). steps ++ list) (none_replied c a none) ∙ append-nil steps)) (cut.run stays steps was))
+          (λ x held. held_still (Some c) a x (none_replied c a none) ∙ held ∙ ap length (sym (cut_saves f seat (FrontOf c) (AsksOf c) why v t active cut stays))) phase hears;
       onward = cut_onward f seat (FrontOf c) (AsksOf c) why v t active cut;
     }
 
@@ -213,7 +246,7 @@ module _ (stay : (w u : Work) (steps : List Step) → Extends w u → IsAnswered
         → phase_after (Some c) a (phase_at v seat) ≡ Idle → ((p : Progress) → heard seat (Some c) a p ≡ ended ending (goes_on (Some c) a p)) → At a
     ends_so a why ending cut ends none aborts phase hears =
         let out = cut_ends f seat (FrontOf c) (AsksOf c) why v t active cut ends in record {
-          took = took_ended seat c a ending (v.session seat) (t.session seat) stay active calm out.0 out.1 none aborts phase hears;
+          took = took_ended seat c a ending v t stay active calm out.0 out.1 none aborts phase hears;
           onward = cut_onward f seat (FrontOf c) (AsksOf c) why v t active cut;
         }
 
@@ -242,16 +275,18 @@ module _ (stay : (w u : Work) (steps : List Step) → Extends w u → IsAnswered
     once (answer.Replied r) (op, is, beside) =
         turns_beside seat (Some c) (answer.Replied r) (λ u w. DidCalls u seat (record { op = op; reply = r } ∷ []) (WholeOf c (answer.Replied r)) w) v t beside
         (turn_ran beside.from seat (Some c) (answer.Replied r) beside.to (record { op = op; reply = r } ∷ []) (WholeOf c (answer.Replied r))
-        (ap (λ (s : Session). phase_of s.stand) beside.starts ∙ active) calm beside.did (one_replied c op r is) refl (λ p. refl))
+        (ap (λ (s : Session). phase_of s.stand) beside.starts ∙ active) calm beside.did (one_replied c op r is)
+        (λ x. held_on_map (Some c) (answer.Replied r) x (record { op = op; reply = r }) (one_replied c op r is) (named_on_map c op named is)) refl (λ p. refl))
     once (answer.Cut cells) (is, few, beside) =
         turns_beside seat (Some c) (answer.Cut cells) (λ u w. DidCalls u seat [] (WholeOf c (answer.Cut cells)) w) v t beside
         (turn_ran beside.from seat (Some c) (answer.Cut cells) beside.to [] (WholeOf c (answer.Cut cells))
-        (ap (λ (s : Session). phase_of s.stand) beside.starts ∙ active) calm beside.did (none_asked c (answer.Cut cells) is) refl (λ p. refl))
+        (ap (λ (s : Session). phase_of s.stand) beside.starts ∙ active) calm beside.did (none_asked c (answer.Cut cells) is)
+        (λ x. held_still (Some c) (answer.Cut cells) x (none_asked c (answer.Cut cells) is)) refl (λ p. refl))
     once a did = refused_as a did
 
   -- an operation that was answered, or cut off, after its tries
-  pub turns_operation : (f : View) (seat : ℕ) (c : Command) (a : Answer) (v t : View) → phase_at v seat ≡ Active → asks_safe (Some c) ≡ false → DidOperationBeside f seat c a v t
+  pub turns_operation : (f : View) (seat : ℕ) (c : Command) (a : Answer) (v t : View) → phase_at v seat ≡ Active → IsSome (table_of c) → asks_safe (Some c) ≡ false → DidOperationBeside f seat c a v t
       → Turns seat (Some c) a v t
-  turns_operation f seat c a v t active calm did =
+  turns_operation f seat c a v t active named calm did =
       let held = holds_tried f seat c did.times v did.at active did.tried in
-      turns_held seat (Some c) a v did.at t held (once f seat c did.at t (held.phase ∙ active) calm a did.once)
+      turns_held seat (Some c) a v did.at t held (once f seat c did.at t (held.phase ∙ active) named calm a did.once)

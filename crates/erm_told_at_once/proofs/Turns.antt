@@ -1,20 +1,34 @@
 -- What an answer to a session tells, beside what it did with the session's own part.
-use Rattle.std.proofs.Common.{◌≡◌, ℕ, ◌≤◌, Option, refl, sym, ◌∙◌, subst, arith, le_trans}
+use Rattle.std.proofs.Common.{◌≡◌, ℕ, ◌≤◌, length, Option, refl, sym, ap, ◌∙◌, subst, arith, le_trans}
 use Rattle.erm_report.specs.declared.answer.Answer.{Answer}
 use Rattle.erm_script.specs.declared.script.Command.{Command}
-use Rattle.erm_world.specs.World.{Session, View, phase_of}
+use Rattle.erm_world.specs.World.{Session, View, phase_at, phase_of, work_at, work_of}
+use Rattle.erm_maps.specs.Runs.{IsRunOf, Kept, kept_at}
 use Rattle.erm_good_report.specs.Phases.{phase_after}
-use Rattle.erm_good_report.specs.Transactions.{Progress, heard}
+use Rattle.erm_good_report.specs.Transactions.{Progress, heard, steps_of}
 use Rattle.erm_lines.specs.Told.{Continues, Tells}
 use Rattle.erm_beside.specs.Calls.{Passes}
-use Rattle.erm_told.proofs.Turns.{Turn}
+use Rattle.erm_lines.proofs.Saved.{kept_is}
+use Rattle.erm_told.proofs.Turns.{TellsAt, Turn}
 use Rattle.erm_lines_at_once.specs.Operations.{Beside}
 
 -- a session went on, and its transactions and its phase are those told
-pub record Took (seat : ℕ) (asked : Option Command) (a : Answer) (s t : Session) : Type 0 where
-  pub goes : Continues s t
-  pub phase : phase_after asked a (phase_of s.stand) ≡ phase_of t.stand
-  pub tells : (p : Progress) → Tells seat p s → Tells seat (heard seat asked a p) t
+pub record Took (seat : ℕ) (asked : Option Command) (a : Answer) (v t : View) : Type 0 where
+  pub goes : Continues (v.session seat) (t.session seat)
+  pub phase : phase_after asked a (phase_at v seat) ≡ phase_at t seat
+  pub tells : (p : Progress) → TellsAt seat p v → TellsAt seat (heard seat asked a p) t
+
+-- what is told of a session is told of one that is the same, with its savepoints
+pub tells_same : (seat : ℕ) (p : Progress) (v t : View) → t.session seat ≡ v.session seat → t.saves seat ≡ v.saves seat → TellsAt seat p v → TellsAt seat p t
+tells_same seat p v t session saves told = record {
+  tells = subst (λ (s : Session). Tells seat p s) (sym session) told.tells;
+  runs = λ one is active.
+      let by = told.runs one is (sym (ap (λ (s : Session). phase_of s.stand) session) ∙ active) in
+      let kept : kept_at t seat ≡ kept_at v seat = kept_is (work_at t seat) (work_at v seat) (t.saves seat) (v.saves seat) (ap (λ (s : Session). work_of s.stand) session) saves in record {
+        run = subst (λ (k : Kept). IsRunOf k (steps_of one)) (sym kept) by.run;
+        held = by.held ∙ ap length (sym saves);
+      };
+}
 
 -- the log came as far at least, in a world that was opened so
 pub record Onward (v t : View) : Type 0 where
@@ -32,17 +46,22 @@ onward_passes seat v u passes = record { opening = passes.opening; tail = passes
 
 -- an own part, and what became of it
 pub record Turns (seat : ℕ) (asked : Option Command) (a : Answer) (v t : View) : Type 0 where
-  pub took : Took seat asked a (v.session seat) (t.session seat)
+  pub took : Took seat asked a v t
   pub onward : Onward v t
 
-pub took_as : (seat : ℕ) (asked : Option Command) (a : Answer) (s t x y : Session) → x ≡ s → t ≡ y → Took seat asked a x y → Took seat asked a s t
-took_as seat asked a s t x y first second took = subst (λ (r : Session). Took seat asked a r t) first (subst (λ (r : Session). Took seat asked a x r) (sym second) took)
+-- of worlds in which the session is the same
+took_as : (seat : ℕ) (asked : Option Command) (a : Answer) (v t x y : View) → x.session seat ≡ v.session seat → x.saves seat ≡ v.saves seat → t.session seat ≡ y.session seat
+    → t.saves seat ≡ y.saves seat → Took seat asked a x y → Took seat asked a v t
+took_as seat asked a v t x y starts starts_saves stops stops_saves took = record {
+  goes = subst (λ (s : Session). Continues s (t.session seat)) starts (subst (λ (s : Session). Continues (x.session seat) s) (sym stops) took.goes);
+  phase = ap (λ (s : Session). phase_after asked a (phase_of s.stand)) (sym starts) ∙ took.phase ∙ sym (ap (λ (s : Session). phase_of s.stand) stops);
+  tells = λ p told. tells_same seat (heard seat asked a p) y t stops stops_saves (took.tells p (tells_same seat p v x starts starts_saves told));
+}
 
 -- a turn of the session in its own view, after others went on
 pub turns_after : (seat : ℕ) (asked : Option Command) (a : Answer) (v u t : View) → Passes seat v u → Turn u seat asked a t → Turns seat asked a v t
 turns_after seat asked a v u t passes turn = record {
-  took = took_as seat asked a (v.session seat) (t.session seat) (u.session seat) (t.session seat) passes.own refl
-      (record { goes = turn.goes; phase = turn.phase; tells = turn.tells });
+  took = took_as seat asked a v t u t passes.own passes.saves refl refl (record { goes = turn.goes; phase = turn.phase; tells = turn.tells });
   onward = record { opening = turn.opening ∙ passes.opening; tail = le_trans passes.tail turn.tail };
 }
 
@@ -50,7 +69,7 @@ turns_after seat asked a v u t passes turn = record {
 pub turns_beside : (seat : ℕ) (asked : Option Command) (a : Answer) (Did : View → View → Type 0) (v t : View) → (beside : Beside seat Did v t)
     → Turn beside.from seat asked a beside.to → Turns seat asked a v t
 turns_beside seat asked a Did v t beside turn = record {
-  took = took_as seat asked a (v.session seat) (t.session seat) (beside.from.session seat) (beside.to.session seat) beside.starts beside.stops
+  took = took_as seat asked a v t beside.from beside.to beside.starts beside.starts_saves beside.stops beside.stops_saves
       (record { goes = turn.goes; phase = turn.phase; tells = turn.tells });
   onward = record { opening = beside.opening; tail = beside.tail };
 }

@@ -10,6 +10,7 @@ use Rattle.erm_script.specs.declared.script.Command.{Command}
 use Rattle.erm_script.specs.declared.script.Command.TheVariants as command
 use Rattle.erm_world.specs.Calls.{DidAbort}
 use Rattle.erm_world.specs.Safe.{HasSnapshot, with_snapshot}
+use Rattle.erm_world.specs.Snapshots.{snapshot_not_active}
 use Rattle.erm_world.specs.World.{Finished, Session, Stand, View, Work, phase_at, phase_of, work_at, work_of}
 use Rattle.erm_world.specs.World as world
 use Rattle.erm_good_report.specs.Phases.{phase_after}
@@ -20,7 +21,7 @@ use Rattle.erm_beside.specs.Safe.{DidBeginSafeBeside, DidSafeBeside}
 use Rattle.erm_told.proofs.Going.{continues_from, continues_then}
 use Rattle.erm_told.proofs.Sessions.{ended_told, look_watched, next_is, now_none, now_watching, unchanged_told, watched_none}
 use Rattle.erm_told.proofs.Steps.{added}
-use Rattle.erm_told.proofs.Turns.{Turn, becomes, idle_in, turn_still}
+use Rattle.erm_told.proofs.Turns.{TellsAt, Turn, becomes, idle_in, runs_still, turn_still}
 use Rattle.erm_told.proofs.Watching.{own_watched, turn_durable, turn_given_up, turn_look, turn_placed, with_own}
 use Rattle.erm_lines_at_once.specs.Answers.{DidAskSafeBeside, DidAskSnapshotBeside, DidBeginAndAskBeside, DidOfSnapshotBeside}
 use Rattle.erm_lines_at_once.specs.Looks.{DidLookBeside}
@@ -39,7 +40,7 @@ turn_safe v seat stamp t same (y, at, now) =
     let over = (v.session seat).over in
     let z : world.Snapshot = record y { is_safe = true } in
     let s : Session = with_snapshot v seat z in
-    becomes v seat s (Some command.Safe) (answer.Safe stamp) t now
+    becomes v seat s (Some command.Safe) (answer.Safe stamp) t now (λ active. snapshot_not_active z active)
     (continues_from (v.session seat) s (world.snapshot y) at [] (sym (append-nil over)) tt) refl
     (λ p told.
     let own = own_watched p y (subst (λ (stand : Stand). TellsWatched p.snapshot stand) at told.watched) in
@@ -60,7 +61,7 @@ turn_unsafe v seat other stamp t (x, stand) now =
     let f : Finished = record { work = w; fate = world.aborts } in
     let over = (v.session seat).over in
     let s : Session = record { over = over ++ f ∷ []; stand = world.idle } in
-    becomes v seat s (Some command.Safe) (answer.Unsafe other stamp) t now
+    becomes v seat s (Some command.Safe) (answer.Unsafe other stamp) t now (λ active. cc)
     (continues_from (v.session seat) s (world.snapshot x) stand (f ∷ []) refl tt) refl
     (λ p told. record {
       over = subst (λ (u : Work). TellsOver seat (p.over ++ option_to_list (option_map (with_ending Aborts) p.current)) (p.snapshots ++ own_snapshot p ∷ [])
@@ -86,7 +87,7 @@ pub record Starts (seat begin : ℕ) (v u : View) : Type 0 where
   pub has : (x : world.Snapshot) × ((u.session seat).stand ≡ world.snapshot x) × (x.number ≡ length (v.session seat).over + 1) × (x.begin ≡ begin)
   pub pending : phase_at u seat ≡ Pending
   pub goes : Continues (v.session seat) (u.session seat)
-  pub tells : (p : Progress) → Tells seat p (v.session seat) → Tells seat (with_own p) (u.session seat)
+  pub tells : (p : Progress) → TellsAt seat p v → TellsAt seat (with_own p) u
   pub onward : Onward v u
   pub placed : (v.tail ≤ begin) × (begin ≤ u.tail)
 
@@ -111,9 +112,12 @@ starts seat begin v u idle (w, passes, (few, is, now)) =
       has = (x, ap (λ (r : Session). r.stand) own, refl, refl);
       pending = ap (λ (r : Session). phase_of r.stand) own;
       goes = subst (λ (r : Session). Continues (v.session seat) r) (sym own) (continues_from (v.session seat) s world.idle stand [] (sym (append-nil over)) tt);
-      tells = λ p told. subst (λ (r : Session). Tells seat (with_own p) r) (sym own)
-          (own_begun seat begin p over told.over (subst (λ (at : Stand). TellsNow seat p.current at) stand told.now)
-          (subst (λ (at : Stand). TellsWatched p.snapshot at) stand told.watched));
+      tells = λ p told. record {
+        tells = subst (λ (r : Session). Tells seat (with_own p) r) (sym own)
+            (own_begun seat begin p over told.tells.over (subst (λ (at : Stand). TellsNow seat p.current at) stand told.tells.now)
+            (subst (λ (at : Stand). TellsWatched p.snapshot at) stand told.tells.watched));
+        runs = λ one is active. absurd (snapshot_not_active x (ap (λ (r : Session). phase_of r.stand) (sym own) ∙ active));
+      };
       onward = onward_then v w u (onward_passes seat v w passes) (record { opening = now.opening; tail = omega (arith, now.tail) });
       placed = (omega (arith, is, passes.tail), omega (arith, is, now.tail));
     }
@@ -138,27 +142,30 @@ turns_starts f seat a v t idle did =
         goes = continues_then (v.session seat) (u.session seat) (t.session seat) first.goes second.took.goes;
         phase = ap (λ (x : Phase). phase_after (Some command.Safe) a x) idle ∙ asked_leaves f seat a u t did.asked
             ∙ sym (ap (λ (x : Phase). phase_after (Some command.Safe) a x) first.pending) ∙ second.took.phase;
-        tells = λ p told. subst (λ (q : Progress). Tells seat q (t.session seat)) (asked_hears f seat a u t p did.asked) (second.took.tells (with_own p) (first.tells p told));
+        tells = λ p told. subst (λ (q : Progress). TellsAt seat q t) (asked_hears f seat a u t p did.asked) (second.took.tells (with_own p) (first.tells p told));
       };
       onward = onward_then v u t first.onward second.onward;
     }
 
 -- none begins
-told_looked : (seat : ℕ) (asked : Option Command) (a : Answer) (p : Progress) (s : Session) → added asked a ≡ [] → Tells seat p s
-    → Tells seat (record p { current = option_map (with_line asked a) p.current; snapshot = option_map (with_look asked a) p.snapshot }) s
-told_looked seat asked a p s none told = record {
-  over = told.over;
-  now = unchanged_told seat asked a p.current s.stand none told.now;
-  watched = look_watched asked a p.snapshot s.stand told.watched;
+told_looked : (seat : ℕ) (asked : Option Command) (a : Answer) (p : Progress) (v : View) → added asked a ≡ [] → TellsAt seat p v
+    → TellsAt seat (record p { current = option_map (with_line asked a) p.current; snapshot = option_map (with_look asked a) p.snapshot }) v
+told_looked seat asked a p v none told = record {
+  tells = record {
+    over = told.tells.over;
+    now = unchanged_told seat asked a p.current (v.session seat).stand none told.tells.now;
+    watched = look_watched asked a p.snapshot (v.session seat).stand told.tells.watched;
+  };
+  runs = runs_still v seat asked a p.current none told.runs;
 }
 
 pub turns_snapshot : (f : View) (seat : ℕ) (a : Answer) (v t : View) → phase_at v seat ≡ Idle → DidAskSnapshotBeside f seat a v t → Turns seat (Some command.Safe) a v t
 turns_snapshot f seat (answer.LogEnd tail) v t idle (u, passes, did) =
     turns_after seat (Some command.Safe) (answer.LogEnd tail) v u t passes
-    (turn_still u seat (Some command.Safe) (answer.LogEnd tail) t did.0 refl (λ p told. told_looked seat (Some command.Safe) (answer.LogEnd tail) p (u.session seat) refl told))
+    (turn_still u seat (Some command.Safe) (answer.LogEnd tail) t did.0 refl (λ p told. told_looked seat (Some command.Safe) (answer.LogEnd tail) p u refl told))
 turns_snapshot f seat answer.NumbersEnd v t idle (u, passes, did) =
     turns_after seat (Some command.Safe) answer.NumbersEnd v u t passes
-    (turn_still u seat (Some command.Safe) answer.NumbersEnd t did.0 refl (λ p told. told_looked seat (Some command.Safe) answer.NumbersEnd p (u.session seat) refl told))
+    (turn_still u seat (Some command.Safe) answer.NumbersEnd t did.0 refl (λ p told. told_looked seat (Some command.Safe) answer.NumbersEnd p u refl told))
 turns_snapshot f seat a v t idle did = turns_starts f seat a v t idle did
 
 -- A LINE of a session that has a snapshot
