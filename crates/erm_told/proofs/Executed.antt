@@ -35,7 +35,7 @@ pub record Knows (seat : ℕ) (p : Progress) (phase : Phase) (v : View) : Type 0
   pub phase_is : phase ≡ phase_at v seat
 
 -- a session that is the same, with its savepoints
-told_same : (seat : ℕ) (p : Progress) (v t : View) → t.session seat ≡ v.session seat → t.saves seat ≡ v.saves seat → TellsAt seat p v → TellsAt seat p t
+pub told_same : (seat : ℕ) (p : Progress) (v t : View) → t.session seat ≡ v.session seat → t.saves seat ≡ v.saves seat → TellsAt seat p v → TellsAt seat p t
 told_same seat p v t is saves told = record {
   tells = subst (λ (s : Session). Tells seat p s) (sym is) told.tells;
   runs = λ one at active. let by = told.runs one at (sym (ap (λ (s : Session). phase_of s.stand) is) ∙ active) in record {

@@ -6,7 +6,7 @@ use Rattle.erm_model.specs.Run.{Step}
 use Rattle.erm_report.specs.declared.answer.Answer.{Answer}
 use Rattle.erm_report.specs.declared.answer.Answer.TheVariants as answer
 use Rattle.erm_script.specs.declared.script.Command.{Command}
-use Rattle.erm_world.specs.Calls.{Becomes, DidAbort, DidBegin, DidSeal, IsDone, KeepsOwnSaves}
+use Rattle.erm_world.specs.Calls.{Becomes, DidAbort, DidBegin, DidSeal, IsDone, KeepsOwnSaves, Works}
 use Rattle.erm_world.specs.Snapshots.{snapshot_not_idle}
 use Rattle.erm_world.specs.World.{Fate, Finished, Opening, Session, Stand, View, Work, phase_at, phase_of, stamp_of, work_at, work_of}
 use Rattle.erm_world.specs.World as world
@@ -122,8 +122,9 @@ becomes v seat s asked a t now rests goes phase tells = record {
 begun_bare : (u : Work) (stand : Stand) (held before : List (List VersionWritten)) → stand ≡ world.idle → KeepsOwnSaves (world.active u) stand held before → held ≡ []
 begun_bare u stand held before idle keeps = subst (λ (at : Stand). KeepsOwnSaves (world.active u) at held before) idle keeps
 
-pub turn_begun : (v : View) (seat begin : ℕ) (asked : Option Command) (t : View) → NoneRuns → phase_at v seat ≡ Idle → DidBegin v seat begin t → Turn v seat asked (answer.Began begin) t
-turn_begun v seat begin asked t none idle (few, room, is, now) =
+pub turn_begins : (v : View) (seat begin : ℕ) (asked : Option Command) (t : View) → NoneRuns → phase_at v seat ≡ Idle → Works v seat (world.begun (length (v.session seat).over + 1) begin) t
+    → Turn v seat asked (answer.Began begin) t
+turn_begins v seat begin asked t none idle now =
     let over = (v.session seat).over in
     let w : Work = world.begun (length over + 1) begin in
     let s : Session = record { over = over; stand = world.active w } in
@@ -147,6 +148,9 @@ turn_begun v seat begin asked t none idle (few, room, is, now) =
   where
     the_one : (x y : Transaction) → Some x ≡ Some y → x ≡ y
     the_one x y is = cc
+
+pub turn_begun : (v : View) (seat begin : ℕ) (asked : Option Command) (t : View) → NoneRuns → phase_at v seat ≡ Idle → DidBegin v seat begin t → Turn v seat asked (answer.Began begin) t
+turn_begun v seat begin asked t none idle (few, room, is, now) = turn_begins v seat begin asked t none idle now
 
 -- One was sealed, and so it was told; or it is told later.
 pub seals : (v : View) (seat stamp : ℕ) (t : View) → phase_at v seat ≡ Active → DidSeal v seat stamp t → Continues (v.session seat) (t.session seat)
