@@ -1,3 +1,4 @@
+pub mod Backs
 pub mod Bridge
 pub mod Found
 pub mod Keeping

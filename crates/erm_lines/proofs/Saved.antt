@@ -1,5 +1,5 @@
 -- What a line that makes a savepoint, or goes back to one, does to a view: the session's transaction goes on, as a run of one operation more.
-use Rattle.std.proofs.Common.{◌≡◌, ◌≢◌, ℕ, suc, ◌==◌, cond, Bool, List, [], ◌∷◌, ◌++◌, take, refl, sym, ap, ◌∙◌, subst, eq-eqb, ne_eqb}
+use Rattle.std.proofs.Common.{◌≡◌, ◌≢◌, ℕ, suc, List, [], ◌∷◌, ◌++◌, take, refl, sym, ap, ◌∙◌, subst}
 use Rattle.erm_model.specs.declared.history.VersionWritten.{VersionWritten}
 use Rattle.erm_model.specs.declared.outcome.Phase.TheVariants.{Active}
 use Rattle.erm_model.specs.Database.{Database}
@@ -9,8 +9,9 @@ use Rattle.erm_report.specs.declared.answer.Answer.TheVariants as answer
 use Rattle.erm_world.specs.Going.{Extends}
 use Rattle.erm_world.specs.Saves.{WentBack, holding, restored, with_claims}
 use Rattle.erm_world.specs.World.{Session, View, Work, phase_at, phase_of, work_at, work_of}
+use Rattle.erm_world.proofs.Restored.{extends_restored}
+use Rattle.erm_world.proofs.Saves.{held_now, held_others}
 use Rattle.erm_maps.specs.Runs.{IsRunOf, Kept, WasRun, going_back, kept_at, saving}
-use Rattle.erm_maps.proofs.GoingOn.{extends_restored}
 use Rattle.erm_maps.proofs.Kept.{IsRunOf-going_back, IsRunOf-saving, back_step, save_step}
 use Rattle.erm_lines.specs.Answers.{DidAskBack, DidAskSave}
 
@@ -24,13 +25,6 @@ pub record Saves (v : View) (seat : ℕ) (t : View) : Type 0 where
   pub tail : t.tail ≡ v.tail
   pub flushed : t.flushed ≡ v.flushed
   pub pinned : t.pinned ≡ v.pinned
-
--- the savepoints of one session that holds others, and those of the others
-pub held_now : (v : View) (seat : ℕ) (held : List (List VersionWritten)) → (holding seat held v).saves seat ≡ held
-held_now v seat held = ap (λ (b : Bool). cond b held (v.saves seat)) (eq-eqb seat seat refl)
-
-pub held_others : (v : View) (seat : ℕ) (held : List (List VersionWritten)) (q : ℕ) → q ≢ seat → (holding seat held v).saves q ≡ v.saves q
-held_others v seat held q another = ap (λ (b : Bool). cond b held (v.saves q)) (ne_eqb q seat another)
 
 -- what a transaction is with its savepoints, by both
 pub kept_is : (w u : Work) (xs ys : List (List VersionWritten)) → w ≡ u → xs ≡ ys → let k : Kept = record { work = w; saves = xs } in k ≡ record { work = u; saves = ys }
