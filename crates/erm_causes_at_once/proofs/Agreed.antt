@@ -18,7 +18,7 @@ use Rattle.erm_world.specs.Safe.{WentBack}
 use Rattle.erm_world.specs.World.{Finished, IsSession, Stand, View, Work, work_at, work_of}
 use Rattle.erm_world.specs.World as world
 use Rattle.erm_world.proofs.Commits.{tells_commits}
-use Rattle.erm_maps.specs.Runs.{IsAnswered, IsRunOf}
+use Rattle.erm_maps.specs.Runs.{IsAnswered}
 use Rattle.erm_good_report.specs.GoodReport.{places_of}
 use Rattle.erm_good_report.specs.Opening.{Opening}
 use Rattle.erm_good_report.specs.Phases.{Closed}
@@ -29,6 +29,7 @@ use Rattle.erm_good_report.specs.Transactions.{Commits, HasSnapshot, Progress, S
 use Rattle.erm_good_report.proofs.Places.{Place, place_at, said_at, said_by}
 use Rattle.erm_good_at_once.specs.CutReports.{moment_in}
 use Rattle.erm_lines.specs.Executions.{IsOpeningOf, line_moves, said_in}
+use Rattle.erm_lines.proofs.Keeping.{NoneRuns}
 use Rattle.erm_lines_at_once.specs.Parts.{IsRunInPart, RunsInPartHaveSafeSnapshots, RunsInPartTell}
 use Rattle.erm_told.specs.Snapshots.{begin_in}
 use Rattle.erm_told.proofs.Endings.{if_told}
@@ -56,7 +57,7 @@ elsewhere q (l ∷ script) (a ∷ answers) p none =
     ap (λ (b : Bool). fold (hears q) (cond b (heard q (Some l.command) a p) p) (said_of script answers)) (ne_eqb l.session q (none l (∈-head l script)))
     ∙ elsewhere q script answers p (λ k m. none k (∈-behind l script k m))
 
-module _ (runs : (number begin : ℕ) → IsRunOf (world.begun number begin) []) (stay : (w u : Work) (steps : List Step) → Extends w u → IsAnswered w steps → IsAnswered u steps)
+module _ (runs : NoneRuns) (stay : (w u : Work) (steps : List Step) → Extends w u → IsAnswered w steps → IsAnswered u steps)
     (v f : View) (whole script : List ScriptLine) (answers : List Answer) (closed : List Closed) (run : IsRunInPart v whole script answers closed f) (opening : Opening) (of : IsOpeningOf v opening) where
   abbrev said : List Said
   said = said_of script answers
@@ -268,7 +269,7 @@ module _ (runs : (number begin : ℕ) → IsRunOf (world.begun number begin) [])
       absurd (none_in_nil s (subst (λ (p : Progress). s ∈ (p.snapshots ++ option_to_list p.snapshot)) nothing_there has)))
       (some_session v session)
 
-pub part_safe : ((number begin : ℕ) → IsRunOf (world.begun number begin) []) → ((w u : Work) (steps : List Step) → Extends w u → IsAnswered w steps → IsAnswered u steps) → ToldHaveSafeSnapshots
+pub part_safe : NoneRuns → ((w u : Work) (steps : List Step) → Extends w u → IsAnswered w steps → IsAnswered u steps) → ToldHaveSafeSnapshots
     → RunsInPartHaveSafeSnapshots
 part_safe runs stay safe v f whole part answers closed opening run of = record {
   begins = λ session number. begin_in (f.session session) number;

@@ -12,12 +12,13 @@ use Rattle.erm_script.specs.declared.script.ScriptLine.{ScriptLine}
 use Rattle.erm_world.specs.Going.{Extends}
 use Rattle.erm_world.specs.World.{Finished, IsSession, Opening, Session, Stand, View, Work, phase_at, phase_of}
 use Rattle.erm_world.specs.World as world
-use Rattle.erm_maps.specs.Runs.{IsAnswered, IsRunOf}
+use Rattle.erm_maps.specs.Runs.{IsAnswered}
 use Rattle.erm_good_report.specs.GoodReport.{places_of}
 use Rattle.erm_good_report.specs.Phases.{Closed, Closes, FitsPhase, phase_after}
 use Rattle.erm_good_report.specs.Refusals.{draws_of, total_of}
 use Rattle.erm_good_report.specs.Transactions.{Progress, Said, heard, nothing, progress_of}
 use Rattle.erm_lines.specs.Executions.{Move, close, flush, line, log, said_in}
+use Rattle.erm_lines.proofs.Keeping.{NoneRuns}
 use Rattle.erm_told.proofs.Executed.{Knows, hears, still_session, turns}
 use Rattle.erm_beside.specs.Calls.{Passes}
 use Rattle.erm_lines_at_once.specs.Ends.{one_below, sealed_below, sealed_in, sealed_upto, stamp_now}
@@ -41,7 +42,7 @@ place_counts false seat asked a p phase gives = omega arith
 passes_itself : (seat : ℕ) (v : View) → Passes seat v v
 passes_itself seat v = record { own = refl; opening = refl; tail = omega arith; flushed = omega arith; given_up = refl; saves = refl }
 
-module _ (runs : (number begin : ℕ) → IsRunOf (world.begun number begin) []) (stay : (w u : Work) (steps : List Step) → Extends w u → IsAnswered w steps → IsAnswered u steps) where
+module _ (runs : NoneRuns) (stay : (w u : Work) (steps : List Step) → Extends w u → IsAnswered w steps → IsAnswered u steps) where
   -- the phase that the session's view has when it is asked
   phase_there : (seat at : ℕ) (p : Progress) (phase : Phase) (v u : View) → Knows seat p phase v → Passes seat v u → at ≡ seat → phase_at u at ≡ phase
   phase_there seat at p phase v u knows passes is =

@@ -18,13 +18,14 @@ use Rattle.erm_world.specs.Going.{Extends}
 use Rattle.erm_world.specs.World.{IsSession, View, Work, phase_at}
 use Rattle.erm_world.specs.World as world
 use Rattle.erm_world.proofs.Commits.{tells_commits}
-use Rattle.erm_maps.specs.Runs.{IsAnswered, IsRunOf, told_commit, told_commits}
+use Rattle.erm_maps.specs.Runs.{IsAnswered, told_commit, told_commits}
 use Rattle.erm_maps.proofs.Commits.{run_ends}
 use Rattle.erm_good_report.specs.GoodReport.{places_of, serial_of}
 use Rattle.erm_good_report.specs.Opening.{Opening}
 use Rattle.erm_good_report.specs.Phases.{Closed}
 use Rattle.erm_good_report.specs.Transactions.{HasSnapshot, Progress, Said, Snapshot, ended_of, heard, history_of, nothing, progress_of, said_of, transactions_of}
 use Rattle.erm_lines.specs.Executions.{IsOpeningOf}
+use Rattle.erm_lines.proofs.Keeping.{NoneRuns}
 use Rattle.erm_told.proofs.Closing.{close_said}
 use Rattle.erm_told.proofs.Differing.{stamps_differ}
 use Rattle.erm_told.proofs.Executed.{hears, still_session}
@@ -62,7 +63,7 @@ said_few [] answers = omega arith
 said_few (l ∷ script) [] = omega arith
 said_few (l ∷ script) (a ∷ answers) = omega (arith, said_few script answers)
 
-module _ (runs : (number begin : ℕ) → IsRunOf (world.begun number begin) []) (stay : (w u : Work) (steps : List Step) → Extends w u → IsAnswered w steps → IsAnswered u steps)
+module _ (runs : NoneRuns) (stay : (w u : Work) (steps : List Step) → Extends w u → IsAnswered w steps → IsAnswered u steps)
     (v f : View) (whole script : List ScriptLine) (answers : List Answer) (closed : List Closed) (run : IsRunInPart v whole script answers closed f) where
   abbrev said : List Said
   said = places_of script answers closed
@@ -134,6 +135,6 @@ module _ (runs : (number begin : ℕ) → IsRunOf (world.begun number begin) [])
       (subst (λ (o : world.Opening). IsSerialOrder rank_of (history_of (transactions_of o.sessions said) ++ ended_of o.sessions said) order) same sorted) in
       subst (λ (m : Database). RunsInOrder order opening.map m) (run_ends order opening.map (state_after commits.0 opening.map) runs_so.run) runs_so
 
-pub part_serial : ((number begin : ℕ) → IsRunOf (world.begun number begin) []) → ((w u : Work) (steps : List Step) → Extends w u → IsAnswered w steps → IsAnswered u steps) → OrdersExist
+pub part_serial : NoneRuns → ((w u : Work) (steps : List Step) → Extends w u → IsAnswered w steps → IsAnswered u steps) → OrdersExist
     → ToldAreSerialWithSnapshots → RunsInPartAreSerialWithSnapshots
 part_serial runs stay exist law v f whole part answers closed opening run of few order sorted = serial runs stay v f whole part answers closed run exist law opening of few order sorted

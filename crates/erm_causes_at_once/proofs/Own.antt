@@ -12,7 +12,7 @@ use Rattle.erm_world.specs.declared.stops.BeginStop.TheVariants as begin
 use Rattle.erm_world.specs.Going.{Extends}
 use Rattle.erm_world.specs.World.{Finished, Session, View, Work, phase_at}
 use Rattle.erm_world.specs.World as world
-use Rattle.erm_maps.specs.Runs.{IsAnswered, IsRunOf}
+use Rattle.erm_maps.specs.Runs.{IsAnswered}
 use Rattle.erm_good_report.specs.Opening.{Opening}
 use Rattle.erm_good_report.specs.Phases.{FitsRefusal, IsAnswerTo, need_of, refusal_in, refusal_of}
 use Rattle.erm_good_report.proofs.Phases.{phase_refuses}
@@ -21,6 +21,7 @@ use Rattle.erm_good_report.specs.Transactions.{Progress, Transaction, progress_o
 use Rattle.erm_good_at_once.specs.CutReports.{moment_in}
 use Rattle.erm_lines.specs.Answers.{DidAskDurable, IsLastCommit}
 use Rattle.erm_lines.specs.Told.{TellsOver}
+use Rattle.erm_lines.proofs.Keeping.{NoneRuns}
 use Rattle.erm_beside.specs.Calls.{After, MayNotBeginBeside, Passes}
 use Rattle.erm_told.proofs.Sessions.{same_length}
 use Rattle.erm_causes.proofs.Logged.{last_none, last_some}
@@ -152,7 +153,7 @@ module _ (f : View) (whole script : List ScriptLine) (answers : List Answer) (fe
       let did : refusal_in a ≡ None → Did l.command a = λ none. allowed f l a there.before there.after none there.did in
       (log_cause l.command a did, unfilled_cause l.command a did)
 
-module _ (runs : (number begin : ℕ) → IsRunOf (world.begun number begin) []) (stay : (w u : Work) (steps : List Step) → Extends w u → IsAnswered w steps → IsAnswered u steps) where
+module _ (runs : NoneRuns) (stay : (w u : Work) (steps : List Step) → Extends w u → IsAnswered w steps → IsAnswered u steps) where
   pub part_log : RunsInPartTellLog
   part_log v f whole part answers closed opening run of all i l a at answered =
       let most = tail_few runs stay v f whole part answers closed run in

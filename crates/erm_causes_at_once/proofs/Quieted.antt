@@ -12,13 +12,13 @@ use Rattle.erm_world.specs.Calls.{DidAbort}
 use Rattle.erm_world.specs.Safe.{HasSnapshot}
 use Rattle.erm_world.specs.World.{Fate, Finished, Session, Stand, View, Work, made_in, phase_at, phase_of, work_at, work_of}
 use Rattle.erm_world.specs.World as world
-use Rattle.erm_maps.specs.Runs.{IsRunOf}
 use Rattle.erm_good_report.specs.Phases.{Closes, FitsRefusal, HasNoSnapshot, NeedsAny, NeedsReader, NeedsWriter, need_of, refusal_of}
 use Rattle.erm_good_report.specs.Transactions.{Aborts, Commits, Ending, Excludes, Progress, Transaction, begun, ended, heard, nothing, table_of}
 use Rattle.erm_lines.specs.Told.{TellsNow}
 use Rattle.erm_lines.specs.Whole.{is_snapshot}
 use Rattle.erm_lines.proofs.Moved.{active_where}
 use Rattle.erm_lines.proofs.Watched.{idle_where, snapshot_there, start_where}
+use Rattle.erm_lines.proofs.Keeping.{NoneRuns}
 use Rattle.erm_beside.specs.Calls.{Passes}
 use Rattle.erm_lines_at_once.specs.Answers.{DidAskSnapshotBeside, DidAskedBeside, DidCloseBeside, DidCommandBeside, DidCommitBeside, DidDecideBeside, DidEndBeside, DidLineBeside}
 use Rattle.erm_lines_at_once.specs.Operations.{DidOperationBeside}
@@ -67,7 +67,7 @@ quieted_made asked a s t (watched rests (ends number begin is) hears) x =
     omega (arith, ap (λ (r : Session). made_in r x) is, made_over s.over (world.begun number begin) world.aborts x, none_made s.stand x rests)
 
 -- and what was touched stays so
-pub quieted_free : ((number begin : ℕ) → IsRunOf (world.begun number begin) []) → (table : ℕ → ℕ) (f : View) (seat : ℕ) (asked : Option Command) (a : Answer) (p : Progress) (s t : Session)
+pub quieted_free : NoneRuns → (table : ℕ → ℕ) (f : View) (seat : ℕ) (asked : Option Command) (a : Answer) (p : Progress) (s t : Session)
     → TellsNow seat p.current s.stand → Quieted asked a s t → IsFree table f p s → IsFree table f (heard seat asked a p) t
 quieted_free run table f seat asked a p s t tells (still is hears) free =
     subst (λ (r : Session). IsFree table f (heard seat asked a p) r) (sym is) (same_free table f p (heard seat asked a p) s (hears seat p) free)

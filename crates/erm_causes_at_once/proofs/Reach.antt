@@ -14,11 +14,12 @@ use Rattle.erm_world.specs.Going.{Extends}
 use Rattle.erm_world.specs.World.{Finished, IsSession, Session, Stand, View, Work, phase_at, phase_of, work_at}
 use Rattle.erm_world.specs.World as world
 use Rattle.erm_world.proofs.Lists.{∈-last}
-use Rattle.erm_maps.specs.Runs.{IsAnswered, IsRunOf}
+use Rattle.erm_maps.specs.Runs.{IsAnswered}
 use Rattle.erm_good_report.specs.Phases.{Closed, IsAnswerTo, asks_commit, refusal_in}
 use Rattle.erm_good_report.specs.Refusals.{draws_of, total_of}
 use Rattle.erm_good_report.specs.Stamps.{begin_told, stamp_drawn}
 use Rattle.erm_lines.specs.Told.{Continues}
+use Rattle.erm_lines.proofs.Keeping.{NoneRuns}
 use Rattle.erm_told.proofs.Drawing.{the_number}
 use Rattle.erm_told.proofs.Endings.{if_told}
 use Rattle.erm_lines_at_once.specs.Answers.{DidCommandBeside, DidDecideBeside, DidInBeside, DidOfSnapshotBeside}
@@ -108,7 +109,7 @@ continues_drawn s t stamp goes (inr (w, sealed)) = elim (goes.sealed w stamp sea
   | inr (g, rest, front, over, work, stamped) ↦ inl (g, subst (λ (fs : List Finished). g ∈ fs) (sym over) (∈-second front (g ∷ rest) g (∈-head g rest)), stamped)
 ]
 
-module _ (runs : (number begin : ℕ) → IsRunOf (world.begun number begin) []) (stay : (w u : Work) (steps : List Step) → Extends w u → IsAnswered w steps → IsAnswered u steps) where
+module _ (runs : NoneRuns) (stay : (w u : Work) (steps : List Step) → Extends w u → IsAnswered w steps → IsAnswered u steps) where
   module _ (v f : View) (whole script : List ScriptLine) (answers : List Answer) (closed : List Closed) (run : IsRunInPart v whole script answers closed f)
       (i : ℕ) (l : ScriptLine) (a : Answer) (at : slice_get script i ≡ Some l) (there : LineThere f script answers i l a) where
     begins : (begin : ℕ) → begin_told a ≡ Some begin → begin ≤ v.opening.tail + GREATEST_BLOCK * total_of draws_of whole

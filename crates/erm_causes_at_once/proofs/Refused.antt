@@ -18,7 +18,7 @@ use Rattle.erm_world.specs.Going.{Extends}
 use Rattle.erm_world.specs.World.{Finished, IsCurrent, IsSession, Stand, View, Work, history_of, phase_at, phase_of, work_at}
 use Rattle.erm_world.specs.World as world
 use Rattle.erm_world.specs.Works.{is_claimed}
-use Rattle.erm_maps.specs.Runs.{IsAnswered, IsRunOf}
+use Rattle.erm_maps.specs.Runs.{IsAnswered}
 use Rattle.erm_good_report.specs.Causes.{CommitsBeside, HasWindow, OverwritesBeside, WritesTable}
 use Rattle.erm_good_report.specs.GoodReport.{places_of}
 use Rattle.erm_good_report.specs.Opening.{AtOnce, InTurn, Mode, Opening}
@@ -32,6 +32,7 @@ use Rattle.erm_good_at_once.specs.CutReports.{moment_in}
 use Rattle.erm_lines.specs.Executions.{line_moves}
 use Rattle.erm_lines.specs.Operations.{AsksOf, FrontOf}
 use Rattle.erm_lines.specs.Told.{TellsEnded, TellsNow, TellsOne, TellsOver, TellsWork}
+use Rattle.erm_lines.proofs.Keeping.{NoneRuns}
 use Rattle.erm_beside.specs.Calls.{After, RefusedBeside}
 use Rattle.erm_beside.specs.Ends.{MetBeside, WasNewer, WasOwned}
 use Rattle.erm_lines_at_once.specs.Answers.{DidAskedBeside, DidCommandBeside, DidLineBeside, DidOfSnapshotBeside}
@@ -290,7 +291,7 @@ once_cut f seat c (answer.CellsFull drawn) v t stopping did = did
 once_cut f seat c (answer.OidsFull drawn) v t stopping did = did
 once_cut f seat c a v t stopping did = absurd stopping
 
-module _ (tree : TreeLaws) (laws : HistoryLaws) (begun : (number begin : ℕ) → IsRunOf (world.begun number begin) [])
+module _ (tree : TreeLaws) (laws : HistoryLaws) (begun : NoneRuns)
     (stay : (w u : Work) (steps : List Step) → Extends w u → IsAnswered w steps → IsAnswered u steps)
     (v f : View) (whole script : List ScriptLine) (answers : List Answer) (closed : List Closed) (run : IsRunInPart v whole script answers closed f) where
   abbrev colour : ℕ → ℕ

@@ -24,13 +24,14 @@ use Rattle.erm_world.specs.Laws.{IsSerializable}
 use Rattle.erm_world.specs.Safe.{IsSafeIn}
 use Rattle.erm_world.specs.World.{Has, IsSession, Session, Stand, View, Work, history_of, phase_at, phase_of, work_at, work_of}
 use Rattle.erm_world.specs.World as world
-use Rattle.erm_maps.specs.Runs.{IsAnswered, IsRunOf}
+use Rattle.erm_maps.specs.Runs.{IsAnswered}
 use Rattle.erm_good_report.specs.Phases.{Closes, HasNoSnapshot, IsAnswerTo, refusal_of}
 use Rattle.erm_good_report.specs.Transactions.{HasSnapshot, Progress, Said, Snapshot, heard, looks_of, next_number, nothing, own_snapshot, progress_of, with_begin, with_look}
 use Rattle.erm_good_report.proofs.Phases.{answers_so}
 use Rattle.erm_lines.specs.Executions.{Move, close, flush, line, log, said_in}
 use Rattle.erm_lines.specs.Told.{Tells, TellsWatched}
 use Rattle.erm_lines.proofs.Watched.{pending_where, snapshot_there}
+use Rattle.erm_lines.proofs.Keeping.{NoneRuns}
 use Rattle.erm_lines_at_once.specs.Answers.{DidAskedBeside, DidEndBeside, DidInBeside, DidLineBeside, DidOfSnapshotBeside}
 use Rattle.erm_lines_at_once.specs.Executions.{DidOwn, IsOwnRun}
 use Rattle.erm_lines_at_once.specs.Looks.{DidLookBeside}
@@ -243,7 +244,7 @@ module _ (f : View) where
   ]
 
   -- ITS PART, move by move
-  module _ (runs : (number begin : ℕ) → IsRunOf (world.begun number begin) []) (stay : (w u : Work) (steps : List Step) → Extends w u → IsAnswered w steps → IsAnswered u steps) (seat : ℕ) where
+  module _ (runs : NoneRuns) (stay : (w u : Work) (steps : List Step) → Extends w u → IsAnswered w steps → IsAnswered u steps) (seat : ℕ) where
     passed : (p : Progress) (v u : View) → u.session seat ≡ v.session seat → Tells seat p (v.session seat) → Tells seat p (u.session seat)
     passed p v u own tells = subst (λ (s : Session). Tells seat p s) (sym own) tells
 
@@ -284,7 +285,7 @@ module _ (f : View) where
 told_as : (o : Option ℕ) (begin other : ℕ) → o ≡ Some begin → IfSome o (λ stamp. stamp ≡ other) → begin ≡ other
 told_as o begin other is told = subst (λ (x : Option ℕ). IfSome x (λ stamp. stamp ≡ other)) is told
 
-module _ (runs : (number begin : ℕ) → IsRunOf (world.begun number begin) []) (stay : (w u : Work) (steps : List Step) → Extends w u → IsAnswered w steps → IsAnswered u steps)
+module _ (runs : NoneRuns) (stay : (w u : Work) (steps : List Step) → Extends w u → IsAnswered w steps → IsAnswered u steps)
     (f u last : View) (seat : ℕ) (lawful : IsSerializable sound_law f) (session : IsSession f seat) (more : List Move) (run : IsOwnRun f seat u more last) (ends : last.session seat ≡ f.session seat)
     (p : Progress) (tells : Tells seat p (u.session seat)) where
   has_above : (w : Work) (begin : ℕ) → Has f seat w → begin ≡ w.begin → 0 < begin

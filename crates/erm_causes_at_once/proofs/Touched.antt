@@ -12,12 +12,13 @@ use Rattle.erm_world.specs.Going.{Extends}
 use Rattle.erm_world.specs.Laws.{IsSerializable}
 use Rattle.erm_world.specs.World.{Fate, Finished, GivenUp, IsSession, Session, Stand, View, Work, history_of, stamp_of}
 use Rattle.erm_world.specs.World as world
-use Rattle.erm_maps.specs.Runs.{IsAnswered, IsRunOf}
+use Rattle.erm_maps.specs.Runs.{IsAnswered}
 use Rattle.erm_good_report.specs.Causes.{HasCauseOf}
 use Rattle.erm_good_report.specs.GoodReport.{places_of}
 use Rattle.erm_good_report.specs.Phases.{Closed}
 use Rattle.erm_good_report.specs.Transactions.{Aborts, Commits, Ending, Excludes, Unfinished, Said, Transaction, nothing, progress_of, transactions_of}
 use Rattle.erm_lines.specs.Told.{Continues, EndsAs, Tells}
+use Rattle.erm_lines.proofs.Keeping.{NoneRuns}
 use Rattle.erm_lines_at_once.specs.Executions.{all_moves}
 use Rattle.erm_lines_at_once.specs.Parts.{IsRunInPart}
 use Rattle.erm_told.proofs.Executed.{still_session}
@@ -51,7 +52,7 @@ over_keeps table f ts gs g stamp free within is keep =
     (λ (aborts : g.fate ≡ world.aborts). stampless g.fate stamp (KeepsTables table g.work) aborts is)
     (together_over (FreeOne table f) ts gs g free within)
 
-module _ (tree : TreeLaws) (laws : HistoryLaws) (begun : (number begin : ℕ) → IsRunOf (world.begun number begin) [])
+module _ (tree : TreeLaws) (laws : HistoryLaws) (begun : NoneRuns)
     (stay : (w u : Work) (steps : List Step) → Extends w u → IsAnswered w steps → IsAnswered u steps)
     (v f : View) (whole script : List ScriptLine) (answers : List Answer) (closed : List Closed) (run : IsRunInPart v whole script answers closed f) where
   abbrev said : List Said

@@ -16,11 +16,12 @@ use Rattle.erm_world.specs.Going.{Extends}
 use Rattle.erm_world.specs.Laws.{IsSerializable}
 use Rattle.erm_world.specs.World.{GivenUp, IsSession, Session, Stand, View, Work, made_in, phase_at, phase_of, work_at, work_of}
 use Rattle.erm_world.specs.World as world
-use Rattle.erm_maps.specs.Runs.{IsAnswered, IsRunOf}
+use Rattle.erm_maps.specs.Runs.{IsAnswered}
 use Rattle.erm_good_report.specs.Causes.{WritesTable}
 use Rattle.erm_good_report.specs.Transactions.{Progress, Transaction, heard, said_of, table_of, with_line}
 use Rattle.erm_lines.specs.Executions.{Move, close, flush, line, line_moves, log, move_of, said_in}
 use Rattle.erm_lines.specs.Told.{Continues, Tells, TellsNow, TellsWork}
+use Rattle.erm_lines.proofs.Keeping.{NoneRuns}
 use Rattle.erm_beside.specs.Calls.{Passes}
 use Rattle.erm_lines_at_once.specs.Answers.{DidLineBeside}
 use Rattle.erm_lines_at_once.specs.Executions.{DidOwn, IsOwnRun, is_own}
@@ -144,7 +145,7 @@ told_work seat (Some u) (world.active w) t tells active is = let same : u ≡ t 
 told_work seat (Some u) (world.sealed w stamp) t tells active is = cc
 told_work seat (Some u) (world.snapshot s) t tells active is = absurd tells
 
-module _ (tree : TreeLaws) (laws : HistoryLaws) (begun : (number begin : ℕ) → IsRunOf (world.begun number begin) [])
+module _ (tree : TreeLaws) (laws : HistoryLaws) (begun : NoneRuns)
     (stay : (w u : Work) (steps : List Step) → Extends w u → IsAnswered w steps → IsAnswered u steps) (table : ℕ → ℕ) (f : View) (seat : ℕ) (session : IsSession f seat)
     (holds : IsSerializable sound_law f) (opened : AreOfTables table f.opening.rows) where
   lined_free : (asked : Option Command) (a : Answer) (v t : View) (p : Progress) → TellsNow seat p.current (v.session seat).stand → Lined f seat asked a v t → IsAskedInRange asked

@@ -10,9 +10,10 @@ use Rattle.erm_script.specs.declared.script.Command.{Command}
 use Rattle.erm_world.specs.Going.{Extends}
 use Rattle.erm_world.specs.World.{Finished, GivenUp, IsOver, IsWorking, Session, Stand, View, Work, phase_at, work_of}
 use Rattle.erm_world.specs.World as world
-use Rattle.erm_maps.specs.Runs.{IsAnswered, IsRunOf}
+use Rattle.erm_maps.specs.Runs.{IsAnswered}
 use Rattle.erm_lines.specs.Executions.{Move, close, flush, line, log}
 use Rattle.erm_lines.specs.Told.{Continues, IsLater, IsStillSealed}
+use Rattle.erm_lines.proofs.Keeping.{NoneRuns}
 use Rattle.erm_lines_at_once.specs.Executions.{DidMoveBeside, DidOwn, IsOwnRun, is_own}
 use Rattle.erm_told.proofs.Going.{continues_itself}
 use Rattle.erm_told_limits.proofs.Ran.{active_with}
@@ -97,7 +98,7 @@ module _ (f : View) (seat : ℕ) where
   own_given false m v t did goes given = subst (λ (x : View). GivenHas seat x) (sym did) given
 
 -- THE OWN RUN
-pub run_given : ((number begin : ℕ) → IsRunOf (world.begun number begin) []) → ((w u : Work) (steps : List Step) → Extends w u → IsAnswered w steps → IsAnswered u steps) → (f : View) (seat : ℕ)
+pub run_given : NoneRuns → ((w u : Work) (steps : List Step) → Extends w u → IsAnswered w steps → IsAnswered u steps) → (f : View) (seat : ℕ)
     (moves : List Move) (v t : View) → IsOwnRun f seat v moves t → GivenHas seat v → GivenHas seat t
 run_given runs stay f seat [] v t passes given = same_given f seat v t passes.given_up (continues_itself (v.session seat) (t.session seat) passes.own) given
 run_given runs stay f seat (m ∷ moves) v t (u, w, passes, did, rest) given =

@@ -9,12 +9,13 @@ use Rattle.erm_report.specs.declared.answer.Answer.TheVariants as answer
 use Rattle.erm_world.specs.Going.{Extends}
 use Rattle.erm_world.specs.World.{IsSession, View, Work}
 use Rattle.erm_world.specs.World as world
-use Rattle.erm_maps.specs.Runs.{IsAnswered, IsRunOf}
+use Rattle.erm_maps.specs.Runs.{IsAnswered}
 use Rattle.erm_good_report.specs.GoodReport.{places_of}
 use Rattle.erm_good_report.specs.Phases.{Closed, Closes, phase_of}
 use Rattle.erm_good_report.specs.Transactions.{Said, ended_of, nothing, transactions_of}
 use Rattle.erm_good_at_once.specs.CutReports.{OwesInPart, answered_of}
 use Rattle.erm_lines.specs.Executions.{line_moves}
+use Rattle.erm_lines.proofs.Keeping.{NoneRuns}
 use Rattle.erm_told.proofs.Pairs.{pairs_of}
 use Rattle.erm_told.proofs.Runs.{said_lines}
 use Rattle.erm_told_at_once.proofs.Runs.{close_of, first_known, is_closed, knows_own, own_split}
@@ -32,7 +33,7 @@ closes_sealed Pending a fits sealed = absurd fits
 closes_sealed Safe answer.Aborted fits sealed = absurd sealed
 closes_sealed Safe a fits sealed = absurd fits
 
-module _ (runs : (number begin : ℕ) → IsRunOf (world.begun number begin) []) (stay : (w u : Work) (steps : List Step) → Extends w u → IsAnswered w steps → IsAnswered u steps) where
+module _ (runs : NoneRuns) (stay : (w u : Work) (steps : List Step) → Extends w u → IsAnswered w steps → IsAnswered u steps) where
   pub close_unseen : CutRunsCloseUnseen
   close_unseen v f script counts answers closed run c m =
       let part = answered_of counts script in

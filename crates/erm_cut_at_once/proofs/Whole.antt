@@ -18,7 +18,7 @@ use Rattle.erm_script.specs.declared.script.ScriptLine.{ScriptLine}
 use Rattle.erm_world.specs.Going.{Extends}
 use Rattle.erm_world.specs.World.{GivenUp, IsSession, Session, Stand, View, Work, phase_of, work_of}
 use Rattle.erm_world.specs.World as world
-use Rattle.erm_maps.specs.Runs.{IsAnswered, IsRunOf}
+use Rattle.erm_maps.specs.Runs.{IsAnswered}
 use Rattle.erm_good_report.specs.GoodReport.{places_of}
 use Rattle.erm_good_report.specs.Opening.{Opening}
 use Rattle.erm_good_report.specs.Phases.{Closed}
@@ -27,6 +27,7 @@ use Rattle.erm_good_report.specs.Transactions.{Aborts, Progress, Said, Snapshot,
 use Rattle.erm_good_at_once.specs.CutReports.{OwesInPart, answered_of}
 use Rattle.erm_lines.specs.Executions.{IsOpeningOf, Move, said_in}
 use Rattle.erm_lines.specs.Told.{TellsNow}
+use Rattle.erm_lines.proofs.Keeping.{NoneRuns}
 use Rattle.erm_lines_at_once.specs.CutRuns.{IsCutRunAtOnce, next_of}
 use Rattle.erm_lines_at_once.specs.Executions.{IsOwnPart, IsOwnRun, all_moves}
 use Rattle.erm_lines_at_once.specs.Parts.{IsRunInPart}
@@ -95,7 +96,7 @@ same_snapshots : (gone : Bool) (p : Progress) → (gone ≡ true → p.snapshot 
 same_snapshots false p none = refl
 same_snapshots true p none = ap (λ (s : Option Snapshot). p.snapshots ++ option_to_list s) (none refl) ∙ append-nil p.snapshots
 
-module _ (laws : Laws) (runs : (number begin : ℕ) → IsRunOf (world.begun number begin) []) (stay : (w u : Work) (steps : List Step) → Extends w u → IsAnswered w steps → IsAnswered u steps)
+module _ (laws : Laws) (runs : NoneRuns) (stay : (w u : Work) (steps : List Step) → Extends w u → IsAnswered w steps → IsAnswered u steps)
     (v f : View) (script : List ScriptLine) (counts : ℕ → ℕ) (answers : List Answer) (closed : List Closed) (run : IsCutRunAtOnce v script counts answers closed f) where
   abbrev part : List ScriptLine
   part = answered_of counts script
@@ -248,9 +249,9 @@ module _ (laws : Laws) (runs : (number begin : ℕ) → IsRunOf (world.begun num
   pub fills : RunsInPartFillCells → AreCellsFull v script answers
   fills fill = let each = run.each in fill v g script part answers (closed ++ others) in_part (omega (arith, each))
 
-pub cut_owe : Laws → ((number begin : ℕ) → IsRunOf (world.begun number begin) []) → ((w u : Work) (steps : List Step) → Extends w u → IsAnswered w steps → IsAnswered u steps) → RunsInPartOwe
+pub cut_owe : Laws → NoneRuns → ((w u : Work) (steps : List Step) → Extends w u → IsAnswered w steps → IsAnswered u steps) → RunsInPartOwe
     → RunsInPartTellLog → CutRunsOwe
 cut_owe laws runs stay owe logs v f script counts answers closed opening run of few = owes laws runs stay v f script counts answers closed run owe logs opening of few
 
-pub cut_fills : Laws → ((number begin : ℕ) → IsRunOf (world.begun number begin) []) → ((w u : Work) (steps : List Step) → Extends w u → IsAnswered w steps → IsAnswered u steps) → RunsInPartFillCells → CutRunsFillCells
+pub cut_fills : Laws → NoneRuns → ((w u : Work) (steps : List Step) → Extends w u → IsAnswered w steps → IsAnswered u steps) → RunsInPartFillCells → CutRunsFillCells
 cut_fills laws runs stay fill v f script counts answers closed run = fills laws runs stay v f script counts answers closed run fill

@@ -21,6 +21,7 @@ use Rattle.erm_good_report.specs.Refusals.{claims_of, makes_of, reads_of}
 use Rattle.erm_good_report.specs.Transactions.{Exchange, Progress, Said, Transaction, heard, nothing, steps_of, with_line}
 use Rattle.erm_lines.specs.Executions.{Move, close, flush, line, log, said_in}
 use Rattle.erm_lines.specs.Told.{Continues, TellsNow}
+use Rattle.erm_lines.proofs.Keeping.{NoneRuns}
 use Rattle.erm_beside.specs.Calls.{Passes}
 use Rattle.erm_lines_at_once.specs.Executions.{IsOwnRun}
 use Rattle.erm_told.proofs.Executed.{Knows, hears, turns}
@@ -240,7 +241,7 @@ pub record Counted (f : View) (s t : Session) (makes claims : ℕ) (q : Progress
   pub claims_are : claims_in t ≤ claims_in s + claims
   pub few : Few f q t
 
-module _ (laws : Laws) (begun : (number begin : ℕ) → IsRunOf (world.begun number begin) [])
+module _ (laws : Laws) (begun : NoneRuns)
     (stay : (w u : Work) (steps : List Step) → Extends w u → IsAnswered w steps → IsAnswered u steps) (f : View) (seat : ℕ) (session : IsSession f seat) (holds : IsSerializable sound_law f) where
   lined_moved : (asked : Option Command) (a : Answer) (v t : View) → Lined f seat asked a v t → IsAskedInRange asked → (phase_at v seat ≡ Active → (steps : List Step) × IsRunOf (work_at v seat) steps)
       → Continues (t.session seat) (f.session seat) → Moved (MayBe f) (count_asked makes_of asked) (count_asked claims_of asked) 1 (v.session seat) (t.session seat)

@@ -23,7 +23,7 @@ use Rattle.erm_world.specs.Going.{Extends}
 use Rattle.erm_world.specs.Works.{row_read}
 use Rattle.erm_world.specs.World.{IsSession, Session, View, Work, claims_by_all, claims_in, claims_upto, work_at, work_of}
 use Rattle.erm_world.specs.World as world
-use Rattle.erm_maps.specs.Runs.{IsAnswered, IsRunOf}
+use Rattle.erm_maps.specs.Runs.{IsAnswered}
 use Rattle.erm_good_report.specs.GoodReport.{places_of}
 use Rattle.erm_good_report.specs.Opening.{Opening}
 use Rattle.erm_good_report.specs.Phases.{Closed}
@@ -33,6 +33,7 @@ use Rattle.erm_good_report.specs.Transactions.{Said, Transaction, nothing, progr
 use Rattle.erm_good_at_once.specs.CutReports.{moment_in}
 use Rattle.erm_lines.specs.Executions.{IsOpeningOf, count_rows}
 use Rattle.erm_lines.specs.Told.{Continues}
+use Rattle.erm_lines.proofs.Keeping.{NoneRuns}
 use Rattle.erm_beside.specs.Calls.{After, RefusedBeside}
 use Rattle.erm_beside.specs.Ends.{MetBeside}
 use Rattle.erm_lines_at_once.specs.Executions.{all_moves}
@@ -130,7 +131,7 @@ asked_few rs oid ys apart none wanted all = read_few rs oid ys apart none (λ q 
   | inr there ↦ all q (read_before rs q (sym (ap (λ (b : Bool). b || list_any (λ x. q == x) (oids_read rs)) there.0) ∙ has))
 ])
 
-module _ (laws : Laws) (zeros : (rows : Rows) (x : ℕ) → IsSound rows → TABLES ≤ x → rows x ≡ replicate ROW_WORDS 0 → reached rows x ≡ 0) (begun : (number begin : ℕ) → IsRunOf (world.begun number begin) [])
+module _ (laws : Laws) (zeros : (rows : Rows) (x : ℕ) → IsSound rows → TABLES ≤ x → rows x ≡ replicate ROW_WORDS 0 → reached rows x ≡ 0) (begun : NoneRuns)
     (stay : (w u : Work) (steps : List Step) → Extends w u → IsAnswered w steps → IsAnswered u steps)
     (v f : View) (whole script : List ScriptLine) (answers : List Answer) (closed : List Closed) (run : IsRunInPart v whole script answers closed f) where
   abbrev said : List Said

@@ -19,6 +19,7 @@ use Rattle.erm_good_report.specs.Refusals.{claims_of, makes_of}
 use Rattle.erm_good_report.specs.Transactions.{Progress, Said, said_of}
 use Rattle.erm_lines.specs.Executions.{Move, line_moves, move_as, move_of, said_in}
 use Rattle.erm_lines.specs.Told.{Continues}
+use Rattle.erm_lines.proofs.Keeping.{NoneRuns}
 use Rattle.erm_beside.specs.Calls.{Passes}
 use Rattle.erm_lines_at_once.specs.Answers.{DidLineBeside}
 use Rattle.erm_lines_at_once.specs.Executions.{DidOwn, IsOwnRun, is_own}
@@ -43,7 +44,7 @@ says_line l a moves = by l.command
     by command.Checkpoint = refl
     by c = refl
 
-module _ (laws : Laws) (begun : (number begin : ℕ) → IsRunOf (world.begun number begin) [])
+module _ (laws : Laws) (begun : NoneRuns)
     (stay : (w u : Work) (steps : List Step) → Extends w u → IsAnswered w steps → IsAnswered u steps) (f : View) (seat : ℕ) (session : IsSession f seat) (holds : IsSerializable sound_law f) where
   -- what the line itself makes and claims counts once
   pub record LineCounts (script : List ScriptLine) (answers : List Answer) (moves : List Move) (p : Progress) (v t : View) (i : ℕ) (l : ScriptLine) (a : Answer) : Type 0 where

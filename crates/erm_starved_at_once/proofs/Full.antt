@@ -20,10 +20,11 @@ use Rattle.erm_world.specs.Laws.{IsSerializable}
 use Rattle.erm_world.specs.Works.{row_read}
 use Rattle.erm_world.specs.World.{IsSession, Session, View, Work, work_at, work_of}
 use Rattle.erm_world.specs.World as world
-use Rattle.erm_maps.specs.Runs.{IsAnswered, IsRunOf}
+use Rattle.erm_maps.specs.Runs.{IsAnswered}
 use Rattle.erm_good_report.specs.Phases.{Closed}
 use Rattle.erm_good_report.specs.Transactions.{Transaction, nothing, progress_of, said_of, with_line}
 use Rattle.erm_lines.specs.Told.{Continues}
+use Rattle.erm_lines.proofs.Keeping.{NoneRuns}
 use Rattle.erm_beside.specs.Calls.{After, RefusedBeside}
 use Rattle.erm_lines_at_once.specs.Executions.{IsOwnRun, all_moves}
 use Rattle.erm_told_at_once.proofs.Runs.{close_of, first_known}
@@ -67,7 +68,7 @@ asked_few rs oid ys apart none wanted all = read_few rs oid ys apart none (λ q 
 ])
 
 -- A LINE of a session's own run, from a world just opened, that goes on to the one in which all end.
-module _ (laws : Laws) (begun : (number begin : ℕ) → IsRunOf (world.begun number begin) [])
+module _ (laws : Laws) (begun : NoneRuns)
     (stay : (w u : Work) (steps : List Step) → Extends w u → IsAnswered w steps → IsAnswered u steps) (v f : View) (script : List ScriptLine) (answers : List Answer) (closed : List Closed)
     (ranges : (k : ScriptLine) → k ∈ script → IsInRange k.command) (holds : IsSerializable sound_law f) (i : ℕ) (l : ScriptLine) (a : Answer) (at : slice_get script i ≡ Some l)
     (answered : slice_get answers i ≡ Some a) (session : IsSession f l.session) (idle : v.session l.session ≡ record { over = []; stand = world.idle }) (last : View)

@@ -11,13 +11,14 @@ use Rattle.erm_script.specs.declared.script.ScriptLine.{ScriptLine}
 use Rattle.erm_world.specs.Going.{Extends}
 use Rattle.erm_world.specs.World.{Has, IsSession, Session, View, Work, phase_of, work_of}
 use Rattle.erm_world.specs.World as world
-use Rattle.erm_maps.specs.Runs.{IsAnswered, IsRunOf}
+use Rattle.erm_maps.specs.Runs.{IsAnswered}
 use Rattle.erm_good_report.specs.Phases.{Closed, Closes}
 use Rattle.erm_good_report.specs.Phases as report
 use Rattle.erm_good_report.specs.Transactions.{Aborts, Progress, Said, nothing}
 use Rattle.erm_good_at_once.specs.CutReports.{IsUnseen, answered_of}
 use Rattle.erm_lines.specs.Executions.{Move, line_moves}
 use Rattle.erm_lines.specs.Told.{Continues, Tells}
+use Rattle.erm_lines.proofs.Keeping.{NoneRuns}
 use Rattle.erm_lines_at_once.specs.CutRuns.{next_of}
 use Rattle.erm_lines_at_once.specs.Executions.{IsOwnRun, all_moves}
 use Rattle.erm_told.proofs.Executed.{still_session}
@@ -45,7 +46,7 @@ abbrev pub AnswersStay : Type 0
 AnswersStay = (w u : Work) (steps : List Step) → Extends w u → IsAnswered w steps → IsAnswered u steps
 
 abbrev pub BegunAreRuns : Type 0
-BegunAreRuns = (number begin : ℕ) → IsRunOf (world.begun number begin) []
+BegunAreRuns = NoneRuns
 
 -- GIVEN UP. A session stands in the world that is left as where all end.
 leaving_short : AnswersStay → (f : View) (seat : ℕ) (p : Progress) (here : Session) → Tells seat p here → WasGivenUp here (f.session seat) → Leaving f seat p

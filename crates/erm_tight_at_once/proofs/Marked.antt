@@ -10,6 +10,7 @@ use Rattle.erm_world.specs.World as world
 use Rattle.erm_maps.specs.Runs.{IsRunOf}
 use Rattle.erm_good_report.specs.Transactions.{Ending, Exchange, Progress, Transaction, ended, heard, with_ending, with_line}
 use Rattle.erm_lines.specs.Told.{TellsNow}
+use Rattle.erm_lines.proofs.Keeping.{NoneRuns}
 use Rattle.erm_causes.proofs.Operated.{EndsBy, GoesOnBy}
 use Rattle.erm_causes.specs.Touched.{Together}
 use Rattle.erm_causes.proofs.Fine.{number_told}
@@ -82,7 +83,7 @@ watched_marks p q s t over now none (snapshots.ends number begin is) marks =
     subst (λ (r : Session). AreMarks q r) (sym is)
     (none_marks p q (record { over = s.over ++ g ∷ []; stand = world.idle }) over now (together_untold MarksOne p.over s.over g marks.over refl) tt)
 
-pub quieted_marks : ((number begin : ℕ) → IsRunOf (world.begun number begin) []) → (seat : ℕ) (asked : Option Command) (a : Answer) (p : Progress) (s t : Session) → TellsNow seat p.current s.stand
+pub quieted_marks : NoneRuns → (seat : ℕ) (asked : Option Command) (a : Answer) (p : Progress) (s t : Session) → TellsNow seat p.current s.stand
     → Quieted asked a s t → AreMarks p s → AreMarks (heard seat asked a p) t
 quieted_marks run seat asked a p s t tells (still is hears) marks =
     subst (λ (r : Session). AreMarks (heard seat asked a p) r) (sym is) (same_marks p (heard seat asked a p) s (hears seat p) marks)

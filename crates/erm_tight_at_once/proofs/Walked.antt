@@ -9,10 +9,11 @@ use Rattle.erm_world.specs.Going.{Extends}
 use Rattle.erm_world.specs.Laws.{IsSerializable}
 use Rattle.erm_world.specs.World.{IsSession, Session, View, Work}
 use Rattle.erm_world.specs.World as world
-use Rattle.erm_maps.specs.Runs.{IsAnswered, IsRunOf}
+use Rattle.erm_maps.specs.Runs.{IsAnswered}
 use Rattle.erm_good_report.specs.Transactions.{Progress, Said, heard}
 use Rattle.erm_lines.specs.Executions.{Move, close, flush, line, log, said_in}
 use Rattle.erm_lines.specs.Told.{Continues, TellsNow}
+use Rattle.erm_lines.proofs.Keeping.{NoneRuns}
 use Rattle.erm_beside.specs.Calls.{Passes}
 use Rattle.erm_lines_at_once.specs.Executions.{IsOwnRun}
 use Rattle.erm_told.proofs.Executed.{Knows, hears, turns}
@@ -26,7 +27,7 @@ use Rattle.erm_tight.proofs.Whole.{KeyLaws}
 use Rattle.erm_tight_at_once.proofs.Called.{operation_marks}
 use Rattle.erm_tight_at_once.proofs.Marked.{AreMarks, quieted_marks, sealed_marks}
 
-module _ (keys : KeyLaws) (laws : Laws) (begun : (number begin : ℕ) → IsRunOf (world.begun number begin) [])
+module _ (keys : KeyLaws) (laws : Laws) (begun : NoneRuns)
     (stay : (w u : Work) (steps : List Step) → Extends w u → IsAnswered w steps → IsAnswered u steps) (f : View) (seat : ℕ) (session : IsSession f seat) (holds : IsSerializable sound_law f) where
   lined_marks : (asked : Option Command) (a : Answer) (v t : View) (p : Progress) → Lined f seat asked a v t → IsAskedInRange asked → Continues (t.session seat) (f.session seat)
       → TellsNow seat p.current (v.session seat).stand → AreMarks p (v.session seat) → AreMarks (heard seat asked a p) (t.session seat)

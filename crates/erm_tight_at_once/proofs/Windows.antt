@@ -14,12 +14,13 @@ use Rattle.erm_world.specs.Laws.{IsSerializable}
 use Rattle.erm_world.specs.World.{Finished, IsSession, Session, Stand, View, Work, phase_at, phase_of, work_of}
 use Rattle.erm_world.specs.World as world
 use Rattle.erm_world.specs.Works.{is_claimed}
-use Rattle.erm_maps.specs.Runs.{IsAnswered, IsRunOf}
+use Rattle.erm_maps.specs.Runs.{IsAnswered}
 use Rattle.erm_good_report.specs.GoodReport.{HaveTightWindows, places_of}
 use Rattle.erm_good_report.specs.Phases.{Closed}
 use Rattle.erm_good_report.specs.Transactions.{Said, Transaction, nothing, progress_of, transactions_of}
 use Rattle.erm_lines.specs.Executions.{said_in}
 use Rattle.erm_lines.specs.Told.{Continues}
+use Rattle.erm_lines.proofs.Keeping.{NoneRuns}
 use Rattle.erm_lines_at_once.specs.Executions.{IsRunAtOnce, all_moves}
 use Rattle.erm_lines_at_once.specs.Laws.{RunsAtOnceTell}
 use Rattle.erm_told.proofs.Executed.{hears, knows_start, still_session}
@@ -54,7 +55,7 @@ never_sealed stand w stamp idle sealed = let no : world.idle ≡ world.sealed w 
 never_active : (stand : Stand) → stand ≡ world.idle → phase_of stand ≡ Active → ⊥
 never_active stand idle active = let no = ap phase_of (sym idle) ∙ active in cc
 
-module _ (keys : KeyLaws) (laws : Laws) (histories : HistoryLaws) (begun : (number begin : ℕ) → IsRunOf (world.begun number begin) [])
+module _ (keys : KeyLaws) (laws : Laws) (histories : HistoryLaws) (begun : NoneRuns)
     (stay : (w u : Work) (steps : List Step) → Extends w u → IsAnswered w steps → IsAnswered u steps) (tell : RunsAtOnceTell)
     (v f : View) (script : List ScriptLine) (answers : List Answer) (closed : List Closed) (run : IsRunAtOnce v script answers closed f) where
   abbrev said : List Said
@@ -114,6 +115,6 @@ module _ (keys : KeyLaws) (laws : Laws) (histories : HistoryLaws) (begun : (numb
       tight_windows histories f v.opening.sessions said holds (ap (λ (o : world.Opening). o.sessions) (sym run.opening))
       (λ seat session. tell v f script answers closed run seat (session_first seat session)) marked orderly
 
-pub have_tight_windows : KeyLaws → Laws → HistoryLaws → ((number begin : ℕ) → IsRunOf (world.begun number begin) [])
+pub have_tight_windows : KeyLaws → Laws → HistoryLaws → (NoneRuns)
     → ((w u : Work) (steps : List Step) → Extends w u → IsAnswered w steps → IsAnswered u steps) → RunsAtOnceTell → RunsAtOnceHaveTightWindows
 have_tight_windows keys laws histories begun stay tell v f script answers closed run = tight keys laws histories begun stay tell v f script answers closed run

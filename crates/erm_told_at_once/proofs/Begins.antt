@@ -14,7 +14,7 @@ use Rattle.erm_world.specs.Laws.{IsNumbered}
 use Rattle.erm_world.specs.Safe.{HasSnapshot}
 use Rattle.erm_world.specs.World.{Finished, Has, IsCurrent, Stand, View, Work, begun, phase_at, work_at, work_of}
 use Rattle.erm_world.specs.World as world
-use Rattle.erm_maps.specs.Runs.{IsAnswered, IsRunOf}
+use Rattle.erm_maps.specs.Runs.{IsAnswered}
 use Rattle.erm_good_report.specs.Phases.{refusal_in, refusal_of}
 use Rattle.erm_good_report.specs.Snapshots.{BeginsSnapshot, IsOfSnapshot}
 use Rattle.erm_good_report.specs.Transactions.{Progress, Said, Snapshot, next_number, nothing, own_snapshot, progress_of}
@@ -22,6 +22,7 @@ use Rattle.erm_good_report.proofs.Phases.{answers_so}
 use Rattle.erm_good_report.proofs.Places.{said_by}
 use Rattle.erm_lines.specs.Told.{Tells, TellsWatched}
 use Rattle.erm_lines.proofs.Watched.{snapshot_there, start_where}
+use Rattle.erm_lines.proofs.Keeping.{NoneRuns}
 use Rattle.erm_told.specs.Snapshots.{begin_in}
 use Rattle.erm_told.proofs.Executed.{Knows}
 use Rattle.erm_told.proofs.Sessions.{next_is, watched_none}
@@ -124,13 +125,13 @@ asked_so f l a before after p asks of did tells =
     done
 
 -- AT A PLACE of the session's own run
-module _ (runs : (number begin : ℕ) → IsRunOf (world.begun number begin) []) (stay : (w u : Work) (steps : List Step) → Extends w u → IsAnswered w steps → IsAnswered u steps)
+module _ (runs : NoneRuns) (stay : (w u : Work) (steps : List Step) → Extends w u → IsAnswered w steps → IsAnswered u steps)
     (v f : View) (seat : ℕ) (first : Knows seat nothing Idle v) (numbered : IsNumbered (f.session seat)) (said : List Said) (l : ScriptLine) (a : Answer) (x : OwnPlace v f seat said l a) where
   module _ (asks : l.command ≡ command.Safe) (of : IsOfSnapshot a) where
     pub asked : AskedSo f x.before x.after seat (progress_of seat said) a
     asked = subst (λ (q : ℕ). AskedSo f x.before x.after q (progress_of q said) a) x.own
         (asked_so f l a x.before x.after (progress_of l.session said) asks of x.did
-        (subst (λ (q : ℕ). Tells q (progress_of q said) (x.before.session q)) (sym x.own) (place_knows v f seat said l a x runs stay first).tells))
+        (subst (λ (q : ℕ). Tells q (progress_of q said) (x.before.session q)) (sym x.own) (place_knows v f seat said l a x runs stay first).told.tells))
 
     abbrev its : Work
     its = begun asked.own.number asked.own.begin

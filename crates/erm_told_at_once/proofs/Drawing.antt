@@ -26,9 +26,10 @@ use Rattle.erm_good_report.specs.Phases.{FitsRefusal, HasNoSnapshot, NeedsReader
 use Rattle.erm_good_report.specs.Stamps.{IsWait, begin_told, place_told, stamp_drawn, stamp_printed, stamp_told}
 use Rattle.erm_good_report.proofs.Phases.{phase_refuses}
 use Rattle.erm_good_at_once.specs.Rising.{stamp_met}
-use Rattle.erm_lines.specs.Answers.{IsLastCommit}
+use Rattle.erm_lines.specs.Answers.{DidAskBack, DidAskSave, IsLastCommit}
 use Rattle.erm_lines.specs.Operations.{AsksOf, DidCalls, FrontOf, WholeOf}
 use Rattle.erm_lines.proofs.Moved.{active_where}
+use Rattle.erm_lines.proofs.Saved.{Saves, saved, went_back}
 use Rattle.erm_beside.specs.Calls.{After, DidBeginBeside, Passes, RefusedBeside}
 use Rattle.erm_beside.specs.Ends.{Aborted, MetBeside}
 use Rattle.erm_beside.specs.Safe.{DidBeginSafeBeside}
@@ -567,6 +568,41 @@ watched_drew f seat command.Durable (answer.Durable stamp) v t below (u, passes,
 watched_drew f seat command.Durable answer.NoReceipt v t below (u, passes, did) = no_receipt_drew f seat v u t passes did.0 below
 watched_drew f seat c a v t below did = absurd did
 
+-- SAVEPOINTS. With one more, or after a way back, the transaction is in progress still.
+kept_drew : (f : View) (seat : ℕ) (asked : Option Command) (a : Answer) (v u t : View) → Passes seat v u → phase_at v seat ≡ Active → Saves u seat t → LieBelow seat v
+    → DrawsBeside f seat v.tail t asked a → Drew f seat asked a v t
+kept_drew f seat asked a v u t passes active did below draws =
+    let up : v.tail ≤ t.tail = omega (arith, passes.tail, did.tail) in record {
+      draws = draws;
+      below = lie_still seat v t (λ stamp has. subst (λ (s : Session). HasDrawn s stamp) passes.own (had stamp has)) up below;
+      up = up;
+    }
+  where
+    now : phase_at t seat ≡ Active
+    now = did.active (ap (λ (s : Session). phase_of s.stand) passes.own ∙ active)
+
+    had : (stamp : ℕ) → HasDrawn (t.session seat) stamp → HasDrawn (u.session seat) stamp
+    had stamp (inl (g, m, stamped)) = inl (g, subst (λ (fs : List Finished). g ∈ fs) did.over m, stamped)
+    had stamp (inr (w, sealed)) = not_sealed (t.session seat).stand w stamp (HasDrawn (u.session seat) stamp) now sealed
+
+save_drew : (f : View) (seat : ℕ) (a : Answer) (v t : View) → phase_at v seat ≡ Active → LieBelow seat v → After seat (λ u w. DidAskSave u seat a w) v t → Drew f seat (Some command.Save) a v t
+save_drew f seat (answer.Saved held) v t active below (u, passes, did) =
+    kept_drew f seat (Some command.Save) (answer.Saved held) v u t passes active (saved u t seat (answer.Saved held) did) below
+    (silent f seat v.tail t (Some command.Save) (answer.Saved held) refl refl refl (λ none. none) refl refl (λ other number e. cc))
+save_drew f seat answer.SavesFull v t active below (u, passes, did) =
+    kept_drew f seat (Some command.Save) answer.SavesFull v u t passes active (saved u t seat answer.SavesFull did) below
+    (silent f seat v.tail t (Some command.Save) answer.SavesFull refl refl refl (λ none. none) refl refl (λ other number e. cc))
+save_drew f seat a v t active below (u, passes, did) = absurd did
+
+back_drew : (f : View) (seat n : ℕ) (a : Answer) (v t : View) → phase_at v seat ≡ Active → LieBelow seat v → After seat (λ u w. DidAskBack u seat n a w) v t → Drew f seat (Some (command.Back n)) a v t
+back_drew f seat n (answer.Back m) v t active below (u, passes, did) =
+    kept_drew f seat (Some (command.Back n)) (answer.Back m) v u t passes active (went_back u t seat n (answer.Back m) did) below
+    (silent f seat v.tail t (Some (command.Back n)) (answer.Back m) refl refl refl (λ none. none) refl refl (λ other number e. cc))
+back_drew f seat n (answer.NoSave held) v t active below (u, passes, did) =
+    kept_drew f seat (Some (command.Back n)) (answer.NoSave held) v u t passes active (went_back u t seat n (answer.NoSave held) did) below
+    (silent f seat v.tail t (Some (command.Back n)) (answer.NoSave held) refl refl refl (λ none. none) refl refl (λ other number e. cc))
+back_drew f seat n a v t active below (u, passes, did) = absurd did
+
 -- THE LINES of a session without a snapshot
 command_drew : (f : View) (seat : ℕ) (c : Command) (a : Answer) (v t : View) → refusal_of (phase_at v seat) c ≡ None → HasNoSnapshot (phase_at v seat) → LieBelow seat v → DidCommandBeside f seat c a v t → Drew f seat (Some c) a v t
 command_drew f seat command.Begin (answer.Began stamp) v t free plain below (u, passes, did) = begin_drew f seat stamp (Some command.Begin) v u t passes did below
@@ -587,6 +623,8 @@ command_drew f seat (command.Del table key) a v t free plain below did = operati
 command_drew f seat (command.Next table from) a v t free plain below did = operation_drew f seat (command.Next table from) a v t (active_where NeedsReader (phase_at v seat) tt plain free) below did
 command_drew f seat (command.Scan table low high) a v t free plain below did = operation_drew f seat (command.Scan table low high) a v t (active_where NeedsReader (phase_at v seat) tt plain free) below did
 command_drew f seat (command.Tidy table key) a v t free plain below did = operation_drew f seat (command.Tidy table key) a v t (active_where NeedsWriter (phase_at v seat) tt plain free) below did
+command_drew f seat command.Save a v t free plain below did = save_drew f seat a v t (active_where NeedsWriter (phase_at v seat) tt plain free) below did
+command_drew f seat (command.Back n) a v t free plain below did = back_drew f seat n a v t (active_where NeedsWriter (phase_at v seat) tt plain free) below did
 command_drew f seat command.Durable (answer.Durable stamp) v t free plain below (u, passes, did) = durable_drew f seat stamp v u t passes did.0 did.1.0 did.1.1 below
 command_drew f seat command.Durable answer.NoReceipt v t free plain below (u, passes, did) = no_receipt_drew f seat v u t passes did.0 below
 command_drew f seat c a v t free plain below did = absurd did

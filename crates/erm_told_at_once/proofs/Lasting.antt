@@ -15,12 +15,13 @@ use Rattle.erm_world.specs.Calls.{IsDone}
 use Rattle.erm_world.specs.Going.{Extends}
 use Rattle.erm_world.specs.World.{Finished, Has, IsCurrent, IsOver, Session, Stand, View, Work, phase_at, phase_of, work_at, work_of}
 use Rattle.erm_world.specs.World as world
-use Rattle.erm_maps.specs.Runs.{IsAnswered, IsRunOf}
+use Rattle.erm_maps.specs.Runs.{IsAnswered}
 use Rattle.erm_good_report.specs.Phases.{HasNoSnapshot, refusal_of}
 use Rattle.erm_lines.specs.Executions.{Move, close, flush, line, log}
 use Rattle.erm_lines.specs.Told.{Continues}
 use Rattle.erm_lines.specs.Whole.{is_snapshot}
 use Rattle.erm_lines.proofs.Watched.{has_phase}
+use Rattle.erm_lines.proofs.Keeping.{NoneRuns}
 use Rattle.erm_beside.specs.Calls.{Passes}
 use Rattle.erm_told.proofs.Lasting.{Lasts}
 use Rattle.erm_told.proofs.Lasting as lasting
@@ -118,7 +119,7 @@ there_or : (Q : Type 0) (w : Work) (s : Session) → Lasts w s → (IsOver s.ove
 there_or Q w s (lasting.over o) gone there = gone o
 there_or Q w s (lasting.still y stand is) gone there = there y stand is
 
-module _ (runs : (number begin : ℕ) → IsRunOf (world.begun number begin) []) (stay : (w u : Work) (steps : List Step) → Extends w u → IsAnswered w steps → IsAnswered u steps)
+module _ (runs : NoneRuns) (stay : (w u : Work) (steps : List Step) → Extends w u → IsAnswered w steps → IsAnswered u steps)
     (f : View) (seat : ℕ) (w : Work) where
   over_goes : (moves : List Move) (v t : View) → IsOwnRun f seat v moves t → IsOver (v.session seat).over w → Lasts w (t.session seat)
   over_goes moves v t run o = lasting.over (over_later (v.session seat) (t.session seat) w (own_goes runs stay f seat moves v t run).goes o)

@@ -20,6 +20,7 @@ use Rattle.erm_lines.proofs.Keeping.{NoneRuns}
 use Rattle.erm_lines.proofs.Moved.{active_where}
 use Rattle.erm_lines.proofs.Watched.{idle_where, snapshot_there, start_where}
 use Rattle.erm_beside.specs.Calls.{DidBeginBeside, Passes}
+use Rattle.erm_told.proofs.Executed.{told_same}
 use Rattle.erm_told.proofs.Going.{continues_then}
 use Rattle.erm_told.proofs.Lines.{quiet_heard, quiet_phase}
 use Rattle.erm_told.proofs.Saves.{turn_back, turn_save}
@@ -27,7 +28,7 @@ use Rattle.erm_told.proofs.Turns.{TellsAt, told_sealed, told_still, turn_aborted
 use Rattle.erm_lines_at_once.specs.Answers.{DidAskedBeside, DidCloseBeside, DidCommandBeside, DidCommitBeside, DidDecideBeside, DidEndBeside, DidLineBeside}
 use Rattle.erm_lines_at_once.proofs.Watched.{in_phase}
 use Rattle.erm_told_at_once.proofs.Operated.{turns_operation}
-use Rattle.erm_told_at_once.proofs.Turns.{Turns, onward_then, tells_same, turns_after}
+use Rattle.erm_told_at_once.proofs.Turns.{Turns, onward_then, turns_after}
 use Rattle.erm_told_at_once.proofs.Watched.{turns_closed, turns_of_snapshot, turns_snapshot}
 
 -- nothing happened but that others went on
@@ -75,7 +76,7 @@ turns_commit seat a v t active did =
       took = record {
         goes = continues_then (v.session seat) (m.session seat) (t.session seat) first.took.goes second.took.goes;
         phase = decide_leaves seat (Some command.Commit) a m t (phase_at v seat) (phase_at m seat) did.decided ∙ second.took.phase;
-        tells = λ p told. second.took.tells p (told_sealed u seat did.stamp m p now sealed (tells_same seat p v u passes.own passes.saves told));
+        tells = λ p told. second.took.tells p (told_sealed u seat did.stamp m p now sealed (told_same seat p v u passes.own passes.saves told));
       };
       onward = onward_then v m t first.onward second.onward;
     }

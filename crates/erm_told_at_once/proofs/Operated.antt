@@ -24,13 +24,14 @@ use Rattle.erm_lines.specs.Operations.{AsksOf, DidCalls, FrontOf, Ran, WholeOf}
 use Rattle.erm_lines.specs.Told.{Continues, EndsAs, TellsNow, TellsOver, TellsWatched}
 use Rattle.erm_beside.specs.Calls.{Passes}
 use Rattle.erm_beside.proofs.Txns.{Stopped, stopped_after}
+use Rattle.erm_told.proofs.Executed.{told_same}
 use Rattle.erm_told.proofs.Going.{continues_from, continues_itself, continues_then}
 use Rattle.erm_told.proofs.Operations.{none_after, the_answer, turn_ran}
 use Rattle.erm_told.proofs.Running.{GoesOn, active_in, over_still, over_then, ran_on, ran_saves}
 use Rattle.erm_told.proofs.Sessions.{aborted_told, active_told, none_watched, unchanged_told}
 use Rattle.erm_told.proofs.Steps.{added, held_on_map, held_still, named_on_map, none_asked, none_replied, one_replied, steps_with}
 use Rattle.erm_lines_at_once.specs.Operations.{Beside, DidOnce, DidOperationBeside, WasTried, WereCutBeside, told_at_once}
-use Rattle.erm_told_at_once.proofs.Turns.{Onward, Took, Turns, onward_passes, onward_then, tells_same, turns_beside}
+use Rattle.erm_told_at_once.proofs.Turns.{Onward, Took, Turns, onward_passes, onward_then, turns_beside}
 use Rattle.erm_told.proofs.Turns.{RunsBy, TellsAt, none_active, now_active, runs_lined}
 
 -- THE CALLS BEFORE. The session is active still, with a work that has gone on.
@@ -168,7 +169,7 @@ pub holds_passes : (seat : ℕ) (v t : View) → Passes seat v t → Holds seat 
 holds_passes seat v t passes = record {
   phase = ap (λ (s : Session). phase_of s.stand) passes.own;
   goes = continues_itself (v.session seat) (t.session seat) passes.own;
-  tells = λ p told. tells_same seat p v t passes.own passes.saves told;
+  tells = λ p told. told_same seat p v t passes.own passes.saves told;
   onward = onward_passes seat v t passes;
 }
 

@@ -9,11 +9,12 @@ use Rattle.erm_script.specs.declared.script.ScriptLine.{ScriptLine}
 use Rattle.erm_world.specs.Going.{Extends}
 use Rattle.erm_world.specs.World.{IsSession, Session, View, Work}
 use Rattle.erm_world.specs.World as world
-use Rattle.erm_maps.specs.Runs.{IsAnswered, IsRunOf}
+use Rattle.erm_maps.specs.Runs.{IsAnswered}
 use Rattle.erm_good_report.specs.Phases.{phase_of}
 use Rattle.erm_good_report.specs.Transactions.{Said, nothing, progress_of, said_of}
 use Rattle.erm_lines.specs.Executions.{IsOpened, Move, line, line_moves, move_of, said_in}
 use Rattle.erm_lines.specs.Told.{Continues}
+use Rattle.erm_lines.proofs.Keeping.{NoneRuns}
 use Rattle.erm_beside.specs.Onward.{passes_then}
 use Rattle.erm_told.proofs.Executed.{Knows}
 use Rattle.erm_told.proofs.Runs.{said_first, said_lines}
@@ -123,7 +124,7 @@ module _ (v f : View) (seat : ℕ) (script : List ScriptLine) (answers : List An
   }
 
   -- one that is before it
-  module _ (runs : (number begin : ℕ) → IsRunOf (world.begun number begin) []) (stay : (w u : Work) (steps : List Step) → Extends w u → IsAnswered w steps → IsAnswered u steps) where
+  module _ (runs : NoneRuns) (stay : (w u : Work) (steps : List Step) → Extends w u → IsAnswered w steps → IsAnswered u steps) where
     pub earlier_place : (i : ℕ) (l : ScriptLine) (a : Answer) → l.session ≡ seat → (there : OwnAt f seat v script answers u i l a) → (j : ℕ) (k : ScriptLine) (b : Answer) → k.session ≡ seat
         → slice_get script j ≡ Some k → slice_get answers j ≡ Some b → j < i → (x : OwnPlace v f seat (take j (said_of script answers)) k b) × OwnGoes seat x.after there.before
     earlier_place i l a own there j k b its at answered less =
@@ -154,7 +155,7 @@ module _ (v f : View) (seat : ℕ) (said : List Said) (l : ScriptLine) (a : Answ
   place_drew = subst (λ (q : ℕ). Drew f q (Some l.command) a x.before x.after) x.own
       (line_drew f l a x.before x.after (subst (λ (q : ℕ). LieBelow q x.before) (sym x.own) x.lies) x.did)
 
-  module _ (runs : (number begin : ℕ) → IsRunOf (world.begun number begin) []) (stay : (w u : Work) (steps : List Step) → Extends w u → IsAnswered w steps → IsAnswered u steps) where
+  module _ (runs : NoneRuns) (stay : (w u : Work) (steps : List Step) → Extends w u → IsAnswered w steps → IsAnswered u steps) where
     pub place_knows : Knows seat nothing Idle v → Knows seat (progress_of seat said) (phase_of seat said) x.before
     place_knows first =
         subst (λ (list : List Said). Knows seat (progress_of seat list) (phase_of seat list) x.before) x.says

@@ -15,15 +15,16 @@ use Rattle.erm_script.specs.declared.script.ScriptLine.{ScriptLine}
 use Rattle.erm_world.specs.Going.{Extends}
 use Rattle.erm_world.specs.World.{IsSession, Opening, Session, View, Work, phase_at}
 use Rattle.erm_world.specs.World as world
-use Rattle.erm_maps.specs.Runs.{IsAnswered, IsRunOf}
+use Rattle.erm_maps.specs.Runs.{IsAnswered}
 use Rattle.erm_good_report.specs.GoodReport.{places_of}
 use Rattle.erm_good_report.specs.Phases.{Closed, Closes, ClosesAgree, FitsPhase, FitsSnapshot, is_idle, phase_after, phase_of}
 use Rattle.erm_good_report.specs.Transactions.{Progress, Said, heard, nothing, progress_of, said_of}
 use Rattle.erm_lines.specs.Executions.{Move, close, flush, line, line_moves, log, move_as, move_of, said_in}
 use Rattle.erm_lines.specs.Told.{Continues, Tells}
+use Rattle.erm_lines.proofs.Keeping.{NoneRuns}
 use Rattle.erm_beside.specs.Calls.{Passes}
 use Rattle.erm_told.proofs.Closing.{close_said, found_closed}
-use Rattle.erm_told.proofs.Executed.{Knows, hears, still_session, turns}
+use Rattle.erm_told.proofs.Executed.{Knows, hears, knows_start, knows_still, still_session, turns}
 use Rattle.erm_told.proofs.Going.{continues_itself, continues_then}
 use Rattle.erm_told.proofs.Pairs.{Pairs, pairs_of}
 use Rattle.erm_told.proofs.Ranges.{in_range, in_range_from, pairs_filter, pairs_map, pairs_range, same_list}
@@ -37,17 +38,9 @@ use Rattle.erm_told_at_once.proofs.Lines.{turns_end, turns_line}
 use Rattle.erm_told_at_once.proofs.Phases.{line_looks}
 use Rattle.erm_told_at_once.proofs.Turns.{Onward, Turns, onward_itself, onward_passes, onward_then}
 
--- a session that is the same
-pub knows_still : (seat : ℕ) (p : Progress) (phase : Phase) (v t : View) → t.session seat ≡ v.session seat → Knows seat p phase v → Knows seat p phase t
-knows_still seat p phase v t is knows = record {
-  tells = subst (λ (s : Session). Tells seat p s) (sym is) knows.tells;
-  phase_is = knows.phase_is ∙ sym (ap (λ (s : Session). world.phase_of s.stand) is);
-}
-
 -- a session that has no transaction yet
 pub first_known : (seat : ℕ) (v : View) → v.session seat ≡ record { over = []; stand = world.idle } → Knows seat nothing Idle v
-first_known seat v is = knows_still seat nothing Idle (record v { session = λ q. record { over = []; stand = world.idle } }) v is
-    (record { tells = record { over = (refl, refl); now = tt; watched = tt }; phase_is = refl })
+first_known seat v is = knows_start v seat is
 
 -- a move of this session, or of another
 abbrev pub OwnOr : ℕ → ℕ → Option Command → Answer → View → View → Type 0
@@ -57,12 +50,12 @@ knows_step : (seat at : ℕ) (asked : Option Command) (a : Answer) (p : Progress
     → Knows seat (cond (at == seat) (heard seat asked a p) p) (cond (at == seat) (phase_after asked a phase) phase) t
 knows_step seat at asked a p phase v t (inl (is, turn)) knows =
     subst (λ (b : Bool). Knows seat (cond b (heard seat asked a p) p) (cond b (phase_after asked a phase) phase) t) (sym (eq-eqb at seat is)) (record {
-      tells = turn.took.tells p knows.tells;
+      told = turn.took.tells p knows.told;
       phase_is = ap (λ (x : Phase). phase_after asked a x) knows.phase_is ∙ turn.took.phase;
     })
 knows_step seat at asked a p phase v t (inr (another, is)) knows =
     subst (λ (b : Bool). Knows seat (cond b (heard seat asked a p) p) (cond b (phase_after asked a phase) phase) t) (sym (ne_eqb at seat another))
-    (knows_still seat p phase v t (ap (λ (u : View). u.session seat) is) knows)
+    (knows_still seat p phase v t (ap (λ (u : View). u.session seat) is) (ap (λ (u : View). u.saves seat) is) knows)
 
 -- the session went on, in a log that did
 pub record OwnGoes (seat : ℕ) (v t : View) : Type 0 where
@@ -206,7 +199,7 @@ pub record LineThere (f : View) (script : List ScriptLine) (answers : List Answe
   pub within : after.tail ≤ f.tail
   pub goes : Continues (after.session l.session) (f.session l.session)
 
-module _ (runs : (number begin : ℕ) → IsRunOf (world.begun number begin) []) (stay : (w u : Work) (steps : List Step) → Extends w u → IsAnswered w steps → IsAnswered u steps) where
+module _ (runs : NoneRuns) (stay : (w u : Work) (steps : List Step) → Extends w u → IsAnswered w steps → IsAnswered u steps) where
   line_or : (f : View) (seat : ℕ) (l : ScriptLine) (a : Answer) (v t : View) → DidOwn (is_own seat (line l a)) f seat (line l a) v t → OwnOr seat l.session (Some l.command) a v t
   line_or f seat l a v t did = elim (cases_eq l.session seat) as (λ _. OwnOr seat l.session (Some l.command) a v t) [
     | inl is ↦
@@ -229,21 +222,21 @@ module _ (runs : (number begin : ℕ) → IsRunOf (world.begun number begin) [])
 
   pub knows_own : (f : View) (seat : ℕ) (moves : List Move) (p : Progress) (phase : Phase) (v t : View) → IsOwnRun f seat v moves t → Knows seat p phase v
       → Knows seat (fold (hears seat) p (said_in moves)) (fold (turns seat) phase (said_in moves)) t
-  knows_own f seat [] p phase v t passes knows = knows_still seat p phase v t passes.own knows
+  knows_own f seat [] p phase v t passes knows = knows_still seat p phase v t passes.own passes.saves knows
   knows_own f seat (line l a ∷ moves) p phase v t (u, w, passes, did, rest) knows =
       let s : Said = record { session = l.session; asked = Some l.command; answer = a } in
       knows_own f seat moves (hears seat p s) (turns seat phase s) w t rest
-      (knows_step seat l.session (Some l.command) a p phase u w (line_or f seat l a u w did) (knows_still seat p phase v u passes.own knows))
+      (knows_step seat l.session (Some l.command) a p phase u w (line_or f seat l a u w did) (knows_still seat p phase v u passes.own passes.saves knows))
   knows_own f seat (log l a ∷ moves) p phase v t (u, w, passes, did, rest) knows =
       let s : Said = record { session = l.session; asked = Some l.command; answer = a } in
       knows_own f seat moves (hears seat p s) (turns seat phase s) w t rest
-      (knows_step seat l.session (Some l.command) a p phase u w (log_or f seat l a u w did) (knows_still seat p phase v u passes.own knows))
+      (knows_step seat l.session (Some l.command) a p phase u w (log_or f seat l a u w did) (knows_still seat p phase v u passes.own passes.saves knows))
   knows_own f seat (close at a ∷ moves) p phase v t (u, w, passes, did, rest) knows =
       let s : Said = record { session = at; asked = None; answer = a } in
       knows_own f seat moves (hears seat p s) (turns seat phase s) w t rest
-      (knows_step seat at None a p phase u w (close_or f seat at a u w did) (knows_still seat p phase v u passes.own knows))
+      (knows_step seat at None a p phase u w (close_or f seat at a u w did) (knows_still seat p phase v u passes.own passes.saves knows))
   knows_own f seat (flush ∷ moves) p phase v t (u, w, passes, did, rest) knows =
-      knows_own f seat moves p phase w t rest (knows_still seat p phase u w (ap (λ (x : View). x.session seat) did) (knows_still seat p phase v u passes.own knows))
+      knows_own f seat moves p phase w t rest (knows_still seat p phase u w (ap (λ (x : View). x.session seat) did) (ap (λ (x : View). x.saves seat) did) (knows_still seat p phase v u passes.own passes.saves knows))
 
   pub own_goes : (f : View) (seat : ℕ) (moves : List Move) (v t : View) → IsOwnRun f seat v moves t → OwnGoes seat v t
   own_goes f seat [] v t passes = goes_passes seat v t passes
@@ -270,7 +263,7 @@ module _ (runs : (number begin : ℕ) → IsRunOf (world.begun number begin) [])
         let part = run.own seat session in
         let known = knows_own f seat (all_moves script answers closed) nothing Idle v part.last part.run (at_first seat session) in
         subst (λ (s : Session). Tells seat (progress_of seat (places_of script answers closed)) s) part.ends
-        (subst (λ (said : List Said). Tells seat (progress_of seat said) (part.last.session seat)) (all_say script answers closed) known.tells)
+        (subst (λ (said : List Said). Tells seat (progress_of seat said) (part.last.session seat)) (all_say script answers closed) known.told.tells)
 
     -- a session's own part up to the end of the lines, and then what closes it
     pub own_lines : (seat : ℕ) (session : IsSession v seat) → (u : View) × IsOwnRun f seat v (line_moves script answers) u × IsOwnRun f seat u (map close_of closed) (run.own seat session).last

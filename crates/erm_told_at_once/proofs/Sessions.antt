@@ -10,13 +10,14 @@ use Rattle.erm_world.specs.Going.{Extends}
 use Rattle.erm_world.specs.Laws.{IsNumbered}
 use Rattle.erm_world.specs.World.{Finished, Has, IsSession, Session, Stand, View, Work}
 use Rattle.erm_world.specs.World as world
-use Rattle.erm_maps.specs.Runs.{IsAnswered, IsRunOf}
+use Rattle.erm_maps.specs.Runs.{IsAnswered}
 use Rattle.erm_good_report.specs.Phases.{Closed}
 use Rattle.erm_good_report.specs.Snapshots.{BeginsSnapshot}
 use Rattle.erm_good_report.specs.Transactions.{HasSnapshot, Progress, Said, Snapshot, nothing, progress_of, said_of}
 use Rattle.erm_good_report.proofs.Places.{said_at, said_by}
 use Rattle.erm_lines.specs.Executions.{line_moves}
 use Rattle.erm_lines.specs.Told.{Tells, TellsWatched}
+use Rattle.erm_lines.proofs.Keeping.{NoneRuns}
 use Rattle.erm_told.specs.Snapshots.{begin_in}
 use Rattle.erm_told.proofs.Executed.{Knows, still_session}
 use Rattle.erm_told.proofs.Lasting.{Lasts}
@@ -33,7 +34,7 @@ use Rattle.erm_told_at_once.proofs.Runs.{OwnAt, OwnGoes, at_first, close_of, kno
 the_said : (x y : Said) → Some x ≡ Some y → x ≡ y
 the_said x y is = cc
 
-module _ (runs : (number begin : ℕ) → IsRunOf (world.begun number begin) []) (stay : (w u : Work) (steps : List Step) → Extends w u → IsAnswered w steps → IsAnswered u steps)
+module _ (runs : NoneRuns) (stay : (w u : Work) (steps : List Step) → Extends w u → IsAnswered w steps → IsAnswered u steps)
     (v f : View) (whole script : List ScriptLine) (answers : List Answer) (closed : List Closed) (run : IsRunInPart v whole script answers closed f) (seat : ℕ) (session : IsSession v seat) where
   abbrev said : List Said
   said = said_of script answers
@@ -74,7 +75,7 @@ module _ (runs : (number begin : ℕ) → IsRunOf (world.begun number begin) [])
   -- WHAT IS TOLD of its snapshots by the lines: the begin stamp that one is told to have is its own
   tells_lines : Tells seat (progress_of seat said) (lines.0.session seat)
   tells_lines = subst (λ (list : List Said). Tells seat (progress_of seat list) (lines.0.session seat)) (said_lines script answers)
-      (knows_own runs stay f seat (line_moves script answers) nothing Idle v lines.0 lines.1 first_there).tells
+      (knows_own runs stay f seat (line_moves script answers) nothing Idle v lines.0 lines.1 first_there).told.tells
 
   at_last : (w : Work) → Lasts w (lines.0.session seat) → Has f seat w
   at_last w lasts =

@@ -15,7 +15,7 @@ use Rattle.erm_world.specs.Going.{Extends}
 use Rattle.erm_world.specs.Laws.{IsNumbered, IsSerializable}
 use Rattle.erm_world.specs.World.{Finished, Has, IsCurrent, IsSession, Opening, Session, Stand, View, Work}
 use Rattle.erm_world.specs.World as world
-use Rattle.erm_maps.specs.Runs.{IsAnswered, IsRunOf}
+use Rattle.erm_maps.specs.Runs.{IsAnswered}
 use Rattle.erm_good_report.specs.GoodReport.{places_of}
 use Rattle.erm_good_report.specs.Opening.{AtOnce, is_before, Opening as Start}
 use Rattle.erm_good_report.specs.Phases.{Closed}
@@ -26,6 +26,7 @@ use Rattle.erm_good_report.proofs.Places.{Place, place_at}
 use Rattle.erm_good_at_once.specs.Rising.{IsMetBelow, Names, StampsRise, stamp_met}
 use Rattle.erm_lines.specs.Executions.{IsOpeningOf, line_moves, move_of}
 use Rattle.erm_lines.specs.Told.{Continues, IsLater, Tells}
+use Rattle.erm_lines.proofs.Keeping.{NoneRuns}
 use Rattle.erm_beside.specs.Calls.{Passes}
 use Rattle.erm_beside.specs.Ends.{Aborted}
 use Rattle.erm_told.specs.Snapshots.{begin_in}
@@ -150,7 +151,7 @@ began_behind f seat count begin w few (over, is) ends =
     (u, has, omega (arith, few, number, ap (λ (s : Session). length s.over) is), more.begin)
 
 -- a session's own run, to the end
-module _ (runs : (number begin : ℕ) → IsRunOf (world.begun number begin) []) (stay : (w u : Work) (steps : List Step) → Extends w u → IsAnswered w steps → IsAnswered u steps)
+module _ (runs : NoneRuns) (stay : (w u : Work) (steps : List Step) → Extends w u → IsAnswered w steps → IsAnswered u steps)
     (f : View) (seat : ℕ) where
   line_over : (l : ScriptLine) (a : Answer) (v u w : View) → Passes seat v u → DidOwn (is_own seat (move_of l a)) f seat (move_of l a) u w
       → length (v.session seat).over ≤ length (w.session seat).over
@@ -214,7 +215,7 @@ module _ (tell : RunsInPartTell) (v f : View) (whole script : List ScriptLine) (
       let (u, lines, rest) = own_split f s.session (line_moves script answers) (map close_of closed) v part.last part.run in
       (all_later f s.session script answers v u (none_drawn v s.session run.opened session) lines s m refl).waits
 
-module _ (runs : (number begin : ℕ) → IsRunOf (world.begun number begin) []) (stay : (w u : Work) (steps : List Step) → Extends w u → IsAnswered w steps → IsAnswered u steps)
+module _ (runs : NoneRuns) (stay : (w u : Work) (steps : List Step) → Extends w u → IsAnswered w steps → IsAnswered u steps)
     (v f : View) (whole script : List ScriptLine) (answers : List Answer) (closed : List Closed) (run : IsRunInPart v whole script answers closed f) where
   abbrev tell : RunsInPartTell
   tell = runs_tell runs stay
@@ -393,7 +394,7 @@ module _ (runs : (number begin : ℕ) → IsRunOf (world.begun number begin) [])
     watched = met_below;
   }
 
-module _ (runs : (number begin : ℕ) → IsRunOf (world.begun number begin) []) (stay : (w u : Work) (steps : List Step) → Extends w u → IsAnswered w steps → IsAnswered u steps) where
+module _ (runs : NoneRuns) (stay : (w u : Work) (steps : List Step) → Extends w u → IsAnswered w steps → IsAnswered u steps) where
   pub part_stamps : RunsInPartHaveStamps
   part_stamps v f whole part answers closed opening run of = stamps runs stay v f whole part answers closed run opening of
 

@@ -1,14 +1,13 @@
 -- What an answer to a session tells, beside what it did with the session's own part.
-use Rattle.std.proofs.Common.{◌≡◌, ℕ, ◌≤◌, length, Option, refl, sym, ap, ◌∙◌, subst, arith, le_trans}
+use Rattle.std.proofs.Common.{◌≡◌, ℕ, ◌≤◌, Option, refl, sym, ap, ◌∙◌, subst, arith, le_trans}
 use Rattle.erm_report.specs.declared.answer.Answer.{Answer}
 use Rattle.erm_script.specs.declared.script.Command.{Command}
-use Rattle.erm_world.specs.World.{Session, View, phase_at, phase_of, work_at, work_of}
-use Rattle.erm_maps.specs.Runs.{IsRunOf, Kept, kept_at}
+use Rattle.erm_world.specs.World.{Session, View, phase_at, phase_of}
 use Rattle.erm_good_report.specs.Phases.{phase_after}
-use Rattle.erm_good_report.specs.Transactions.{Progress, heard, steps_of}
-use Rattle.erm_lines.specs.Told.{Continues, Tells}
+use Rattle.erm_good_report.specs.Transactions.{Progress, heard}
+use Rattle.erm_lines.specs.Told.{Continues}
 use Rattle.erm_beside.specs.Calls.{Passes}
-use Rattle.erm_lines.proofs.Saved.{kept_is}
+use Rattle.erm_told.proofs.Executed.{told_same}
 use Rattle.erm_told.proofs.Turns.{TellsAt, Turn}
 use Rattle.erm_lines_at_once.specs.Operations.{Beside}
 
@@ -17,18 +16,6 @@ pub record Took (seat : ℕ) (asked : Option Command) (a : Answer) (v t : View) 
   pub goes : Continues (v.session seat) (t.session seat)
   pub phase : phase_after asked a (phase_at v seat) ≡ phase_at t seat
   pub tells : (p : Progress) → TellsAt seat p v → TellsAt seat (heard seat asked a p) t
-
--- what is told of a session is told of one that is the same, with its savepoints
-pub tells_same : (seat : ℕ) (p : Progress) (v t : View) → t.session seat ≡ v.session seat → t.saves seat ≡ v.saves seat → TellsAt seat p v → TellsAt seat p t
-tells_same seat p v t session saves told = record {
-  tells = subst (λ (s : Session). Tells seat p s) (sym session) told.tells;
-  runs = λ one is active.
-      let by = told.runs one is (sym (ap (λ (s : Session). phase_of s.stand) session) ∙ active) in
-      let kept : kept_at t seat ≡ kept_at v seat = kept_is (work_at t seat) (work_at v seat) (t.saves seat) (v.saves seat) (ap (λ (s : Session). work_of s.stand) session) saves in record {
-        run = subst (λ (k : Kept). IsRunOf k (steps_of one)) (sym kept) by.run;
-        held = by.held ∙ ap length (sym saves);
-      };
-}
 
 -- the log came as far at least, in a world that was opened so
 pub record Onward (v t : View) : Type 0 where
@@ -55,7 +42,7 @@ took_as : (seat : ℕ) (asked : Option Command) (a : Answer) (v t x y : View) �
 took_as seat asked a v t x y starts starts_saves stops stops_saves took = record {
   goes = subst (λ (s : Session). Continues s (t.session seat)) starts (subst (λ (s : Session). Continues (x.session seat) s) (sym stops) took.goes);
   phase = ap (λ (s : Session). phase_after asked a (phase_of s.stand)) (sym starts) ∙ took.phase ∙ sym (ap (λ (s : Session). phase_of s.stand) stops);
-  tells = λ p told. tells_same seat (heard seat asked a p) y t stops stops_saves (took.tells p (tells_same seat p v x starts starts_saves told));
+  tells = λ p told. told_same seat (heard seat asked a p) y t stops stops_saves (took.tells p (told_same seat p v x starts starts_saves told));
 }
 
 -- a turn of the session in its own view, after others went on

@@ -15,13 +15,14 @@ use Rattle.erm_script.specs.declared.script.ScriptLine.{ScriptLine}
 use Rattle.erm_world.specs.Going.{Extends}
 use Rattle.erm_world.specs.World.{IsSession, Session, View, Work}
 use Rattle.erm_world.specs.World as world
-use Rattle.erm_maps.specs.Runs.{IsAnswered, IsRunOf}
+use Rattle.erm_maps.specs.Runs.{IsAnswered}
 use Rattle.erm_good_report.specs.GoodReport.{places_of}
 use Rattle.erm_good_report.specs.Phases.{Closed}
 use Rattle.erm_good_report.specs.Transactions.{Aborts, Ending, Progress, Said, Transaction, Unfinished, committed_as, committed_of, ended, history_of, nothing, progress_of, steps_of, transactions_of, with_ending}
 use Rattle.erm_good_at_once.specs.CutReports.{answered_of}
 use Rattle.erm_lines.specs.Executions.{IsOpened}
 use Rattle.erm_lines.specs.Told.{Tells}
+use Rattle.erm_lines.proofs.Keeping.{NoneRuns}
 use Rattle.erm_lines_at_once.specs.CutRuns.{next_of}
 use Rattle.erm_lines_at_once.specs.Ends.{IsEnd}
 use Rattle.erm_lines_at_once.specs.Executions.{IsOwnRun, all_moves}
@@ -89,7 +90,7 @@ chosen v (suc n) = elim (cases_lt n v.opening.sessions) as (λ _. Chosen v (suc 
 abbrev pub told_of : List ScriptLine → (ℕ → ℕ) → List Answer → List Closed → ℕ → Progress
 told_of script counts answers closed seat = progress_of seat (places_of (answered_of counts script) answers closed)
 
-pub known : ((number begin : ℕ) → IsRunOf (world.begun number begin) []) → ((w u : Work) (steps : List Step) → Extends w u → IsAnswered w steps → IsAnswered u steps) → (v f : View) (script : List ScriptLine)
+pub known : NoneRuns → ((w u : Work) (steps : List Step) → Extends w u → IsAnswered w steps → IsAnswered u steps) → (v f : View) (script : List ScriptLine)
     (counts : ℕ → ℕ) (answers : List Answer) (closed : List Closed) → IsOpened v → (seat : ℕ) → IsSession v seat → (last : View) → IsOwnRun f seat v (all_moves (answered_of counts script) answers closed) last
     → Tells seat (told_of script counts answers closed seat) (last.session seat)
 known runs stay v f script counts answers closed opened seat session last run =
@@ -194,7 +195,7 @@ module _ (v f : View) (script : List ScriptLine) (counts : ℕ → ℕ) (answers
         (told_there (transactions_of sessions (places_of part answers closed)) (transactions_of sessions said) alike t m);
   }
 
-pub cut_runs_leave : Laws → ((number begin : ℕ) → IsRunOf (world.begun number begin) []) → ((w u : Work) (steps : List Step) → Extends w u → IsAnswered w steps → IsAnswered u steps) → CutRunsLeaveWorlds
+pub cut_runs_leave : Laws → NoneRuns → ((w u : Work) (steps : List Step) → Extends w u → IsAnswered w steps → IsAnswered u steps) → CutRunsLeaveWorlds
 cut_runs_leave laws runs stay v f script counts answers closed run =
     left_world v f script counts answers closed run.opening run.ends (λ seat session.
     let its = run.own seat session in
