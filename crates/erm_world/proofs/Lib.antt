@@ -1,6 +1,9 @@
 pub mod Blocks
 pub mod Commits
 pub mod Lists
+pub mod Restored
+pub mod Saves
 pub mod Serial
 pub mod Txns
+pub mod WithSaves
 pub mod Works

@@ -20,6 +20,7 @@ use Rattle.erm_world.specs.Snapshots.{snapshot_not_active}
 use Rattle.erm_world.specs.Works.{claiming, is_claimed, making, reading, row_read, seen_by, setting, with_row}
 use Rattle.erm_world.specs.World.{Finished, Has, IsCurrent, IsSession, Session, Stand, View, Work, made_by_all, made_in, made_upto, phase_at, phase_of, work_at, work_of}
 use Rattle.erm_world.specs.World as world
+use Rattle.erm_world.proofs.Saves.{kept_by}
 use Rattle.erm_world.proofs.Works.{Moves, Moves-again, Moves-before, Moves-claim, Moves-first, Moves-make, Moves-own, Moves-write}
 
 -- THE SESSION. Where it is active, it is so with its work.
@@ -121,6 +122,8 @@ goes_on v t seat w u is now more = record {
   tail = now.tail;
   flushed = now.flushed;
   pinned = now.pinned;
+  saves = λ then. kept_by (v.session seat).stand u (t.saves seat) (v.saves seat) (ap phase_of is) now.saves.own;
+  saves_of_others = now.saves.others;
 }
 
 goes_out : (v t : View) (seat : ℕ) (w u : Work) → (v.session seat).stand ≡ world.active w → IsDone v seat u world.aborts t → Extends w u → Goes v seat t
@@ -131,6 +134,8 @@ goes_out v t seat w u is now more = record {
   tail = now.tail;
   flushed = now.flushed;
   pinned = now.pinned;
+  saves = λ then. let idle = ap (λ (s : Session). phase_of s.stand) now.own in absurd (cc);
+  saves_of_others = now.saves.others;
 }
 
 goes_nowhere : (v t : View) (seat : ℕ) → t ≡ v → Goes v seat t
@@ -141,6 +146,8 @@ goes_nowhere v t seat is = record {
   tail = ap (λ (u : View). u.tail) is;
   flushed = ap (λ (u : View). u.flushed) is;
   pinned = ap (λ (u : View). u.pinned) is;
+  saves = λ then. ap (λ (u : View). u.saves seat) is;
+  saves_of_others = λ q another. ap (λ (u : View). u.saves q) is;
 }
 
 -- ANSWERED. After a call that was answered the session is active, and its work is what the event makes of it.

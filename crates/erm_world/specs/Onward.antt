@@ -1,8 +1,9 @@
 -- A session that goes on, and goes on again, has gone on.
 use Rattle.std.proofs.Common.{◌≡◌, ℕ, ◌++◌, [], ◌∷◌, List, append_assoc, refl, sym, ap, ◌∙◌, subst, map}
+use Rattle.erm_model.specs.declared.outcome.Phase.TheVariants.{Active}
 use Rattle.erm_world.specs.Face.{Goes, Grows, ends, same, works}
 use Rattle.erm_world.specs.Going.{Extends, found_by}
-use Rattle.erm_world.specs.World.{Finished, IsCurrent, Session, Stand, View, Work, work_of}
+use Rattle.erm_world.specs.World.{Finished, IsCurrent, Session, Stand, View, Work, phase_of, work_of}
 use Rattle.erm_world.specs.World as world
 
 -- a list that was lengthened twice
@@ -52,9 +53,15 @@ grows_then s t r (ends w u begins over stands went) (works y x then_begins then_
 grows_then s t r (ends w u begins over stands went) (ends y x then_begins then_over then_stands goes) =
     absurd (none_in_progress t.stand y stands then_begins)
 
+-- one that is active after it went on was so before
+active_before : (s t : Session) → Grows s t → phase_of t.stand ≡ Active → phase_of s.stand ≡ Active
+active_before s t (same e) active = ap (λ (at : Session). phase_of at.stand) (sym e) ∙ active
+active_before s t (works w u begins over stands went) active = ap phase_of begins
+active_before s t (ends w u begins over stands went) active = ap phase_of begins
+
 -- a world in which nothing happened
 pub goes_itself : (v : View) (seat : ℕ) → Goes v seat v
-goes_itself v seat = record { own = same refl; others = λ q another. refl; opening = refl; tail = refl; flushed = refl; pinned = refl }
+goes_itself v seat = record { own = same refl; others = λ q another. refl; opening = refl; tail = refl; flushed = refl; pinned = refl; saves = λ active. refl; saves_of_others = λ q another. refl }
 
 -- a world in which one session goes on twice
 pub goes_then : (v t u : View) (seat then_seat : ℕ) → then_seat ≡ seat → Goes v seat t → Goes t then_seat u → Goes v seat u
@@ -66,4 +73,6 @@ goes_then v t u seat then_seat is first later =
       tail = second.tail ∙ first.tail;
       flushed = second.flushed ∙ first.flushed;
       pinned = second.pinned ∙ first.pinned;
+      saves = λ active. second.saves active ∙ first.saves (active_before (t.session seat) (u.session seat) second.own active);
+      saves_of_others = λ q another. second.saves_of_others q another ∙ first.saves_of_others q another;
     }
