@@ -12,7 +12,7 @@ use Rattle.erm_script.specs.Script.{IsInRange}
 use Rattle.erm_world.specs.Laws.{IsSerializable}
 use Rattle.erm_world.specs.World.{Finished, IsSession, Session, View, Work, history_of, made_in, phase_at, work_at, work_of}
 use Rattle.erm_world.specs.World as world
-use Rattle.erm_maps.specs.Runs.{IsRunOf}
+use Rattle.erm_maps.specs.Runs.{IsRunOf, kept_at}
 use Rattle.erm_good_report.specs.Causes.{WritesTable}
 use Rattle.erm_good_report.specs.Transactions.{Ending, Progress, Transaction, heard, table_of, with_line}
 use Rattle.erm_lines.specs.Operations.{AsksOf, DidCalls, FrontOf, WholeOf}
@@ -36,12 +36,12 @@ use Rattle.erm_causes_at_once.proofs.Free.{ActiveFree, IsFree, active_free, out_
 use Rattle.erm_causes_at_once.proofs.Line.{Ahead, Behind, ahead_before, ahead_last, ahead_of, ahead_there, cut_on, last_begin, later_has, over_has, stays_on, tried_on, whole_on}
 
 -- tries leave the run of the operations
-pub tried_run : (f : View) (seat : ℕ) (c : Command) (n : ℕ) (v t : View) → WasTried f seat c n v t → (steps : List Step) → IsRunOf (work_at v seat) steps → IsRunOf (work_at t seat) steps
+pub tried_run : (f : View) (seat : ℕ) (c : Command) (n : ℕ) (v t : View) → WasTried f seat c n v t → (steps : List Step) → IsRunOf (kept_at v seat) steps → IsRunOf (kept_at t seat) steps
 tried_run f seat c zero v t passes steps run = subst (λ (s : Session). IsRunOf (work_of s.stand) steps) (sym passes.own) run
 tried_run f seat c (suc n) v t (u, (other, seen, cut), rest) steps run = tried_run f seat c n u t rest steps (cut.run refl steps run)
 
 pub called_run : (seat : ℕ) (c : Command) (a : Answer) (steps : List Step) (v t : View) → Beside seat (λ u w. DidCalls u seat steps (WholeOf c a) w) v t → (before : List Step)
-    → IsRunOf (work_at v seat) before → IsRunOf (work_at t seat) (before ++ steps)
+    → IsRunOf (kept_at v seat) before → IsRunOf (kept_at t seat) (before ++ steps)
 called_run seat c a steps v t beside before run =
     subst (λ (s : Session). IsRunOf (work_of s.stand) (before ++ steps)) (sym beside.stops)
     (beside.did.run before (subst (λ (s : Session). IsRunOf (work_of s.stand) before) (sym beside.starts) run))
@@ -62,7 +62,7 @@ module _ (tree : TreeLaws) (laws : HistoryLaws) (table : ℕ → ℕ) (f : View)
   kept : Kept (v.session seat) (did.at.session seat)
   kept = tried_kept f seat c did.times v did.at active did.tried
 
-  run_at : IsRunOf (work_at did.at seat) now.steps
+  run_at : IsRunOf (kept_at did.at seat) now.steps
   run_at = tried_run f seat c did.times v did.at did.tried now.steps now.run
 
   -- the line's own work, up to its last try

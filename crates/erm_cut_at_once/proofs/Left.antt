@@ -19,7 +19,7 @@ use Rattle.erm_world.specs.World.{Finished, GivenUp, IsSession, IsWorking, Sessi
 use Rattle.erm_world.specs.World as world
 use Rattle.erm_machine.proofs.Listed.{∈-first}
 use Rattle.erm_world.proofs.Lists.{∈-last}
-use Rattle.erm_maps.specs.Runs.{IsRunOf}
+use Rattle.erm_maps.specs.Runs.{IsRunOf, kept_at}
 use Rattle.erm_good_report.specs.Phases.{Closes}
 use Rattle.erm_lines.specs.Executions.{Move}
 use Rattle.erm_beside.specs.Calls.{After, Passes, RefusedBeside}
@@ -124,7 +124,7 @@ did_end seat v active = record {
 }
 
 module _ (laws : Laws) (f : View) (seat : ℕ) (session : IsSession f seat) (holds : IsSerializable sound_law f) (next : Option ScriptLine) (v : View) (moves : List Move) (part : IsCutPart f seat next v moves)
-    (run : phase_at part.last seat ≡ Active → (steps : List Step) × IsRunOf (work_at part.last seat) steps) (given : GivenHas seat part.last) where
+    (run : phase_at part.last seat ≡ Active → (steps : List Step) × IsRunOf (kept_at part.last seat) steps) (given : GivenHas seat part.last) where
   abbrev last : View
   last = part.last
 

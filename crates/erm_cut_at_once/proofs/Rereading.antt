@@ -11,7 +11,7 @@ use Rattle.erm_world.specs.Calls.{DidRead, again, first, own}
 use Rattle.erm_world.specs.Going.{Extends}
 use Rattle.erm_world.specs.Onward.{extends_then}
 use Rattle.erm_world.specs.World.{Session, View, Work, phase_at, work_at, work_of}
-use Rattle.erm_maps.specs.Runs.{IsRunOf}
+use Rattle.erm_maps.specs.Runs.{IsRunOf, kept_at}
 use Rattle.erm_lines.specs.Operations.{Ran}
 use Rattle.erm_lines_at_once.specs.Operations.{WasTried}
 use Rattle.erm_causes_at_once.proofs.Called.{cut_kept, cut_stays}
@@ -64,7 +64,7 @@ ran_reads seat (did_make oid ∷ events) v t only ran = absurd only
 
 -- THE TRIES of a line, where the work goes on to one that may have begun on some rows
 pub tried_reads : (last : Work) (began : BeganIn last) (f : View) (seat : ℕ) (c : Command) (n : ℕ) (v t : View) → phase_at v seat ≡ Active → WasTried f seat c n v t → (steps : List Step)
-    → IsRunOf (work_at v seat) steps → Extends (work_at t seat) last → HasReadMore (work_at v seat) (work_at t seat)
+    → IsRunOf (kept_at v seat) steps → Extends (work_at t seat) last → HasReadMore (work_at v seat) (work_at t seat)
 tried_reads last began f seat c zero v t active passes steps run more = subst (λ (s : Session). HasReadMore (work_at v seat) (work_of s.stand)) (sym passes.own) (read_itself (work_at v seat))
 tried_reads last began f seat c (suc n) v t active (u, (other, seen, cut), rest) steps run more =
     let why = stop.NotYet other seen in

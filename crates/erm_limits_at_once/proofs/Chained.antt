@@ -16,7 +16,7 @@ use Rattle.erm_world.specs.Snapshots.{snapshot_not_active}
 use Rattle.erm_world.specs.Works.{row_read}
 use Rattle.erm_world.specs.World.{IsSession, Session, Stand, View, Work, claims_in, phase_at, phase_of, work_at, work_of}
 use Rattle.erm_world.specs.World as world
-use Rattle.erm_maps.specs.Runs.{IsAnswered, IsRunOf}
+use Rattle.erm_maps.specs.Runs.{IsAnswered, IsRunOf, kept_at}
 use Rattle.erm_good_report.specs.Refusals.{claims_of, makes_of, reads_of}
 use Rattle.erm_good_report.specs.Transactions.{Exchange, Progress, Said, Transaction, heard, nothing, steps_of, with_line}
 use Rattle.erm_lines.specs.Executions.{Move, close, flush, line, log, said_in}
@@ -103,7 +103,7 @@ none_told seat (Some t) (world.active w) rests told = absurd rests
 none_told seat (Some t) (world.sealed w stamp) rests told = absurd rests
 none_told seat (Some t) (world.snapshot x) rests told = absurd told
 
-pub knows_run : (seat : ℕ) (p : Progress) (phase : Phase) (v : View) → Knows seat p phase v → phase_at v seat ≡ Active → (steps : List Step) × IsRunOf (work_at v seat) steps
+pub knows_run : (seat : ℕ) (p : Progress) (phase : Phase) (v : View) → Knows seat p phase v → phase_at v seat ≡ Active → (steps : List Step) × IsRunOf (kept_at v seat) steps
 knows_run seat p phase v knows active = active_run seat p.current (v.session seat).stand knows.tells.now active
 
 -- nor does a seal tell more
@@ -243,7 +243,7 @@ pub record Counted (f : View) (s t : Session) (makes claims : ℕ) (q : Progress
 
 module _ (laws : Laws) (begun : NoneRuns)
     (stay : (w u : Work) (steps : List Step) → Extends w u → IsAnswered w steps → IsAnswered u steps) (f : View) (seat : ℕ) (session : IsSession f seat) (holds : IsSerializable sound_law f) where
-  lined_moved : (asked : Option Command) (a : Answer) (v t : View) → Lined f seat asked a v t → IsAskedInRange asked → (phase_at v seat ≡ Active → (steps : List Step) × IsRunOf (work_at v seat) steps)
+  lined_moved : (asked : Option Command) (a : Answer) (v t : View) → Lined f seat asked a v t → IsAskedInRange asked → (phase_at v seat ≡ Active → (steps : List Step) × IsRunOf (kept_at v seat) steps)
       → Continues (t.session seat) (f.session seat) → Moved (MayBe f) (count_asked makes_of asked) (count_asked claims_of asked) 1 (v.session seat) (t.session seat)
   lined_moved asked a v t (quiet did) range run goes =
       moved_within (MayBe f) 0 0 1 (count_asked makes_of asked) (count_asked claims_of asked) 1 (v.session seat) (t.session seat) (omega arith) (omega arith) (omega arith)

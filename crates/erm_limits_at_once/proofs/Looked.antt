@@ -19,7 +19,7 @@ use Rattle.erm_world.specs.Laws.{FitsWork, IsLawfulWork, IsSerializable}
 use Rattle.erm_world.specs.Onward.{extends_then}
 use Rattle.erm_world.specs.Works.{row_read, seen_by}
 use Rattle.erm_world.specs.World.{Has, IsSession, Session, View, Work, phase_at, work_at, work_of}
-use Rattle.erm_maps.specs.Runs.{IsRunOf}
+use Rattle.erm_maps.specs.Runs.{IsRunOf, kept_at}
 use Rattle.erm_maps.proofs.Extended.{fitted_before}
 use Rattle.erm_maps.proofs.Lawful.{fits_below}
 use Rattle.erm_good_report.specs.Refusals.{reads_of}
@@ -106,7 +106,7 @@ module _ (last : Work) (began : BeganIn last) where
 
   -- A CALL THAT WAS CUT OFF.
   module _ (f : View) (seat : ℕ) (c : Command) (why : RowStop) (v t : View) (active : phase_at v seat ≡ Active) (cut : WereCutBeside f seat (FrontOf c) (AsksOf c) why v t) (steps : List Step)
-      (run : IsRunOf (work_at v seat) steps) (more : Extends (work_at cut.at seat) last) where
+      (run : IsRunOf (kept_at v seat) steps) (more : Extends (work_at cut.at seat) last) where
     abbrev array : Rows
     array = seen_by (work_at v seat) rows
 
@@ -124,7 +124,7 @@ module _ (last : Work) (began : BeganIn last) where
 
   -- one that waits read alone
   pub waits_only : (f : View) (seat : ℕ) (c : Command) (other seen : ℕ) (v t : View) (active : phase_at v seat ≡ Active)
-      → (cut : WereCutBeside f seat (FrontOf c) (AsksOf c) (stop.NotYet other seen) v t) (steps : List Step) → IsRunOf (work_at v seat) steps → Extends (work_at cut.at seat) last
+      → (cut : WereCutBeside f seat (FrontOf c) (AsksOf c) (stop.NotYet other seen) v t) (steps : List Step) → IsRunOf (kept_at v seat) steps → Extends (work_at cut.at seat) last
       → OnlyReads cut.events
   waits_only f seat c other seen v t active cut steps run more =
       let why = stop.NotYet other seen in
@@ -147,7 +147,7 @@ module _ (last : Work) (began : BeganIn last) where
     reads_then w y same x (inl before) = same.reads x before
     reads_then w y same x (inr new) = inr (subst (λ (array : Rows). IsSoughtBy c array x) same.seen new)
 
-    cut_reads : (why : RowStop) (v t : View) (active : phase_at v seat ≡ Active) (cut : WereCutBeside f seat (FrontOf c) (AsksOf c) why v t) (steps : List Step) → IsRunOf (work_at v seat) steps
+    cut_reads : (why : RowStop) (v t : View) (active : phase_at v seat ≡ Active) (cut : WereCutBeside f seat (FrontOf c) (AsksOf c) why v t) (steps : List Step) → IsRunOf (kept_at v seat) steps
         → Extends (work_at cut.at seat) last → (x : ℕ) → is_some (row_read (work_at cut.at seat).reads x) ≡ true
         → (is_some (row_read (work_at v seat).reads x) ≡ true) ⊎ IsSoughtBy c (seen_by (work_at v seat) rows) x
     cut_reads why v t active cut steps run more x read =
@@ -158,7 +158,7 @@ module _ (last : Work) (began : BeganIn last) where
         ]
 
     -- THE TRIES see the same rows, one after another.
-    pub tried_same : (n : ℕ) (v t : View) → phase_at v seat ≡ Active → WasTried f seat c n v t → (steps : List Step) → IsRunOf (work_at v seat) steps → Extends (work_at t seat) last
+    pub tried_same : (n : ℕ) (v t : View) → phase_at v seat ≡ Active → WasTried f seat c n v t → (steps : List Step) → IsRunOf (kept_at v seat) steps → Extends (work_at t seat) last
         → SeesAs (work_at v seat) (work_at t seat)
     tried_same zero v t active passes steps run more = subst (λ (s : Session). SeesAs (work_at v seat) (work_of s.stand)) (sym passes.own) (sees_itself (work_at v seat))
     tried_same (suc n) v t active (u, (other, seen, cut), rest) steps run more =
@@ -194,7 +194,7 @@ module _ (last : Work) (began : BeganIn last) where
 
     -- The last try, answered whole.
     pub whole_same : (a : Answer) (now : List Step) (v at t : View) (active : phase_at at seat ≡ Active) → (beside : Beside seat (λ x y. DidCalls x seat now (WholeOf c a) y) at t)
-        → SeesAs (work_at v seat) (work_at at seat) → (steps : List Step) → IsRunOf (work_at at seat) steps → Extends (work_at t seat) last → Looked (reads_of c) v seat t
+        → SeesAs (work_at v seat) (work_at at seat) → (steps : List Step) → IsRunOf (kept_at at seat) steps → Extends (work_at t seat) last → Looked (reads_of c) v seat t
     whole_same a now v at t active beside sees steps run more =
         let array = seen_by (work_at at seat) rows in
         let events = beside.did.events in
@@ -207,7 +207,7 @@ module _ (last : Work) (began : BeganIn last) where
 
     -- cut off, with what it asked for
     pub cut_same : (why : RowStop) (v at t : View) (active : phase_at at seat ≡ Active) (cut : WereCutBeside f seat (FrontOf c) (AsksOf c) why at t) → SeesAs (work_at v seat) (work_at at seat)
-        → (steps : List Step) → IsRunOf (work_at at seat) steps → Extends (work_at cut.at seat) last → LookedSo (reads_of c) v seat cut.at cut.asked
+        → (steps : List Step) → IsRunOf (kept_at at seat) steps → Extends (work_at cut.at seat) last → LookedSo (reads_of c) v seat cut.at cut.asked
     cut_same why v at t active cut sees steps run more =
         let ran = on f seat c why at t active cut steps run more in
         let sound = subst IsSound sees.seen ran.sound in

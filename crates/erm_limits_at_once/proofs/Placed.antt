@@ -12,9 +12,9 @@ use Rattle.erm_script.specs.declared.script.ScriptLine.{ScriptLine}
 use Rattle.erm_script.specs.Script.{IsInRange}
 use Rattle.erm_world.specs.Going.{Extends}
 use Rattle.erm_world.specs.Laws.{IsSerializable}
-use Rattle.erm_world.specs.World.{IsSession, Session, View, Work, claims_in, phase_at, work_at}
+use Rattle.erm_world.specs.World.{IsSession, Session, View, Work, claims_in, phase_at}
 use Rattle.erm_world.specs.World as world
-use Rattle.erm_maps.specs.Runs.{IsAnswered, IsRunOf}
+use Rattle.erm_maps.specs.Runs.{IsAnswered, IsRunOf, kept_at}
 use Rattle.erm_good_report.specs.Refusals.{claims_of, makes_of}
 use Rattle.erm_good_report.specs.Transactions.{Progress, Said, said_of}
 use Rattle.erm_lines.specs.Executions.{Move, line_moves, move_as, move_of, said_in}
@@ -51,7 +51,7 @@ module _ (laws : Laws) (begun : NoneRuns)
     pub before : View
     pub after : View
     pub did : DidLineBeside f l a before after
-    pub run : phase_at before seat ≡ Active → (steps : List Step) × IsRunOf (work_at before seat) steps
+    pub run : phase_at before seat ≡ Active → (steps : List Step) × IsRunOf (kept_at before seat) steps
     pub goes : Continues (after.session seat) (f.session seat)
     pub few : Few f (fold (hears seat) p (take i (said_of script answers))) (before.session seat)
     pub mades : (mades_in (t.session seat) + mades_in (before.session seat)) + makes_of l.command ≤ (mades_in (v.session seat) + own_total makes_of seat (said_in moves)) + mades_in (after.session seat)
@@ -74,7 +74,7 @@ module _ (laws : Laws) (begun : NoneRuns)
   -- one line
   record StepCounts (k : ScriptLine) (b : Answer) (p : Progress) (phase : Phase) (u w : View) : Type 0 where
     knows : Knows seat (hears seat p (place k b)) (turns seat phase (place k b)) w
-    run : phase_at u seat ≡ Active → (steps : List Step) × IsRunOf (work_at u seat) steps
+    run : phase_at u seat ≡ Active → (steps : List Step) × IsRunOf (kept_at u seat) steps
     goes : Continues (w.session seat) (f.session seat)
     few : Few f (hears seat p (place k b)) (w.session seat)
     mades : mades_in (w.session seat) ≤ mades_in (u.session seat) + own_count makes_of seat (place k b)

@@ -21,7 +21,7 @@ use Rattle.erm_world.specs.Works.{row_read}
 use Rattle.erm_world.specs.World.{Finished, Has, IsSession, Session, View, Work, made_by_all, phase_at, phase_of, work_at, work_of}
 use Rattle.erm_world.specs.World as world
 use Rattle.erm_world.proofs.Lists.{∈-last}
-use Rattle.erm_maps.specs.Runs.{IsRunOf}
+use Rattle.erm_maps.specs.Runs.{IsRunOf, kept_at}
 use Rattle.erm_good_report.specs.Refusals.{claims_of, makes_of, reads_of}
 use Rattle.erm_good_report.specs.Transactions.{table_of}
 use Rattle.erm_lines.specs.Operations.{AsksOf, DidCalls, FrontOf, Ran, WholeOf}
@@ -71,7 +71,7 @@ module _ (laws : Laws) (f : View) (seat : ℕ) (session : IsSession f seat) (hol
   stood_there w y events lawful moves (u, has, more) = stood laws.rows_below f holds seat u session has w y events lawful moves more
 
   -- A CALL THAT WAS CUT OFF.
-  module _ (why : RowStop) (v t : View) (active : phase_at v seat ≡ Active) (cut : WereCutBeside f seat (FrontOf c) (AsksOf c) why v t) (steps : List Step) (run : IsRunOf (work_at v seat) steps)
+  module _ (why : RowStop) (v t : View) (active : phase_at v seat ≡ Active) (cut : WereCutBeside f seat (FrontOf c) (AsksOf c) why v t) (steps : List Step) (run : IsRunOf (kept_at v seat) steps)
       (goes : GoesTo f seat (work_at cut.at seat)) where
     abbrev gone : Gone cut.events (v.session seat) (cut.at.session seat)
     gone = cut_gone f seat c why v t active cut
@@ -111,7 +111,7 @@ module _ (laws : Laws) (f : View) (seat : ℕ) (session : IsSession f seat) (hol
 
   -- TRIES make and claim nothing.
   try_only : (other seen : ℕ) (v t : View) (active : phase_at v seat ≡ Active) (cut : WereCutBeside f seat (FrontOf c) (AsksOf c) (stop.NotYet other seen) v t) (steps : List Step)
-      → IsRunOf (work_at v seat) steps → GoesTo f seat (work_at cut.at seat) → OnlyReads cut.events
+      → IsRunOf (kept_at v seat) steps → GoesTo f seat (work_at cut.at seat) → OnlyReads cut.events
   try_only other seen v t active cut steps run goes =
       let why = stop.NotYet other seen in
       waits_front c (on why v t active cut steps run goes).array cut.events seat other seen cut.asked cut.at t (front_on why v t active cut steps run goes)
@@ -121,7 +121,7 @@ module _ (laws : Laws) (f : View) (seat : ℕ) (session : IsSession f seat) (hol
     pub moved : Moved P 0 0 0 (v.session seat) (t.session seat)
     pub goes : GoesTo f seat (work_at v seat)
 
-  pub tried_moved : (n : ℕ) (v t : View) → phase_at v seat ≡ Active → WasTried f seat c n v t → (steps : List Step) → IsRunOf (work_at v seat) steps → GoesTo f seat (work_at t seat) → TriedMoved v t
+  pub tried_moved : (n : ℕ) (v t : View) → phase_at v seat ≡ Active → WasTried f seat c n v t → (steps : List Step) → IsRunOf (kept_at v seat) steps → GoesTo f seat (work_at t seat) → TriedMoved v t
   tried_moved zero v t active passes steps run goes = record {
     moved = moved_nothing P (v.session seat) (t.session seat) passes.own;
     goes = subst (λ (s : Session). GoesTo f seat (work_of s.stand)) passes.own goes;
@@ -142,7 +142,7 @@ module _ (laws : Laws) (f : View) (seat : ℕ) (session : IsSession f seat) (hol
 
   -- THE LAST ONE, answered whole.
   whole_moved : (a : Answer) (steps_now : List Step) (v t : View) (active : phase_at v seat ≡ Active) → (beside : Beside seat (λ u w. DidCalls u seat steps_now (WholeOf c a) w) v t) (steps : List Step)
-      → IsRunOf (work_at v seat) steps → GoesTo f seat (work_at t seat) → Moved P (makes_of c) (claims_of c) 0 (v.session seat) (t.session seat)
+      → IsRunOf (kept_at v seat) steps → GoesTo f seat (work_at t seat) → Moved P (makes_of c) (claims_of c) 0 (v.session seat) (t.session seat)
   whole_moved a steps_now v t active beside steps run goes =
       let events = beside.did.events in
       let gone = calls_gone seat c a steps_now v t active beside in
@@ -192,7 +192,7 @@ module _ (laws : Laws) (f : View) (seat : ℕ) (session : IsSession f seat) (hol
   rest_of : (a b : ℕ) → a ≤ b → (n : ℕ) × (a + n ≡ b)
   rest_of a b less = (b - a, omega (arith, less))
 
-  once_moved : (a : Answer) (v t : View) → phase_at v seat ≡ Active → Once f seat c a v t → (steps : List Step) → IsRunOf (work_at v seat) steps → Continues (t.session seat) (f.session seat) → OnceMoved v t
+  once_moved : (a : Answer) (v t : View) → phase_at v seat ≡ Active → Once f seat c a v t → (steps : List Step) → IsRunOf (kept_at v seat) steps → Continues (t.session seat) (f.session seat) → OnceMoved v t
   once_moved a v t active (whole now beside hears) steps run goes =
       let gone = calls_gone seat c a now v t active beside in
       let goes_t = now_goes t (ap phase_of gone.stand) goes in record {
@@ -222,7 +222,7 @@ module _ (laws : Laws) (f : View) (seat : ℕ) (session : IsSession f seat) (hol
       }
 
   -- THE WHOLE LINE.
-  pub operation_moved : (a : Answer) (v t : View) → phase_at v seat ≡ Active → DidOperationBeside f seat c a v t → (steps : List Step) → IsRunOf (work_at v seat) steps
+  pub operation_moved : (a : Answer) (v t : View) → phase_at v seat ≡ Active → DidOperationBeside f seat c a v t → (steps : List Step) → IsRunOf (kept_at v seat) steps
       → Continues (t.session seat) (f.session seat) → Moved P (makes_of c) (claims_of c) 1 (v.session seat) (t.session seat)
   operation_moved a v t active did steps run goes =
       let kept = tried_kept f seat c did.times v did.at active did.tried in
@@ -234,7 +234,7 @@ module _ (laws : Laws) (f : View) (seat : ℕ) (session : IsSession f seat) (hol
   -- WHAT IT READS, on the rows on which the work began that it goes on to.
   module _ (u : Work) (has : Has f seat u) (seeks : SeeksKey c) where
     whole_looked : (a : Answer) (now : List Step) (n : ℕ) (v at t : View) → phase_at v seat ≡ Active → WasTried f seat c n v at
-        → Beside seat (λ x y. DidCalls x seat now (WholeOf c a) y) at t → (steps : List Step) → IsRunOf (work_at v seat) steps → Extends (work_at t seat) u → Looked (reads_of c) v seat t
+        → Beside seat (λ x y. DidCalls x seat now (WholeOf c a) y) at t → (steps : List Step) → IsRunOf (kept_at v seat) steps → Extends (work_at t seat) u → Looked (reads_of c) v seat t
     whole_looked a now n v at t active tried beside steps run more =
         let kept = tried_kept f seat c n v at active tried in
         let run_at = tried_run f seat c n v at tried steps run in
@@ -243,7 +243,7 @@ module _ (laws : Laws) (f : View) (seat : ℕ) (session : IsSession f seat) (hol
         whole_same u (began_in laws f seat session holds u has) f seat c range seeks a now v at t kept.phase beside same steps run_at more
 
     cut_looked : (why : RowStop) (n : ℕ) (v at t : View) → phase_at v seat ≡ Active → WasTried f seat c n v at → (cut : WereCutBeside f seat (FrontOf c) (AsksOf c) why at t)
-        → (steps : List Step) → IsRunOf (work_at v seat) steps → Extends (work_at cut.at seat) u → LookedSo (reads_of c) v seat cut.at cut.asked
+        → (steps : List Step) → IsRunOf (kept_at v seat) steps → Extends (work_at cut.at seat) u → LookedSo (reads_of c) v seat cut.at cut.asked
     cut_looked why n v at t active tried cut steps run more =
         let kept = tried_kept f seat c n v at active tried in
         let run_at = tried_run f seat c n v at tried steps run in
@@ -260,7 +260,7 @@ module _ (laws : Laws) (f : View) (seat : ℕ) (session : IsSession f seat) (hol
   }
 
   once_looked : (a : Answer) (n : ℕ) (v at t : View) → SeeksKey c → phase_at v seat ≡ Active → WasTried f seat c n v at → Once f seat c a at t → (steps : List Step)
-      → IsRunOf (work_at v seat) steps → Continues (t.session seat) (f.session seat) → Looked (reads_of c) v seat t
+      → IsRunOf (kept_at v seat) steps → Continues (t.session seat) (f.session seat) → Looked (reads_of c) v seat t
   once_looked a n v at t seeks active tried (whole now beside hears) steps run goes =
       let kept = tried_kept f seat c n v at active tried in
       let (u, has, more) = now_goes t (ap phase_of (calls_gone seat c a now at t kept.phase beside).stand) goes in
@@ -278,7 +278,7 @@ module _ (laws : Laws) (f : View) (seat : ℕ) (session : IsSession f seat) (hol
 
   -- a line that names a table seeks one key, or may read all that there are
   pub operation_looks : (k : ℕ) → table_of c ≡ Some k → (a : Answer) (v t : View) → phase_at v seat ≡ Active → DidOperationBeside f seat c a v t → (steps : List Step)
-      → IsRunOf (work_at v seat) steps → Continues (t.session seat) (f.session seat) → Looks c v seat t
+      → IsRunOf (kept_at v seat) steps → Continues (t.session seat) (f.session seat) → Looks c v seat t
   operation_looks k names a v t active did steps run goes = elim (named_kind c k names) as (λ _. Looks c v seat t) [
     | inl seeks ↦ inr (once_looked a did.times v did.at t seeks active did.tried (once_of f seat c did.at t a did.once) steps run goes)
     | inr walks ↦ inl walks
@@ -300,7 +300,7 @@ module _ (laws : Laws) (f : View) (seat : ℕ) (session : IsSession f seat) (hol
     pub met : MetBeside f seat asked why at t
 
   pub no_room : (why : RowStop) → ends why ≡ false → (n : ℕ) (v u t : View) → phase_at v seat ≡ Active → WasTried f seat c n v u → WereCutBeside f seat (FrontOf c) (AsksOf c) why u t
-      → (steps : List Step) → IsRunOf (work_at v seat) steps → Continues (t.session seat) (f.session seat) → NoRoom why v t
+      → (steps : List Step) → IsRunOf (kept_at v seat) steps → Continues (t.session seat) (f.session seat) → NoRoom why v t
   no_room why stays n v u t active tried cut steps run goes =
       let kept = tried_kept f seat c n v u active tried in
       let run_u = tried_run f seat c n v u tried steps run in

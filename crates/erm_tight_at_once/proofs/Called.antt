@@ -21,7 +21,7 @@ use Rattle.erm_world.specs.Onward.{extends_then}
 use Rattle.erm_world.specs.Works.{seen_by}
 use Rattle.erm_world.specs.World.{Finished, Has, IsSession, Session, View, Work, phase_at, phase_of, work_at, work_of}
 use Rattle.erm_world.specs.World as world
-use Rattle.erm_maps.specs.Runs.{IsRunOf}
+use Rattle.erm_maps.specs.Runs.{IsRunOf, kept_at}
 use Rattle.erm_good_report.specs.Transactions.{Exchange, Progress, Transaction, heard, table_of, with_line}
 use Rattle.erm_good_report.specs.Windows.{IsReplied, IsTidied}
 use Rattle.erm_lines.specs.Operations.{AsksOf, DidCalls, FrontOf, Ran, WholeOf}
@@ -104,7 +104,7 @@ module _ (keys : KeyLaws) (c : Command) (k : ℕ) (named : table_of c ≡ Some k
       made_few : (w : Work) → Extends w last → (x : ℕ) → times_made w.made x ≤ 1
       made_few w more x = let less = extended_made w last more x in let one = began.once x in omega (arith, less, one)
 
-      tried_marks : (lines : List Exchange) (n : ℕ) (v t : View) → phase_at v seat ≡ Active → WasTried f seat c n v t → (steps : List Step) → IsRunOf (work_at v seat) steps
+      tried_marks : (lines : List Exchange) (n : ℕ) (v t : View) → phase_at v seat ≡ Active → WasTried f seat c n v t → (steps : List Step) → IsRunOf (kept_at v seat) steps
           → Extends (work_at t seat) last → Marks lines (work_at v seat) → Marks lines (work_at t seat)
       tried_marks lines zero v t active passes steps run more marks = subst (λ (s : Session). Marks lines (work_of s.stand)) (sym passes.own) marks
       tried_marks lines (suc n) v t active (u, (other, seen, cut), rest) steps run more marks =
@@ -119,7 +119,7 @@ module _ (keys : KeyLaws) (c : Command) (k : ℕ) (named : table_of c ≡ Some k
           tried_marks lines n u t kept.phase rest steps (cut.run refl steps run) more (subst (λ (s : Session). Marks lines (work_of s.stand)) (sym same) first)
 
       whole_marks : (a : Answer) (lines : List Exchange) (now : List Step) (v t : View) → phase_at v seat ≡ Active → (beside : Beside seat (λ x y. DidCalls x seat now (WholeOf c a) y) v t)
-          → (steps : List Step) → IsRunOf (work_at v seat) steps → Extends (work_at t seat) last → LineDid (record { asked = c; answer = a }) beside.did.events → Marks lines (work_at v seat)
+          → (steps : List Step) → IsRunOf (kept_at v seat) steps → Extends (work_at t seat) last → LineDid (record { asked = c; answer = a }) beside.did.events → Marks lines (work_at v seat)
           → Marks (lines ++ record { asked = c; answer = a } ∷ []) (work_at t seat)
       whole_marks a lines now v t active beside steps run more did marks =
           let events = beside.did.events in
@@ -130,7 +130,7 @@ module _ (keys : KeyLaws) (c : Command) (k : ℕ) (named : table_of c ≡ Some k
           marks_then lines (work_at v seat) (work_at t seat) (record { asked = c; answer = a }) events gone.moves left run.lawful (made_few (work_at t seat) more) did marks
 
       cut_marks : (a : Answer) (lines : List Exchange) (why : RowStop) (v t : View) → phase_at v seat ≡ Active → (cut : WereCutBeside f seat (FrontOf c) (AsksOf c) why v t)
-          → (steps : List Step) → IsRunOf (work_at v seat) steps → Extends (work_at cut.at seat) last → LineDid (record { asked = c; answer = a }) cut.events → Marks lines (work_at v seat)
+          → (steps : List Step) → IsRunOf (kept_at v seat) steps → Extends (work_at cut.at seat) last → LineDid (record { asked = c; answer = a }) cut.events → Marks lines (work_at v seat)
           → Marks (lines ++ record { asked = c; answer = a } ∷ []) (work_at cut.at seat)
       cut_marks a lines why v t active cut steps run more did marks =
           let gone = cut_gone f seat c why v t active cut in
@@ -148,7 +148,7 @@ module _ (keys : KeyLaws) (c : Command) (k : ℕ) (named : table_of c ≡ Some k
     number_now = number_told seat p.current (v.session seat).stand (work_at v seat) going.told tells
         (now_works (v.session seat).stand (work_at v seat) (inl (active_with (v.session seat).stand active))) going.is
 
-    run_at : IsRunOf (work_at at seat) going.steps
+    run_at : IsRunOf (kept_at at seat) going.steps
     run_at = tried_run f seat c n v at tried going.steps going.run
 
     active_at : phase_at at seat ≡ Active
