@@ -3,12 +3,13 @@ use Rattle.std.proofs.Common.{◌≡◌, ℕ, ◌<◌, ◌≤◌, ⊎_elim, Bool
 use Rattle.std.proofs.lemmas.Bool.{cases_Bool, cases_lt, cond-false, cond-true, lt-ltb, ltb-false, ltb-true}
 use Rattle.std.proofs.lemmas.List.Sorted.{IsPermutation-sym}
 use Rattle.erm_model.specs.declared.operation.Op.{Op}
-use Rattle.erm_model.specs.declared.operation.Op.TheVariants.{Get, Put, Del, Next, Scan}
+use Rattle.erm_model.specs.declared.operation.Op.TheVariants.{Get, Put, Del, Next, Scan, Save, Back}
 use Rattle.erm_model.specs.Committed.{Committed, RunsInOrder, below, rank_of, state_after}
 use Rattle.erm_model.specs.Database.{Database}
 use Rattle.erm_model.specs.Member.{◌∈◌}
-use Rattle.erm_model.specs.Run.{RunsAll, RunsOne, Step, after, after_all, ops_of}
+use Rattle.erm_model.specs.Run.{AreOnMap, IsOnMap, RunsAll, RunsOne, Step, after_all, change, change_all, ops_of}
 use Rattle.erm_model.specs.SerialOrder.{ComesBefore, IsSerialOrder}
+use Rattle.erm_model.proofs.OnMap.{after_all_plainly}
 use Rattle.erm_model.proofs.Members.{none_in_nil}
 use Rattle.erm_machine.proofs.Listed.{∈-cons, ∈-either, ∈-filter, ∈-filter_from, ∈-first, ∈-head, ∈-second}
 use Rattle.erm_core_ssn.proofs.Members.{∈-permutation}
@@ -17,17 +18,36 @@ use Rattle.erm_core_ssn.proofs.Orders.{Ascends, Ascends-from_AllPairs}
 use Rattle.erm_safe_laws.specs.Safe.{AreCommits, AreReadings, IsReading, IsSafeSnapshot}
 use Rattle.erm_safe_laws.proofs.Between.{ascends_front}
 
--- readings leave the map
-reading_leaves : (op : Op) (m : Database) → IsReading op → after op m ≡ m
+-- readings are on the map alone
+reading_on_map : (op : Op) → IsReading op → IsOnMap op
+reading_on_map (Get table key) r = tt
+reading_on_map (Next table from) r = tt
+reading_on_map (Scan table low high) r = tt
+reading_on_map (Put table key value) r = absurd r
+reading_on_map (Del table key) r = absurd r
+reading_on_map Save r = absurd r
+reading_on_map (Back n) r = absurd r
+
+pub readings_on_map : (steps : List Step) → AreReadings steps → AreOnMap steps
+readings_on_map [] all = tt
+readings_on_map (step ∷ steps) all = (reading_on_map step.op all.0, readings_on_map steps all.1)
+
+-- and leave it
+reading_leaves : (op : Op) (m : Database) → IsReading op → change op m ≡ m
 reading_leaves (Get table key) m r = refl
 reading_leaves (Next table from) m r = refl
 reading_leaves (Scan table low high) m r = refl
 reading_leaves (Put table key value) m r = absurd r
 reading_leaves (Del table key) m r = absurd r
+reading_leaves Save m r = absurd r
+reading_leaves (Back n) m r = absurd r
 
-readings_leave : (steps : List Step) (m : Database) → AreReadings steps → after_all (ops_of steps) m ≡ m
-readings_leave [] m all = refl
-readings_leave (step ∷ steps) m all = ap (λ (n : Database). after_all (ops_of steps) n) (reading_leaves step.op m all.0) ∙ readings_leave steps m all.1
+pub readings_change : (steps : List Step) (m : Database) → AreReadings steps → change_all (ops_of steps) m ≡ m
+readings_change [] m all = refl
+readings_change (step ∷ steps) m all = ap (λ (n : Database). change_all (ops_of steps) n) (reading_leaves step.op m all.0) ∙ readings_change steps m all.1
+
+pub readings_leave : (steps : List Step) (m : Database) → AreReadings steps → after_all (ops_of steps) m ≡ m
+readings_leave steps m all = after_all_plainly steps m (readings_on_map steps all) ∙ readings_change steps m all
 
 -- what a filter leaves of what ascends ascends
 ascends_filter : (p : Committed → Bool) (xs : List Committed) → Ascends rank_of xs → Ascends rank_of (filter p xs)

@@ -2,7 +2,7 @@
 use Rattle.std.specs.Prelude.{◌≡◌, ℕ, ◌<◌, ◌≤◌, List, [], ◌∷◌, ◌++◌}
 use Rattle.erm_model.specs.declared.history.TransactionRecord.{TransactionRecord}
 use Rattle.erm_model.specs.declared.operation.Op.{Op}
-use Rattle.erm_model.specs.declared.operation.Op.TheVariants.{Get, Put, Del, Next, Scan}
+use Rattle.erm_model.specs.declared.operation.Op.TheVariants.{Get, Put, Del, Next, Scan, Save, Back}
 use Rattle.erm_model.specs.Committed.{Committed, HasSnapshotReplies}
 use Rattle.erm_model.specs.Database.{Database}
 use Rattle.erm_model.specs.History.{HasNewestRows, History, IsNewestBelow, below, rank_of, rows_after}
@@ -27,13 +27,15 @@ pub record StandsBetween (h : History) (opening : Rows) (order : History) (b : �
   pub newest : HasNewestRows h opening b (rows_after front opening)
   pub finds : (oid stamp : ℕ) (row : List ℕ) → IsNewestBelow h opening oid b stamp row → rows_after front opening oid ≡ row
 
--- the operation leaves the map as it is
+-- the operation looks at the map
 abbrev pub IsReading : Op → Type 0
 IsReading (Get table key) = Unit {0}
 IsReading (Put table key value) = ⊥
 IsReading (Del table key) = ⊥
 IsReading (Next table from) = Unit {0}
 IsReading (Scan table low high) = Unit {0}
+IsReading Save = ⊥
+IsReading (Back n) = ⊥
 
 -- all of them do
 abbrev pub AreReadings : List Step → Type 0

@@ -1,14 +1,14 @@
 -- Operations of one transaction, one after another.
 use Rattle.std.proofs.Common.{◌≡◌, ℕ, List, [], ◌∷◌, sym, ap, ◌∙◌, subst}
 use Rattle.erm_model.specs.declared.operation.Op.{Op}
-use Rattle.erm_model.specs.declared.operation.Op.TheVariants.{Get, Put, Del, Next, Scan}
+use Rattle.erm_model.specs.declared.operation.Op.TheVariants.{Get, Put, Del, Next, Scan, Save, Back}
 use Rattle.erm_model.specs.declared.operation.Reply.{Reply}
 use Rattle.erm_model.specs.declared.operation.Reply.TheVariants as reply
 use Rattle.erm_model.specs.declared.row_stop.RowStop.{RowStop}
 use Rattle.erm_model.specs.Database.{Database}
 use Rattle.erm_model.specs.Rows.{Rows}
 use Rattle.erm_model.specs.RowTransaction.{Event, Asked, Face, WritesNothing, IsLawful, SameLaw, GoesOn, Stays, Saw, Did}
-use Rattle.erm_model.specs.Run.{RunsOne, IsReply, after, after_all, ops_of}
+use Rattle.erm_model.specs.Run.{IsOnMap, IsReplyOn, RunsOn, change, change_all, ops_of}
 use Rattle.erm_model.proofs.RowCalls.{WritesNothing-OnlyReads, after_all-WritesNothing, SameView-itself, SameView-lawful, Runs-fitted, Runs-lawful, Runs-one, Runs-seen, Saw-on, Saw-lawful, Did-on, Did-lawful}
 use Rattle.erm_node.specs.Sound.{IsSound, sound_law}
 use Rattle.erm_node.specs.TreeMap.{map_of_rows}
@@ -76,6 +76,8 @@ module _ {S : Type 0} (face : Face S) where
   Answered-ready s t (Del table key) r ready (is, did) = Did-ready s t _ ready did
   Answered-ready s t (Next table from) r ready (found, is, saw) = Stutters-ready s t ready (Stutters-saw s t _ saw)
   Answered-ready s t (Scan table low high) r ready none = absurd none
+  Answered-ready s t Save r ready none = absurd none
+  Answered-ready s t (Back n) r ready none = absurd none
 
   -- after calls in turn the transaction may be called on
   pub Called-ready : (calls : List Call) (s t : S) → IsReady face s → AreCalled face s calls t → IsReady face t
@@ -87,36 +89,43 @@ module _ {S : Type 0} (face : Face S) (law : SameLaw face.law sound_law) where
   -- one operation
   record IsStep (s : S) (op : Op) (r : Reply) (t : S) : Type 0 where
     fitted : (begun : Rows) → face.fits t begun → face.fits s begun
-    answer : (begun : Rows) → IsSound begun → face.fits t begun → IsReply (map_of_rows (face.rows s begun)) op r
-    now : (begun : Rows) → IsSound begun → face.fits t begun → map_of_rows (face.rows t begun) ≡ after op (map_of_rows (face.rows s begun))
+    on_map : IsOnMap op
+    answer : (begun : Rows) → IsSound begun → face.fits t begun → IsReplyOn (map_of_rows (face.rows s begun)) op r
+    now : (begun : Rows) → IsSound begun → face.fits t begun → map_of_rows (face.rows t begun) ≡ change op (map_of_rows (face.rows s begun))
     lawful : IsLawful face t
 
   step_of : (s : S) (op : Op) (r : Reply) (t : S) → IsLawful face s → IsAnswered face s op r t → IsStep s op r t
   step_of s (Get table key) r t lawful (value, is, saw) = record {
     fitted = λ begun fits. Runs-fitted face saw.events s t saw.goes_on.runs begun fits;
+    on_map = tt;
     answer = λ begun sound fits. is ∙ ap reply.Value (Saw-on face s t _ lawful saw begun ((law.meets begun).1 sound) fits).0;
     now = λ begun sound fits. ap map_of_rows (Saw-on face s t _ lawful saw begun ((law.meets begun).1 sound) fits).1;
     lawful = Saw-lawful face s t _ lawful saw;
   }
   step_of s (Put table key value) r t lawful (is, did) = record {
     fitted = λ begun fits. Runs-fitted face did.events s t did.goes_on.runs begun fits;
+    on_map = tt;
     answer = λ begun sound fits. is;
     now = λ begun sound fits. Did-on face s t _ lawful did begun ((law.meets begun).1 sound) fits;
     lawful = Did-lawful face s t _ lawful did;
   }
   step_of s (Del table key) r t lawful (is, did) = record {
     fitted = λ begun fits. Runs-fitted face did.events s t did.goes_on.runs begun fits;
+    on_map = tt;
     answer = λ begun sound fits. is;
     now = λ begun sound fits. Did-on face s t _ lawful did begun ((law.meets begun).1 sound) fits;
     lawful = Did-lawful face s t _ lawful did;
   }
   step_of s (Next table from) r t lawful (found, is, saw) = record {
     fitted = λ begun fits. Runs-fitted face saw.events s t saw.goes_on.runs begun fits;
+    on_map = tt;
     answer = λ begun sound fits. (found, is, (Saw-on face s t _ lawful saw begun ((law.meets begun).1 sound) fits).0);
     now = λ begun sound fits. ap map_of_rows (Saw-on face s t _ lawful saw begun ((law.meets begun).1 sound) fits).1;
     lawful = Saw-lawful face s t _ lawful saw;
   }
   step_of s (Scan table low high) r t lawful none = absurd none
+  step_of s Save r t lawful none = absurd none
+  step_of s (Back n) r t lawful none = absurd none
 
   record IsAll (s : S) (calls : List Call) (t : S) : Type 0 where
     fitted : (begun : Rows) → face.fits t begun → face.fits s begun
@@ -126,6 +135,7 @@ module _ {S : Type 0} (face : Face S) (law : SameLaw face.law sound_law) where
   all_of [] s t lawful same = record {
     fitted = λ begun fits. subst (λ (u : S). face.fits u begun) same fits;
     all = record {
+      on_map = tt;
       run = λ begun sound fits. tt;
       after = λ begun sound fits. ap (λ (u : S). map_of_rows (face.rows u begun)) same;
       lawful = subst (λ (u : S). IsLawful face u) (sym same) lawful;
@@ -138,10 +148,11 @@ module _ {S : Type 0} (face : Face S) (law : SameLaw face.law sound_law) where
       record {
         fitted = λ begun fits. one.fitted begun (more.fitted begun fits);
         all = record {
+          on_map = (one.on_map, more.all.on_map);
           run = λ begun sound fits.
               let here = more.fitted begun fits in
-              (one.answer begun sound here, subst (λ (m : Database). RunsOne m steps) (one.now begun sound here) (more.all.run begun sound fits));
-          after = λ begun sound fits. more.all.after begun sound fits ∙ ap (after_all (ops_of steps)) (one.now begun sound (more.fitted begun fits));
+              (one.answer begun sound here, subst (λ (m : Database). RunsOn m steps) (one.now begun sound here) (more.all.run begun sound fits));
+          after = λ begun sound fits. more.all.after begun sound fits ∙ ap (change_all (ops_of steps)) (one.now begun sound (more.fitted begun fits));
           lawful = more.all.lawful;
         };
       }
@@ -152,12 +163,13 @@ module _ {S : Type 0} (face : Face S) (law : SameLaw face.law sound_law) where
       record {
         fitted = λ begun fits. Stutters-fitted face s u same begun (more.fitted begun fits);
         all = record {
-          run = λ begun sound fits. subst (λ (m : Database). RunsOne m steps) (now begun fits) (more.all.run begun sound fits);
-          after = λ begun sound fits. more.all.after begun sound fits ∙ ap (after_all (ops_of steps)) (now begun fits);
+          on_map = more.all.on_map;
+          run = λ begun sound fits. subst (λ (m : Database). RunsOn m steps) (now begun fits) (more.all.run begun sound fits);
+          after = λ begun sound fits. more.all.after begun sound fits ∙ ap (change_all (ops_of steps)) (now begun fits);
           lawful = more.all.lawful;
         };
       }
 
-  -- they are one transaction's
+  -- they run on the map
   pub AreRunOne-called : (s t : S) (calls : List Call) → IsLawful face s → AreCalled face s calls t → AreRunOne face s (answered_steps calls) t
   AreRunOne-called s t calls lawful called = (all_of calls s t lawful called).all

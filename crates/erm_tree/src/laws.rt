@@ -13,9 +13,9 @@ ghost use Rattle.erm_tree.specs.Walk.{IsMetByNext};
 use erm_model::RowRead;
 use erm_node::nodes_are_read_back;
 
-/// Operations that calls of one transaction answer in turn are answered as by one transaction on the database map of the
-/// rows that it saw at first, and the rows that it sees at the end have the map after them. Calls between that set no row, as
-/// those do of which the other laws tell, count as no operation. The transaction is ready for the next call.
+/// Operations that calls of one transaction answer in turn are answered as on the database map of the rows that it saw at first,
+/// one after another, and the rows that it sees at the end have the map after them. None of them is of savepoints. Calls between
+/// that set no row, as those do of which the other laws tell, count as no operation. The transaction is ready for the next call.
 pub fn operations_are_run_one<T: RowRead>()
     ensures run { OperationsAreRunOne T.face }
     ensures ready { StaysReady T.face }
