@@ -25,7 +25,8 @@ use Rattle.erm_tree.specs.Operations.{Stutters, stuttered}
 use Rattle.erm_tree.specs.Reads.{IsMetIn, IsOnWay, IsSought}
 use Rattle.erm_tree.specs.Walk.{IsMetByNext, last_sought}
 use Rattle.erm_tree.proofs.Operations.{AreRunOne-called, Stutters-does, Stutters-saw}
-use Rattle.erm_world.specs.World.{Opening, Session, View, phase_at}
+use Rattle.erm_world.specs.Saves.{OnceOf}
+use Rattle.erm_world.specs.World.{Opening, Session, View, Work, phase_at}
 use Rattle.erm_world.proofs.Txns.{MayStop}
 use Rattle.erm_maps.specs.Runs.{IsRunOf, Kept, kept_at}
 use Rattle.erm_maps.proofs.Called.{called_runs, lawful_before}
@@ -46,7 +47,7 @@ use Rattle.erm_beside.specs.Onward.{beside_then, onward_then}
 use Rattle.erm_beside.proofs.Given.{given_after}
 use Rattle.erm_beside.proofs.Txns.{Stopped, stopped_after}
 use Rattle.erm_lines_at_once.specs.Operations.{Beside, IsNamed, TriedOnce, WereCutBeside, told_at_once}
-use Rattle.erm_lines_at_once.proofs.Alone.{Alone, alone_kept, alone_own, alone_saves, did_alone, does_alone, given_along, kept_there, runs_alone, saw_alone, stays_alone, view, view_at}
+use Rattle.erm_lines_at_once.proofs.Alone.{Alone, alone_kept, alone_own, alone_saves, did_alone, does_alone, follows_alone, given_along, kept_there, runs_alone, saw_alone, stays_alone, view, view_at, work_there}
 
 -- what a look for the record asks for, a del does too
 asks_del : (table key : ℕ) (events : List Event) (array : Rows) (asked : Asked) → AsksReads (IsOnWay table key) events array asked → AsksDel table key events array asked
@@ -85,7 +86,7 @@ module _ {S : Type 0} (law : Law) (own : S → View) (seat : S → ℕ) (stands 
   -- calls are runs of the session's transaction
   are_runs : CallsAreRuns law alone_view seat stands any same
   are_runs s t calls before run called =
-      called_runs law alone_view seat stands any same (λ same_law u w list lawful was. AreRunOne-called alone_face same_law u w list lawful was) s t calls before run called
+      called_runs law alone_view seat stands any same (λ u active. subst (λ (w : Work). OnceOf w.claims) (sym (work_there law own seat stands may one sound u)) (sound u active.0).claimed_once) (λ same_law u w list lawful was. AreRunOne-called alone_face same_law u w list lawful was) s t calls before run called
 
   -- a session in the middle of a transaction that is a run so far is ready for the next tree call
   pub ready : (s : S) (before : List Step) → face.active s → IsRunOf (kept_at (own s) (seat s)) before → IsReady face s
@@ -230,7 +231,9 @@ module _ {S : Type 0} (law : Law) (own : S → View) (seat : S → ℕ) (stands 
       none = none stopped.events stopped.of_kind;
       at = stopped.at;
       runs = runs_alone law own seat stands may one sound stopped.events s stopped.at stopped.goes_on.runs;
+      goes = follows_alone law own seat stands may one sound s stopped.at stopped.follows;
       stays = stays_alone law own seat stands may one sound stopped.at t (still goes) (stopped.refused.stays goes);
+      rests = inr (follows_alone law own seat stands may one sound stopped.at t stopped.refused.follows);
     }
 
     pub cut_beside : (asks_view : List Event → Rows → Asked → Type 0) (front : Rows → List Event → Type 0) → ((es : List Event) → kind es → WritesNothing es)

@@ -1,5 +1,5 @@
 -- Operations of one transaction, one after another.
-use Rattle.std.proofs.Common.{◌≡◌, ℕ, List, [], ◌∷◌, sym, ap, ◌∙◌, subst}
+use Rattle.std.proofs.Common.{◌≡◌, ℕ, List, [], ◌∷◌, inl, inr, refl, sym, ap, ◌∙◌, subst}
 use Rattle.erm_model.specs.declared.operation.Op.{Op}
 use Rattle.erm_model.specs.declared.operation.Op.TheVariants.{Get, Put, Del, Next, Scan, Save, Back}
 use Rattle.erm_model.specs.declared.operation.Reply.{Reply}
@@ -38,13 +38,13 @@ module _ {S : Type 0} (face : Face S) where
   Did-ready s t change ready did = record { active = did.goes_on.active; possible = did.goes_on.possible; lawful = Did-lawful face s t change ready.lawful did }
 
   -- events that set no row, and then a call that left all as it was
-  pub Stutters-cut_off : (s at t : S) (events : List Event) → WritesNothing events → GoesOn face s events at → Stays face at t → Stutters face s t
-  Stutters-cut_off s at t events none before refused = record { events = events; none = none; at = at; runs = before.runs; stays = refused }
+  pub Stutters-cut_off : (s at t : S) (events : List Event) → WritesNothing events → GoesOn face s events at → face.follows s at → Stays face at t → face.follows at t → Stutters face s t
+  Stutters-cut_off s at t events none before goes refused after = record { events = events; none = none; at = at; runs = before.runs; goes = goes; stays = refused; rests = inr after }
 
   -- calls that were cut off after events of a kind that sets no row
   pub Stutters-stopped : (may : RowStop → Type 0) (kind : List Event → Type 0) (asks : List Event → Rows → Asked → Type 0) → ((events : List Event) → kind events → WritesNothing events) → CutOffsStutter face may kind asks
   Stutters-stopped may kind asks none s t stop stopped goes =
-      Stutters-cut_off s stopped.at t stopped.events (none stopped.events stopped.of_kind) stopped.goes_on (stopped.refused.stays goes)
+      Stutters-cut_off s stopped.at t stopped.events (none stopped.events stopped.of_kind) stopped.goes_on stopped.follows (stopped.refused.stays goes) stopped.refused.follows
 
   -- looks that were cut off
   pub Stutters-look : (may : RowStop → Type 0) (objects : Rows → ℕ → Type 0) (asks : List Event → Rows → Asked → Type 0) → CutOffsStutter face may (Reads face.law objects) asks
@@ -57,7 +57,9 @@ module _ {S : Type 0} (face : Face S) where
     none = none;
     at = t;
     runs = Runs-one face s t event does.step;
+    goes = does.follows;
     stays = record { same = SameView-itself face t; active = does.active; possible = does.possible };
+    rests = inl refl;
   }
 
   -- calls that saw a fact
@@ -67,7 +69,9 @@ module _ {S : Type 0} (face : Face S) where
     none = WritesNothing-OnlyReads saw.events saw.reads;
     at = t;
     runs = saw.goes_on.runs;
+    goes = saw.follows;
     stays = record { same = SameView-itself face t; active = saw.goes_on.active; possible = saw.goes_on.possible };
+    rests = inl refl;
   }
 
   Answered-ready : (s t : S) (op : Op) (r : Reply) → IsReady face s → IsAnswered face s op r t → IsReady face t

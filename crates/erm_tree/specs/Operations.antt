@@ -1,5 +1,5 @@
 -- Operations of one transaction, answered by calls of the tree one after another, with calls between that set no row.
-use Rattle.std.specs.Prelude.{◌≡◌, false, ℕ, List, [], ◌∷◌, Option}
+use Rattle.std.specs.Prelude.{◌≡◌, ◌⊎◌, false, ℕ, List, [], ◌∷◌, Option}
 use Rattle.std.specs.FinMap.{insert, remove}
 use Rattle.erm_model.specs.declared.operation.Op.{Op}
 use Rattle.erm_model.specs.declared.operation.Op.TheVariants.{Get, Put, Del, Next, Scan, Save, Back}
@@ -32,7 +32,9 @@ pub record Stutters {S : Type 0} (face : Face S) (s t : S) : Type 0 where
   pub none : WritesNothing events
   pub at : S
   pub runs : Runs face s events at
+  pub goes : face.follows s at
   pub stays : Stays face at t
+  pub rests : (t ≡ at) ⊎ face.follows at t
 
 -- a call that answered an operation, or one that set no row
 pub data Call : Type 0 where

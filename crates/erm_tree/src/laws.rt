@@ -29,7 +29,8 @@ pub fn refused_calls_set_no_row<T: RowRead>()
     ensures find { (table key : ℕ) → CutOffsStutter T.face StopsRead (Reads T.face.law (IsOnWay table key)) (AsksReads (IsOnWay table key)) }
     ensures del { (table key : ℕ) → CutOffsStutter T.face StopsChange (Reads T.face.law (IsOnWay table key)) (AsksDel table key) }
     ensures put { (table key : ℕ) (value : List ℕ) → CutOffsStutter T.face StopsPut (IsPrefix T.face.law (IsOnWay table key) (λ rows events. IsPut rows table key (value_row value) events)) (AsksPut table key (value_row value)) }
-    ensures cut_off { (s at t : T) (events : List Event) → WritesNothing events → GoesOn T.face s events at → Stays T.face at t → Stutters T.face s t }
+    ensures cut_off { (s at t : T) (events : List Event) → WritesNothing events → GoesOn T.face s events at → T.face.follows s at
+        → Stays T.face at t → T.face.follows at t → Stutters T.face s t }
     ensures read { (oid : ℕ) → RefusalsStutter T.face StopsRead (asked_read oid) }
     ensures claim { (oid : ℕ) → RefusalsStutter T.face StopsClaim (asked_claim oid) }
     ensures fresh { RefusalsStutter T.face StopsMake asked_make }

@@ -17,4 +17,4 @@ pub returns-clause-put : goal.returns-clause-put
 returns-clause-put g c table key value = Stutters-stopped g.T.RowRead.face _ _ _ (λ events kind. kind.none)
 
 pub returns-clause-cut_off : goal.returns-clause-cut_off
-returns-clause-cut_off g c s at t events none before refused = Stutters-cut_off g.T.RowRead.face s at t events none before refused
+returns-clause-cut_off g c s at t events none before goes refused after = Stutters-cut_off g.T.RowRead.face s at t events none before goes refused after
