@@ -218,7 +218,7 @@ both_over = each_in (λ u. (s p q : ℕ) → u.ending ≡ Commits s p q → s < 
     (λ s p q is less turn. (0, refl), (λ s p q is less turn. (1, refl), (λ s p q is less. cc, tt)))
 
 refusals : (i : ℕ) (l : ScriptLine) (a : Answer) → slice_get script i ≡ Some l → slice_get all_answers i ≡ Some a → HasCause (moment_at InTurn first_opening script all_answers told i l) l.command a
-refusals = each_place (λ i l a. HasCause (moment_at InTurn first_opening script all_answers told i l) l.command a) script all_answers (record { own = λ t is. tt; log = tt; unfilled = tt }, (record { own = λ t is. tt; log = tt; unfilled = tt }, (record { own = λ t is. tt; log = tt; unfilled = tt }, (record { own = λ t is. own_window _ t _; log = tt; unfilled = tt }, (record { own = λ t is. tt; log = tt; unfilled = tt }, (record { own = λ t is. tt; log = tt; unfilled = tt }, (record { own = λ t is. tt; log = tt; unfilled = tt }, (record { own = λ t is. tt; log = tt; unfilled = tt }, (record { own = λ t is. tt; log = tt; unfilled = tt }, (record { own = λ t is. tt; log = tt; unfilled = tt }, (record { own = λ t is. tt; log = tt; unfilled = tt }, (record { own = λ t is. tt; log = tt; unfilled = tt }, (record { own = λ t is. window_over (at_commit 12 13 1) t 38 38 13 first_over; log = tt; unfilled = tt }, (record { own = λ t is. no_window_over (at_commit 13 14 2) t 47 38 38 both_over; log = tt; unfilled = tt }, tt))))))))))))))
+refusals = each_place (λ i l a. HasCause (moment_at InTurn first_opening script all_answers told i l) l.command a) script all_answers (record { own = λ t is. tt; saves = λ t is. tt; log = tt; unfilled = tt }, (record { own = λ t is. tt; saves = λ t is. tt; log = tt; unfilled = tt }, (record { own = λ t is. tt; saves = λ t is. tt; log = tt; unfilled = tt }, (record { own = λ t is. own_window _ t _; saves = λ t is. tt; log = tt; unfilled = tt }, (record { own = λ t is. tt; saves = λ t is. tt; log = tt; unfilled = tt }, (record { own = λ t is. tt; saves = λ t is. tt; log = tt; unfilled = tt }, (record { own = λ t is. tt; saves = λ t is. tt; log = tt; unfilled = tt }, (record { own = λ t is. tt; saves = λ t is. tt; log = tt; unfilled = tt }, (record { own = λ t is. tt; saves = λ t is. tt; log = tt; unfilled = tt }, (record { own = λ t is. tt; saves = λ t is. tt; log = tt; unfilled = tt }, (record { own = λ t is. tt; saves = λ t is. tt; log = tt; unfilled = tt }, (record { own = λ t is. tt; saves = λ t is. tt; log = tt; unfilled = tt }, (record { own = λ t is. window_over (at_commit 12 13 1) t 38 38 13 first_over; saves = λ t is. tt; log = tt; unfilled = tt }, (record { own = λ t is. no_window_over (at_commit 13 14 2) t 47 38 38 both_over; saves = λ t is. tt; log = tt; unfilled = tt }, tt))))))))))))))
 
 -- ---- the serial order
 abbrev report : Report
