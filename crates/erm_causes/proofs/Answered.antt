@@ -20,7 +20,7 @@ use Rattle.erm_world.specs.World.{Finished, IsSession, IsWorking, Session, Stand
 use Rattle.erm_world.specs.World as world
 use Rattle.erm_world.proofs.Lists.{∈-before, ∈-last}
 use Rattle.erm_world.proofs.Works.{is_claimed-push, row_read-push}
-use Rattle.erm_maps.specs.Runs.{IsRunOf}
+use Rattle.erm_maps.specs.Runs.{IsRunOf, Kept, kept_at}
 use Rattle.erm_report.specs.declared.answer.Answer.{Answer}
 use Rattle.erm_script.specs.declared.script.Command.{Command}
 use Rattle.erm_script.specs.Script.{IsInRange}
@@ -31,9 +31,9 @@ use Rattle.erm_lines.specs.Told.{TellsNow}
 use Rattle.erm_causes.specs.Touched.{AreOfTables, Touches, WasClosed}
 use Rattle.erm_causes.proofs.Begun.{CommitsKeep}
 use Rattle.erm_causes.proofs.Coloured.{AskedOf, KeepsTables}
-use Rattle.erm_causes.proofs.Fine.{FineNow, FineOne, FineOver, IsFine, Turned, history_grows, number_told, over_later, still_session, touches_same, turned_then}
+use Rattle.erm_causes.proofs.Fine.{FineAt, FineNow, FineOne, FineOver, IsFine, Turned, history_grows, number_told, over_later, still_session, touches_same, turned_then}
 use Rattle.erm_causes.proofs.Together.{together_one_more}
-use Rattle.erm_causes.proofs.Lines.{CutFine, commits_keep, current_in, cut_fine, names_line, ran_made, stays_keep, turned_by, whole_fine, writes_line}
+use Rattle.erm_causes.proofs.Lines.{CutFine, commits_keep, current_in, cut_fine, names_line, ran_made, stays_keep, still_saved, turned_by, whole_fine, writes_line}
 use Rattle.erm_causes.proofs.Made.{made_by_one, made_done}
 use Rattle.erm_causes.proofs.Operated.{EndsBy, GoesOnBy, Last, Operated, ShutAs}
 use Rattle.erm_causes.proofs.Operated as operated
@@ -95,6 +95,7 @@ module _ (table : ℕ → ℕ) (k : ℕ) (c : Command) (a : Answer) (t : Transac
 pub done_turned : (v t : View) (seat : ℕ) (w : Work) (fate : world.Fate) → IsDone v seat w fate t → Turned v seat t
 done_turned v t seat w fate done = record {
   others = done.others;
+  saves = done.saves.others;
   opening = done.opening;
   more = record { work = w; fate = fate } ∷ [];
   over = ap (λ (s : Session). s.over) done.own;
@@ -149,50 +150,49 @@ shut_closed v t seat w (Excludes (Some stamp) succ pred) more shut = absurd shut
 shut_closed v t seat w Aborts more shut = tt
 
 -- the transaction in progress
-pub record InProgress (table : ℕ → ℕ) (current : Option Transaction) (w : Work) : Type 0 where
+pub record InProgress (table : ℕ → ℕ) (current : Option Transaction) (k : Kept) : Type 0 where
   pub told : Transaction
   pub is : current ≡ Some told
-  pub touches : Touches table told w
-  pub keeps : KeepsTables table w
-  pub steps : List Step
-  pub run : IsRunOf w steps
+  pub fine : FineAt table told k
 
-pub now_active : (table : ℕ → ℕ) (current : Option Transaction) (stand : Stand) → FineNow table current stand → phase_of stand ≡ Active → InProgress table current (work_of stand)
-now_active table None world.idle now active = cc
-now_active table None (world.active w) now active = absurd now
-now_active table None (world.sealed w stamp) now active = absurd now
-now_active table (Some t) world.idle now active = absurd now
-now_active table (Some t) (world.active w) now active = record { told = t; is = refl; touches = now.0; keeps = now.1; steps = now.2.0; run = now.2.1 }
-now_active table (Some t) (world.sealed w stamp) now active = cc
-now_active table None (world.snapshot s) now active = absurd (snapshot_not_active s active)
-now_active table (Some t) (world.snapshot s) now active = absurd now
+pub now_active : (table : ℕ → ℕ) (current : Option Transaction) (held : List (List VersionWritten)) (stand : Stand) → FineNow table current held stand → phase_of stand ≡ Active
+    → InProgress table current (record { work = work_of stand; saves = held })
+now_active table None held world.idle now active = cc
+now_active table None held (world.active w) now active = absurd now
+now_active table None held (world.sealed w stamp) now active = absurd now
+now_active table (Some t) held world.idle now active = absurd now
+now_active table (Some t) held (world.active w) now active = record { told = t; is = refl; fine = now }
+now_active table (Some t) held (world.sealed w stamp) now active = cc
+now_active table None held (world.snapshot s) now active = absurd (snapshot_not_active s active)
+now_active table (Some t) held (world.snapshot s) now active = absurd now
 
 -- a transaction in progress whose line was answered or cut off goes on so
-over_of : (table : ℕ → ℕ) (v u : View) (seat : ℕ) (p : Progress) → Turned v seat u → IsFine table (history_of v) p (v.session seat) → FineOver table (history_of u) p.over (v.session seat).over
+over_of : (table : ℕ → ℕ) (v u : View) (seat : ℕ) (p : Progress) → Turned v seat u → IsFine table (history_of v) p (v.saves seat) (v.session seat) → FineOver table (history_of u) p.over (v.session seat).over
 over_of table v u seat p turned fine = over_later table (history_of v) (history_of u) (history_grows v u seat turned) p.over (v.session seat).over fine.over
 
-goes_on_fine : (table : ℕ → ℕ) (v u : View) (seat : ℕ) (c : Command) (a : Answer) (p : Progress) (t : Transaction) → GoesOnBy a → p.current ≡ Some t → Turned v seat u
-    → (u.session seat).over ≡ (v.session seat).over → IsFine table (history_of v) p (v.session seat) → FineNow table (Some (with_line (Some c) a t)) (u.session seat).stand
-    → IsFine table (history_of u) (heard seat (Some c) a p) (u.session seat)
+pub goes_on_fine : (table : ℕ → ℕ) (v u : View) (seat : ℕ) (c : Command) (a : Answer) (p : Progress) (t : Transaction) → GoesOnBy a → p.current ≡ Some t → Turned v seat u
+    → (u.session seat).over ≡ (v.session seat).over → IsFine table (history_of v) p (v.saves seat) (v.session seat)
+    → FineNow table (Some (with_line (Some c) a t)) (u.saves seat) (u.session seat).stand
+    → IsFine table (history_of u) (heard seat (Some c) a p) (u.saves seat) (u.session seat)
 goes_on_fine table v u seat c a p t hears is turned same fine now =
-    subst (λ (q : Progress). IsFine table (history_of u) q (u.session seat)) (sym (hears seat (Some c) p)) (record {
+    subst (λ (q : Progress). IsFine table (history_of u) q (u.saves seat) (u.session seat)) (sym (hears seat (Some c) p)) (record {
       over = subst (λ (fs : List Finished). FineOver table (history_of u) p.over fs) (sym same) (over_of table v u seat p turned fine);
-      now = subst (λ (r : Option Transaction). FineNow table (option_map (with_line (Some c) a) r) (u.session seat).stand) (sym is) now;
+      now = subst (λ (r : Option Transaction). FineNow table (option_map (with_line (Some c) a) r) (u.saves seat) (u.session seat).stand) (sym is) now;
     })
 
 -- one that ended is over
 ends_fine : (table : ℕ → ℕ) (v u : View) (seat : ℕ) (c : Command) (a : Answer) (p : Progress) (t : Transaction) (ending : Ending) (w : Work) → EndsBy a ending → p.current ≡ Some t
     → Turned v seat u → u.session seat ≡ record { over = (v.session seat).over ++ record { work = w; fate = world.aborts } ∷ []; stand = world.idle }
-    → IsFine table (history_of v) p (v.session seat) → t.number ≡ w.number → Touches table (with_line (Some c) a t) w → WasClosed (history_of u) ending w
-    → IsFine table (history_of u) (heard seat (Some c) a p) (u.session seat)
+    → IsFine table (history_of v) p (v.saves seat) (v.session seat) → t.number ≡ w.number → Touches table (with_line (Some c) a t) w → WasClosed (history_of u) ending w
+    → IsFine table (history_of u) (heard seat (Some c) a p) (u.saves seat) (u.session seat)
 ends_fine table v u seat c a p t ending w hears is turned done fine number touches closed =
     let one : FineOne table (history_of u) (with_ending ending (with_line (Some c) a t)) (record { work = w; fate = world.aborts }) = record {
       one = record { touches = touches_same table (with_line (Some c) a t) (with_ending ending (with_line (Some c) a t)) w refl touches; closed = closed };
       keeps = λ stamp at. cc;
     } in
     let over = together_one_more (FineOne table (history_of u)) p.over (v.session seat).over (with_ending ending (with_line (Some c) a t)) (record { work = w; fate = world.aborts }) (over_of table v u seat p turned fine) number one in
-    subst (λ (q : Progress). IsFine table (history_of u) q (u.session seat)) (sym (hears seat (Some c) p))
-    (subst (λ (s : Session). IsFine table (history_of u) (ended ending (goes_on (Some c) a p)) s) (sym done) (record {
+    subst (λ (q : Progress). IsFine table (history_of u) q (u.saves seat) (u.session seat)) (sym (hears seat (Some c) p))
+    (subst (λ (s : Session). IsFine table (history_of u) (ended ending (goes_on (Some c) a p)) (u.saves seat) s) (sym done) (record {
       over = subst (λ (r : Option Transaction). FineOver table (history_of u) (p.over ++ option_to_list (option_map (with_ending ending) (option_map (with_line (Some c) a) r)))
           ((v.session seat).over ++ record { work = w; fate = world.aborts } ∷ [])) (sym is) over;
       now = tt;
@@ -200,9 +200,9 @@ ends_fine table v u seat c a p t ending w hears is turned done fine number touch
 
 module _ (tree : TreeLaws) (laws : HistoryLaws) (table : ℕ → ℕ) (v u : View) (seat : ℕ) (c : Command) (a : Answer) (k : ℕ) (session : IsSession v seat) (active : phase_at v seat ≡ Active)
     (named : table_of c ≡ Some k) (range : IsInRange c) (holds : IsSerializable sound_law u) (opened : AreOfTables table u.opening.rows) (keep : CommitsKeep table v)
-    (made : (x : ℕ) → world.made_by_all v x < world.made_by_all u x → table x ≡ k) (p : Progress) (fine : IsFine table (history_of v) p (v.session seat)) where
-  abbrev now : InProgress table p.current (work_at v seat)
-  now = now_active table p.current (v.session seat).stand fine.now active
+    (made : (x : ℕ) → world.made_by_all v x < world.made_by_all u x → table x ≡ k) (p : Progress) (fine : IsFine table (history_of v) p (v.saves seat) (v.session seat)) where
+  abbrev now : InProgress table p.current (kept_at v seat)
+  now = now_active table p.current (v.saves seat) (v.session seat).stand fine.now active
 
   -- where it goes on, all is as its calls left it
   pub stayed_fine : (why : RowStop) (did : WereCutOff v seat (FrontOf c) (AsksOf c) why u) → u ≡ did.at
@@ -211,7 +211,7 @@ module _ (tree : TreeLaws) (laws : HistoryLaws) (table : ℕ → ℕ) (v u : Vie
       let gone = ran sound_law did.events v did.at seat active did.ran in
       let same : u.session seat ≡ did.at.session seat = ap (λ (x : View). x.session seat) is in
       let stand : (u.session seat).stand ≡ world.active (work_at did.at seat) = ap (λ (s : Session). s.stand) same ∙ gone.0.stand in
-      cut_fine tree laws table v u seat c a k session active named range holds opened keep made now.told now.touches now.keeps now.steps now.run why did (work_at did.at seat)
+      cut_fine tree laws table v u seat c a k session active named range holds opened keep made now.told now.fine why did (work_at did.at seat)
       (inr (current_in (u.session seat).stand (work_at did.at seat) stand)) (λ rows fits. fits) (ap (λ (x : View). x.opening) is ∙ gone.0.opening)
       (λ x. ap (λ (y : View). world.made_by_all y x) is)
       (subst (λ (x : View). CommitsKeep table x) (sym is) (stays_keep table v did.at seat gone.0 keep))
@@ -225,7 +225,7 @@ module _ (tree : TreeLaws) (laws : HistoryLaws) (table : ℕ → ℕ) (v u : Vie
       let over : (u.session seat).over ≡ (did.at.session seat).over ++ record { work = w; fate = world.aborts } ∷ [] = ap (λ (s : Session). s.over) done.own in
       let within : record { work = w; fate = world.aborts } ∈ (u.session seat).over =
       subst (λ (fs : List Finished). record { work = w; fate = world.aborts } ∈ fs) (sym over) (∈-last (did.at.session seat).over (record { work = w; fate = world.aborts })) in
-      cut_fine tree laws table v u seat c a k session active named range holds opened keep made now.told now.touches now.keeps now.steps now.run why did w
+      cut_fine tree laws table v u seat c a k session active named range holds opened keep made now.told now.fine why did w
       (inl (record { work = w; fate = world.aborts }, within, refl)) (last_fitted did.asked (work_at did.at seat) w last) (done.opening ∙ gone.0.opening)
       (last_made_by_all did.at u seat did.asked w (still_session v did.at seat gone.0.opening session) last done)
       (commits_keep table did.at u seat (done_turned did.at u seat w world.aborts done) (λ f stamp more is. none_sealed w f stamp more is) (stays_keep table v did.at seat gone.0 keep))
@@ -240,19 +240,26 @@ module _ (tree : TreeLaws) (laws : HistoryLaws) (table : ℕ → ℕ) (v u : Vie
       number_told seat p.current (v.session seat).stand (work_at v seat) now.told tells
       (subst (λ (at : Stand). IsWorking at (work_at v seat)) (sym (active_with (v.session seat).stand active)) refl) now.is
 
-  pub operated_fine : TellsNow seat p.current (v.session seat).stand → Operated v seat c a u → IsFine table (history_of u) (heard seat (Some c) a p) (u.session seat)
+  pub operated_fine : TellsNow seat p.current (v.session seat).stand → Operated v seat c a u → IsFine table (history_of u) (heard seat (Some c) a p) (u.saves seat) (u.session seat)
   operated_fine tells (operated.whole steps did hears) =
       let gone = ran sound_law did.events v u seat active did.ran in
       goes_on_fine table v u seat c a p now.told hears now.is (turned_by v u seat gone.0) gone.0.over fine
-      (whole_fine tree laws table v u seat c a k session active named range holds opened keep made now.told now.touches now.keeps now.steps now.run steps did)
+      (whole_fine tree laws table v u seat c a k session active named range holds opened keep made now.told now.fine steps did)
   operated_fine tells (operated.stayed why did is stays hears) =
       let gone = ran sound_law did.events v did.at seat active did.ran in
       let same : u.session seat ≡ did.at.session seat = ap (λ (x : View). x.session seat) is in
       let at = stayed_fine why did is in
       let stand : (u.session seat).stand ≡ world.active (work_at did.at seat) = ap (λ (s : Session). s.stand) same ∙ gone.0.stand in
-      let run : IsRunOf (work_at did.at seat) now.steps = subst (λ (x : View). IsRunOf (work_at x seat) now.steps) is (did.run stays now.steps now.run) in
+      let run : IsRunOf (kept_at did.at seat) now.fine.steps = subst (λ (x : View). IsRunOf (kept_at x seat) now.fine.steps) is (did.run stays now.fine.steps now.fine.run) in
       goes_on_fine table v u seat c a p now.told hears now.is (same_turned v did.at u seat is (turned_by v did.at seat gone.0)) (ap (λ (s : Session). s.over) same ∙ gone.0.over) fine
-      (subst (λ (at_stand : Stand). FineNow table (Some (with_line (Some c) a now.told)) at_stand) (sym stand) (at.touches, at.keeps, (now.steps, run)))
+      (subst (λ (held : List (List VersionWritten)). FineNow table (Some (with_line (Some c) a now.told)) held (u.session seat).stand) (sym (ap (λ (x : View). x.saves seat) is))
+      (subst (λ (at_stand : Stand). FineNow table (Some (with_line (Some c) a now.told)) (did.at.saves seat) at_stand) (sym stand) (record {
+        touches = at.touches;
+        keeps = at.keeps;
+        saved = still_saved table v did.at seat gone.0 now.fine.saved;
+        steps = now.fine.steps;
+        run = run;
+      })))
   operated_fine tells (operated.out why did w ending last done shut hears) =
       let gone = ran sound_law did.events v did.at seat active did.ran in
       let at = out_fine why did w last done in

@@ -1,19 +1,24 @@
 -- A session's transactions touch objects of their lines' tables: what is kept of this by each move.
-use Rattle.std.proofs.Common.{◌≡◌, ◌≢◌, ℕ, ◌<◌, ◌≤◌, List, ◌++◌, Option, Some, None, append_assoc, inl, inr, sym, ap, ◌∙◌, subst, ⊎_elim}
+use Rattle.std.proofs.Common.{◌≡◌, ◌≢◌, ℕ, ◌<◌, ◌≤◌, List, [], ◌++◌, Option, Some, None, append_assoc, inl, inr, sym, ap, ◌∙◌, subst, ⊎_elim}
+use Rattle.std.specs.List.{slice_get}
 use Rattle.std.proofs.lemmas.Bool.{cases_eq}
 use Rattle.erm_model.specs.declared.history.TransactionRecord.{TransactionRecord}
+use Rattle.erm_model.specs.declared.history.VersionWritten.{VersionWritten}
 use Rattle.erm_model.specs.History.{History}
 use Rattle.erm_model.specs.Member.{◌∈◌}
 use Rattle.erm_model.specs.Run.{Step}
 use Rattle.erm_machine.proofs.Listed.{∈-first}
+use Rattle.erm_world.specs.Going.{Extends}
 use Rattle.erm_world.specs.Laws.{IsCommitOf}
+use Rattle.erm_world.specs.Saves.{with_claims}
 use Rattle.erm_world.specs.World.{Fate, Finished, IsSession, IsWorking, Session, Stand, View, Work, history_of, stamp_of}
 use Rattle.erm_world.specs.World as world
 use Rattle.erm_world.proofs.Commits.{tells_commits}
-use Rattle.erm_maps.specs.Runs.{IsRunOf}
+use Rattle.erm_maps.specs.Runs.{IsRunOf, Kept}
 use Rattle.erm_good_report.specs.Causes.{NamesTable, WritesTable}
 use Rattle.erm_good_report.specs.Transactions.{Ending, Excludes, Exchange, Progress, Transaction}
 use Rattle.erm_lines.specs.Told.{TellsNow}
+use Rattle.erm_lines.proofs.Backs.{fits_with}
 use Rattle.erm_causes.specs.Touched.{Together, Touches, TouchesAll, TouchesNow, TouchesOne, TouchesOver, WasClosed}
 use Rattle.erm_causes.proofs.Coloured.{KeepsTables}
 use Rattle.erm_causes.proofs.Together.{together_as, together_over}
@@ -26,17 +31,37 @@ pub record FineOne (table : ℕ → ℕ) (h : History) (t : Transaction) (f : Fi
 abbrev pub FineOver : (ℕ → ℕ) → History → List Transaction → List Finished → Type 0
 FineOver table h ts fs = Together (FineOne table h) ts fs
 
--- one in progress touches so, keeps to its tables, and is the run of some operations where it isn't sealed
-abbrev pub FineNow : (ℕ → ℕ) → Option Transaction → Stand → Type 0
-FineNow table None world.idle = Unit {0}
-FineNow table None (world.snapshot x) = Unit {0}
-FineNow table (Some t) (world.active w) = Touches table t w × KeepsTables table w × ((steps : List Step) × IsRunOf w steps)
-FineNow table (Some t) (world.sealed w stamp) = Touches table t w × KeepsTables table w
-FineNow table current stand = ⊥
+-- were it back at any of its savepoints, it would keep to its tables too
+abbrev pub KeepsSaved : (ℕ → ℕ) → Kept → Type 0
+KeepsSaved table k = (j : ℕ) (saved : List VersionWritten) → slice_get k.saves j ≡ Some saved → KeepsTables table (with_claims saved k.work)
 
-pub record IsFine (table : ℕ → ℕ) (h : History) (p : Progress) (s : Session) : Type 0 where
+-- one that isn't sealed, with its savepoints, touches so, keeps to its tables, and is the run of some operations
+pub record FineAt (table : ℕ → ℕ) (t : Transaction) (k : Kept) : Type 0 where
+  pub touches : Touches table t k.work
+  pub keeps : KeepsTables table k.work
+  pub saved : KeepsSaved table k
+  pub steps : List Step
+  pub run : IsRunOf k steps
+
+-- one in progress, with the savepoints that its session holds; one that is sealed has none that count
+abbrev pub FineNow : (ℕ → ℕ) → Option Transaction → List (List VersionWritten) → Stand → Type 0
+FineNow table None held world.idle = Unit {0}
+FineNow table None held (world.snapshot x) = Unit {0}
+FineNow table (Some t) held (world.active w) = FineAt table t (record { work = w; saves = held })
+FineNow table (Some t) held (world.sealed w stamp) = Touches table t w × KeepsTables table w
+FineNow table current held stand = ⊥
+
+pub record IsFine (table : ℕ → ℕ) (h : History) (p : Progress) (held : List (List VersionWritten)) (s : Session) : Type 0 where
   pub over : FineOver table h p.over s.over
-  pub now : FineNow table p.current s.stand
+  pub now : FineNow table p.current held s.stand
+
+-- A transaction that goes on keeps so at its savepoints, and one that has none does.
+pub saved_more : (table : ℕ → ℕ) (w u : Work) (held : List (List VersionWritten)) → Extends w u → KeepsSaved table (record { work = w; saves = held })
+    → KeepsSaved table (record { work = u; saves = held })
+saved_more table w u held more keeps j saved at rows sound fits are = keeps j saved at rows sound (fits_with saved w u more rows fits) are
+
+pub saved_none : (table : ℕ → ℕ) (w : Work) → KeepsSaved table (record { work = w; saves = [] })
+saved_none table w j saved at = absurd (cc)
 
 -- LINES. What touches so does with more lines.
 pub names_more : (t u : Transaction) (k : ℕ) → ((e : Exchange) → e ∈ t.lines → e ∈ u.lines) → NamesTable t k → NamesTable u k
@@ -83,8 +108,8 @@ over_later table h g more ts fs fine =
 pub stampless : (fate : Fate) (stamp : ℕ) (P : Type 0) → fate ≡ world.aborts → stamp_of fate ≡ Some stamp → P
 stampless fate stamp P aborts is = let no : None ≡ Some stamp = sym (ap stamp_of aborts) ∙ is in absurd (cc)
 
-pub over_keeps : (table : ℕ → ℕ) (h : History) (p : Progress) (s : Session) → IsFine table h p s → (f : Finished) (stamp : ℕ) → f ∈ s.over → stamp_of f.fate ≡ Some stamp → KeepsTables table f.work
-over_keeps table h p s fine f stamp within is =
+pub over_keeps : (table : ℕ → ℕ) (h : History) (p : Progress) (held : List (List VersionWritten)) (s : Session) → IsFine table h p held s → (f : Finished) (stamp : ℕ) → f ∈ s.over → stamp_of f.fate ≡ Some stamp → KeepsTables table f.work
+over_keeps table h p held s fine f stamp within is =
     ⊎_elim (λ (found : (t : Transaction) × (t ∈ p.over) × FineOne table h t f). found.2.keeps stamp is)
     (λ (aborts : f.fate ≡ world.aborts). stampless f.fate stamp (KeepsTables table f.work) aborts is)
     (together_over (FineOne table h) p.over s.over f fine.over within)
@@ -93,18 +118,18 @@ over_keeps table h p s fine f stamp within is =
 over_touches : (table : ℕ → ℕ) (h : History) (ts : List Transaction) (fs : List Finished) → FineOver table h ts fs → TouchesOver table h ts fs
 over_touches table h ts fs fine = together_as (FineOne table h) (TouchesOne table h) (λ t f one. one.one) ts fs fine
 
-now_touches : (table : ℕ → ℕ) (current : Option Transaction) (stand : Stand) → FineNow table current stand → TouchesNow table current stand
-now_touches table None world.idle now = tt
-now_touches table None (world.active w) now = absurd now
-now_touches table None (world.sealed w stamp) now = absurd now
-now_touches table (Some t) world.idle now = absurd now
-now_touches table (Some t) (world.active w) now = now.0
-now_touches table (Some t) (world.sealed w stamp) now = now.0
-now_touches table None (world.snapshot s) now = tt
-now_touches table (Some t) (world.snapshot s) now = absurd now
+now_touches : (table : ℕ → ℕ) (current : Option Transaction) (held : List (List VersionWritten)) (stand : Stand) → FineNow table current held stand → TouchesNow table current stand
+now_touches table None held world.idle now = tt
+now_touches table None held (world.active w) now = absurd now
+now_touches table None held (world.sealed w stamp) now = absurd now
+now_touches table (Some t) held world.idle now = absurd now
+now_touches table (Some t) held (world.active w) now = now.touches
+now_touches table (Some t) held (world.sealed w stamp) now = now.0
+now_touches table None held (world.snapshot s) now = tt
+now_touches table (Some t) held (world.snapshot s) now = absurd now
 
-pub fine_touches : (table : ℕ → ℕ) (h : History) (p : Progress) (s : Session) → IsFine table h p s → TouchesAll table h p s
-fine_touches table h p s fine = record { over = over_touches table h p.over s.over fine.over; now = now_touches table p.current s.stand fine.now }
+pub fine_touches : (table : ℕ → ℕ) (h : History) (p : Progress) (held : List (List VersionWritten)) (s : Session) → IsFine table h p held s → TouchesAll table h p s
+fine_touches table h p held s fine = record { over = over_touches table h p.over s.over fine.over; now = now_touches table p.current held s.stand fine.now }
 
 -- NUMBERS. The transaction in progress is told with its own.
 pub number_told : (seat : ℕ) (current : Option Transaction) (stand : Stand) (w : Work) (t : Transaction) → TellsNow seat current stand → IsWorking stand w → current ≡ Some t → t.number ≡ w.number
@@ -119,6 +144,7 @@ number_told seat (Some u) (world.snapshot s) w t tells works is = absurd works
 -- HISTORIES. One session goes on: what was over stays, with more behind.
 pub record Turned (v : View) (seat : ℕ) (t : View) : Type 0 where
   pub others : (q : ℕ) → q ≢ seat → t.session q ≡ v.session q
+  pub saves : (q : ℕ) → q ≢ seat → t.saves q ≡ v.saves q
   pub opening : t.opening ≡ v.opening
   pub more : List Finished
   pub over : (t.session seat).over ≡ (v.session seat).over ++ more
@@ -152,6 +178,7 @@ history_grows v t seat turned r within =
 pub turned_then : (v u t : View) (seat : ℕ) → Turned v seat u → Turned u seat t → Turned v seat t
 turned_then v u t seat first second = record {
   others = λ q another. second.others q another ∙ first.others q another;
+  saves = λ q another. second.saves q another ∙ first.saves q another;
   opening = second.opening ∙ first.opening;
   more = first.more ++ second.more;
   over = second.over ∙ ap (λ (fs : List Finished). fs ++ second.more) first.over ∙ append_assoc (v.session seat).over first.more second.more;

@@ -22,6 +22,7 @@ use Rattle.erm_causes.proofs.Operated.{Operated}
 use Rattle.erm_causes.proofs.Operated as operated
 use Rattle.erm_causes.proofs.Quiet.{Lined, Quiet, lined}
 use Rattle.erm_causes.proofs.Quiet as quiet
+use Rattle.erm_causes.proofs.Saved.{saves_of}
 use Rattle.erm_causes.proofs.Snapshots.{Watches}
 use Rattle.erm_causes.proofs.Snapshots as snapshots
 use Rattle.erm_causes.proofs.Waits.{allowed}
@@ -53,6 +54,7 @@ lined_flushed : (v t : View) (seat : ℕ) (c : Command) (a : Answer) → Lined v
 lined_flushed v t seat c a (quiet.quiet did) = quiet_flushed v seat (Some c) a t did
 lined_flushed v t seat c a (quiet.sealed_first stamp between active sealed did) = quiet_flushed between seat (Some c) a t did ∙ sealed.flushed
 lined_flushed v t seat c a (quiet.named k names active did) = operated_flushed v t seat c a active did
+lined_flushed v t seat c a (quiet.at_savepoint none active did hears) = (saves_of v t seat did).flushed
 
 -- no line of a session tells a flush
 no_flush : (v t : View) (seat : ℕ) (a : Answer) → DidIn (phase_at v seat) v seat command.Flush a t → ⊥

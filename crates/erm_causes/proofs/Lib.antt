@@ -10,6 +10,7 @@ pub mod Early
 pub mod Ended
 pub mod Fine
 pub mod Flushed
+pub mod Held
 pub mod Lines
 pub mod Logged
 pub mod Made
@@ -25,6 +26,7 @@ pub mod Refused
 pub mod Refusals
 pub mod Runs
 pub mod Safe
+pub mod Saved
 pub mod Shown
 pub mod Snapshots
 pub mod Tables

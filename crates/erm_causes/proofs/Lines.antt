@@ -1,6 +1,7 @@
 -- A line that names a table: what its calls touch is of that table.
-use Rattle.std.proofs.Common.{◌≡◌, ℕ, ◌+◌, ◌<◌, ◌≤◌, true, List, [], ◌++◌, Option, Some, sum_by, append-nil, inl, inr, refl, sym, ap, ◌∙◌, subst, arith}
-use Rattle.std.specs.Option.{option_map, option_to_list}
+use Rattle.std.proofs.Common.{◌≡◌, ℕ, ◌+◌, ◌<◌, ◌≤◌, Bool, true, cond, List, [], ◌++◌, Option, Some, None, sum_by, append-nil, inl, inr, refl, sym, ap, ◌∙◌, subst, arith}
+use Rattle.std.specs.Option.{option_to_list}
+use Rattle.erm_model.specs.declared.history.VersionWritten.{VersionWritten}
 use Rattle.erm_model.specs.declared.limits.TheConstants.{TABLES}
 use Rattle.erm_model.specs.declared.outcome.Phase.TheVariants.{Active}
 use Rattle.erm_model.specs.declared.row_stop.RowStop.{RowStop}
@@ -18,27 +19,38 @@ use Rattle.erm_world.specs.World as world
 use Rattle.std.proofs.lemmas.Bool.{cases_eq}
 use Rattle.erm_model.proofs.Members.{none_in_nil}
 use Rattle.erm_world.proofs.Lists.{∈-before, ∈-last, ∈-parts}
-use Rattle.erm_maps.specs.Runs.{IsRunOf}
+use Rattle.erm_maps.specs.Runs.{IsRunOf, kept_at}
 use Rattle.erm_report.specs.declared.answer.Answer.{Answer}
 use Rattle.erm_script.specs.declared.script.Command.{Command}
+use Rattle.erm_script.specs.declared.script.Command.TheVariants as command
 use Rattle.erm_script.specs.Script.{IsInRange}
 use Rattle.erm_good_report.specs.Causes.{NamesTable, WritesTable}
-use Rattle.erm_good_report.specs.Transactions.{Exchange, Transaction, is_writer, table_of, with_line}
+use Rattle.erm_good_report.specs.Transactions.{Exchange, Transaction, is_writer, table_of, with_line, works_on_map}
 use Rattle.erm_lines.specs.Operations.{AsksOf, DidCalls, FrontOf, WereCutOff, WholeOf}
 use Rattle.erm_causes.specs.Touched.{AreOfTables, Touches}
 use Rattle.erm_causes.proofs.Begun.{BeganOn, CommitsKeep, began_on}
 use Rattle.erm_causes.proofs.Coloured.{AskedOf, KeepsTables, after_events, agrees_with, asked_of, claims_of, reads_of}
-use Rattle.erm_causes.proofs.Fine.{FineNow, Turned, names_more, still_session, writes_more}
+use Rattle.erm_causes.proofs.Fine.{FineAt, FineNow, KeepsSaved, Turned, names_more, saved_more, still_session, writes_more}
 use Rattle.erm_causes.proofs.Made.{made_by_one, made_within}
 use Rattle.erm_causes.proofs.Own.{StaysIn, TreeLaws, asks_stay, asks_write, front_stays, front_writes, table_below, whole_stays, whole_writes}
 use Rattle.erm_told_limits.proofs.Ran.{MovesAll, Stays, ran}
 use Rattle.erm_told_limits.proofs.Given.{HistoryLaws}
 
+-- a command that names a table works on the map
+pub named_works : (c : Command) (k : ℕ) → table_of c ≡ Some k → works_on_map c ≡ true
+named_works (command.Get table key) k named = refl
+named_works (command.Put table key value) k named = refl
+named_works (command.Del table key) k named = refl
+named_works (command.Next table from) k named = refl
+named_works (command.Scan table low high) k named = refl
+named_works (command.Tidy table key) k named = refl
+named_works c k named = absurd (cc)
+
 -- LINES. A line that names a table is one of its transaction's, behind the earlier ones.
 pub line_in : (c : Command) (a : Answer) (t : Transaction) (k : ℕ) → table_of c ≡ Some k → record { asked = c; answer = a } ∈ (with_line (Some c) a t).lines
 line_in c a t k named =
-    subst (λ (r : Option ℕ). record { asked = c; answer = a } ∈ (t.lines ++ option_to_list (option_map (λ (table : ℕ). record { asked = c; answer = a }) r))) (sym named)
-    (∈-last t.lines (record { asked = c; answer = a }))
+    let it : Exchange = record { asked = c; answer = a } in
+    subst (λ (b : Bool). it ∈ (t.lines ++ option_to_list (cond b (Some it) None))) (sym (named_works c k named)) (∈-last t.lines it)
 
 pub lines_before : (c : Command) (a : Answer) (t : Transaction) (e : Exchange) → e ∈ t.lines → e ∈ (with_line (Some c) a t).lines
 lines_before c a t e within = ∈-before t.lines _ e within
@@ -92,7 +104,13 @@ pub made_at_once : (t : View) (seat x : ℕ) → IsSession t seat → world.made
 made_at_once t seat x session once = omega (arith, made_within t.opening.sessions t.session seat x session.0 session.1, once)
 
 pub turned_by : (v t : View) (seat : ℕ) → Stays v seat t → Turned v seat t
-turned_by v t seat stays = record { others = stays.others; opening = stays.opening; more = []; over = stays.over ∙ sym (append-nil (v.session seat).over) }
+turned_by v t seat stays = record { others = stays.others; saves = stays.saves; opening = stays.opening; more = []; over = stays.over ∙ sym (append-nil (v.session seat).over) }
+
+-- and were it back at a savepoint it would keep to its tables still
+pub still_saved : (table : ℕ → ℕ) (v t : View) (seat : ℕ) → Stays v seat t → KeepsSaved table (kept_at v seat) → KeepsSaved table (kept_at t seat)
+still_saved table v t seat stays keeps =
+    subst (λ (held : List (List VersionWritten)). KeepsSaved table (record { work = work_at t seat; saves = held })) (sym stays.held)
+    (saved_more table (work_at v seat) (work_at t seat) (v.saves seat) stays.more keeps)
 
 -- what is sealed keeps to its tables still
 pub commits_keep : (table : ℕ → ℕ) (v t : View) (seat : ℕ) (turned : Turned v seat t) → ((f : Finished) (stamp : ℕ) → f ∈ turned.more → stamp_of f.fate ≡ Some stamp → KeepsTables table f.work)
@@ -160,9 +178,8 @@ module _ (tree : TreeLaws) (table : ℕ → ℕ) (w u : Work) (events : List Eve
 -- a line that was answered leaves its transaction so
 module _ (tree : TreeLaws) (laws : HistoryLaws) (table : ℕ → ℕ) (v u : View) (seat : ℕ) (c : Command) (a : Answer) (k : ℕ) (session : IsSession v seat) (active : phase_at v seat ≡ Active)
     (named : table_of c ≡ Some k) (range : IsInRange c) (holds : IsSerializable sound_law u) (opened : AreOfTables table u.opening.rows) (keep : CommitsKeep table v)
-    (made : (x : ℕ) → world.made_by_all v x < world.made_by_all u x → table x ≡ k) (t : Transaction) (touches : Touches table t (work_at v seat)) (keeps : KeepsTables table (work_at v seat))
-    (before : List Step) (run : IsRunOf (work_at v seat) before) where
-  pub whole_fine : (steps : List Step) → DidCalls v seat steps (WholeOf c a) u → FineNow table (Some (with_line (Some c) a t)) (u.session seat).stand
+    (made : (x : ℕ) → world.made_by_all v x < world.made_by_all u x → table x ≡ k) (t : Transaction) (was : FineAt table t (kept_at v seat)) where
+  pub whole_fine : (steps : List Step) → DidCalls v seat steps (WholeOf c a) u → FineNow table (Some (with_line (Some c) a t)) (u.saves seat) (u.session seat).stand
   whole_fine steps did =
       let gone = ran sound_law did.events v u seat active did.ran in
       let in_u = still_session v u seat gone.0.opening session in
@@ -170,8 +187,14 @@ module _ (tree : TreeLaws) (laws : HistoryLaws) (table : ℕ → ℕ) (v u : Vie
       let made_here : (x : ℕ) → 0 < made_by_all did.events x → table x ≡ k = λ x some. made x (omega (arith, ran_made v u seat did.events session gone.0 gone.1 x, some)) in
       let began = began_on laws table u holds opened (stays_keep table v u seat gone.0 keep) seat (work_at u seat) in_u
       (inr (current_in (u.session seat).stand (work_at u seat) gone.0.stand)) in
-      let fine = whole_work tree table (work_at v seat) (work_at u seat) did.events gone.1 once c a k named range made_here t touches keeps run.lawful began did.of in
-      subst (λ (stand : Stand). FineNow table (Some (with_line (Some c) a t)) stand) (sym gone.0.stand) (fine.0, fine.1, (before ++ steps, did.run before run))
+      let fine = whole_work tree table (work_at v seat) (work_at u seat) did.events gone.1 once c a k named range made_here t was.touches was.keeps was.run.lawful began did.of in
+      subst (λ (stand : Stand). FineNow table (Some (with_line (Some c) a t)) (u.saves seat) stand) (sym gone.0.stand) (record {
+        touches = fine.0;
+        keeps = fine.1;
+        saved = still_saved table v u seat gone.0 was.saved;
+        steps = was.steps ++ steps;
+        run = did.run was.steps was.run;
+      })
 
   module _ (stop : RowStop) (did : WereCutOff v seat (FrontOf c) (AsksOf c) stop u) (w : Work) (has : Has u seat w) (fitted : (rows : Rows) → FitsWork sound_law w rows → FitsWork sound_law (work_at did.at seat) rows)
       (opening : u.opening ≡ v.opening) (same : (x : ℕ) → world.made_by_all u x ≡ world.made_by_all did.at x) (keep_after : CommitsKeep table u) where
@@ -183,4 +206,4 @@ module _ (tree : TreeLaws) (laws : HistoryLaws) (table : ℕ → ℕ) (v u : Vie
         let made_here : (x : ℕ) → 0 < made_by_all did.events x → table x ≡ k = λ x some. made x (omega (arith, ran_made v did.at seat did.events session gone.0 gone.1 x, some, same x)) in
         let last = began_on laws table u holds opened keep_after seat w (still_session v u seat opening session) has in
         let began : BeganOn table (work_at did.at seat) = record { rows = last.rows; sound = last.sound; fits = fitted last.rows last.fits; are = last.are } in
-        cut_work tree table (work_at v seat) (work_at did.at seat) did.events gone.1 once c a k named range made_here t touches keeps run.lawful began did.asked did.none did.of did.asks_so
+        cut_work tree table (work_at v seat) (work_at did.at seat) did.events gone.1 once c a k named range made_here t was.touches was.keeps was.run.lawful began did.asked did.none did.of did.asks_so

@@ -1,5 +1,6 @@
 -- The world in which a line of a run was run, and what was told of it by then.
 use Rattle.std.proofs.Common.{◌≡◌, ℕ, zero, suc, ◌<◌, true, List, [], ◌∷◌, ◌++◌, Option, Some, None, take, slice_get, refl, sym, ap, ◌∙◌, subst}
+use Rattle.erm_model.specs.declared.history.VersionWritten.{VersionWritten}
 use Rattle.erm_node.specs.Sound.{sound_law}
 use Rattle.erm_report.specs.declared.answer.Answer.{Answer}
 use Rattle.erm_script.specs.declared.script.ScriptLine.{ScriptLine}
@@ -71,16 +72,16 @@ pub record NowTold (table : ℕ → ℕ) (seat : ℕ) (current : Option Transact
   pub tells : TellsCurrent seat told w
   pub touches : Touches table told w
 
-pub now_told : (table : ℕ → ℕ) (seat : ℕ) (current : Option Transaction) (stand : Stand) (w : Work) → TellsNow seat current stand → FineNow table current stand → IsWorking stand w
-    → NowTold table seat current w
-now_told table seat current world.idle w tells fine is = absurd is
-now_told table seat None (world.active u) w tells fine is = absurd tells
-now_told table seat None (world.sealed u stamp) w tells fine is = absurd tells
-now_told table seat (Some t) (world.active u) w tells fine is =
+pub now_told : (table : ℕ → ℕ) (seat : ℕ) (current : Option Transaction) (held : List (List VersionWritten)) (stand : Stand) (w : Work) → TellsNow seat current stand
+    → FineNow table current held stand → IsWorking stand w → NowTold table seat current w
+now_told table seat current held world.idle w tells fine is = absurd is
+now_told table seat None held (world.active u) w tells fine is = absurd tells
+now_told table seat None held (world.sealed u stamp) w tells fine is = absurd tells
+now_told table seat (Some t) held (world.active u) w tells fine is =
+    subst (λ (x : Work). NowTold table seat (Some t) x) is (record { told = t; is = refl; tells = tells.0; touches = fine.touches })
+now_told table seat (Some t) held (world.sealed u stamp) w tells fine is =
     subst (λ (x : Work). NowTold table seat (Some t) x) is (record { told = t; is = refl; tells = tells.0; touches = fine.0 })
-now_told table seat (Some t) (world.sealed u stamp) w tells fine is =
-    subst (λ (x : Work). NowTold table seat (Some t) x) is (record { told = t; is = refl; tells = tells.0; touches = fine.0 })
-now_told table seat current (world.snapshot s) w tells fine is = absurd is
+now_told table seat current held (world.snapshot s) w tells fine is = absurd is
 
 pub current_of_sealed : (stand : Stand) (w : Work) (stamp : ℕ) → stand ≡ world.sealed w stamp → IsWorking stand w
 current_of_sealed stand w stamp is = subst (λ (at : Stand). IsWorking at w) (sym is) refl

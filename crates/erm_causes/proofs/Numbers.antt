@@ -30,6 +30,7 @@ use Rattle.erm_causes.proofs.Operated.{Operated}
 use Rattle.erm_causes.proofs.Operated as operated
 use Rattle.erm_causes.proofs.Quiet.{HasNow, Lined, Quiet, closed_quiet, lined}
 use Rattle.erm_causes.proofs.Quiet as quiet
+use Rattle.erm_causes.proofs.Saved.{saves_of}
 use Rattle.erm_causes.proofs.Snapshots.{Starts, Watches}
 use Rattle.erm_causes.proofs.Snapshots as snapshots
 
@@ -132,6 +133,7 @@ lined_takes v t seat c a (quiet.quiet did) = quiet_takes v seat (Some c) a t did
 lined_takes v t seat c a (quiet.sealed_first stamp between active sealed did) =
     takes_behind v between t seat (ap (λ (s : Session). s.over) sealed.own) (active_some v seat active) (quiet_takes between seat (Some c) a t did)
 lined_takes v t seat c a (quiet.named k names active did) = operated_takes v t seat c a active did
+lined_takes v t seat c a (quiet.at_savepoint none active did hears) = goes_on v t seat (saves_of v t seat did).over (inl (active_some v seat active))
 
 -- ALL SESSIONS.
 pub record Taken (n : ℕ) (v : View) : Type 0 where

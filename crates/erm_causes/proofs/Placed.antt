@@ -26,8 +26,10 @@ use Rattle.erm_lines.specs.Executions.{DidLog, DidLogLine, DidMove, FlushesTo, I
 use Rattle.erm_lines.specs.Operations.{Ran}
 use Rattle.erm_lines.proofs.Moved.{active_where, asked_still, moved}
 use Rattle.erm_told.proofs.Lines.{in_either}
+use Rattle.erm_causes.proofs.Saved.{AtSavepoint, asked_back, asked_save, saves_of}
 use Rattle.erm_causes.proofs.Snapshots.{Watches, line_watches, starts_watches}
 use Rattle.erm_causes.proofs.Snapshots as snapshots
+use Rattle.erm_told_limits.proofs.Ran.{active_with}
 
 -- The blocks of the transactions that are sealed lie in the log one behind another, up to its end. The place that is flushed lies within none of
 -- them, and what isn't decided is at or behind it.
@@ -235,6 +237,13 @@ decided_steps v t seat (answer.WaitSeat other seen) did = still_steps v t did.0
 decided_steps v t seat (answer.WaitRing flushed) did = still_steps v t did.0
 decided_steps v t seat a did = absurd did
 
+-- it makes a savepoint, or goes back to one
+savepoint_steps : (v t : View) (seat : ℕ) → phase_at v seat ≡ Active → AtSavepoint v seat t → Steps v t
+savepoint_steps v t seat active did =
+    let goes = saves_of v t seat did in
+    one_steps v t seat goes.others goes.opening (omega (arith, goes.tail)) goes.flushed
+    (active_sealed v t seat (work_at t seat) (active_with (t.session seat).stand (goes.active active)) goes.over)
+
 -- CALLS go on an active session's transaction, or end it.
 ran_goes : (events : List Event) (v t : View) (seat : ℕ) → phase_at v seat ≡ Active → Ran v seat events t → Goes v seat t × (phase_at t seat ≡ Active)
 ran_goes [] v t seat active is = (subst (λ (x : View). Goes v seat x) (sym is) (goes_itself v seat), ap (λ (x : View). phase_at x seat) is ∙ active)
@@ -299,6 +308,10 @@ module _ (v t : View) (seat : ℕ) (before : Placed v) where
   commanded (command.Next k from) a free plain did = operation_placed (command.Next k from) a (active_where NeedsReader (phase_at v seat) tt plain free) did
   commanded (command.Scan k low high) a free plain did = operation_placed (command.Scan k low high) a (active_where NeedsReader (phase_at v seat) tt plain free) did
   commanded (command.Tidy k key) a free plain did = operation_placed (command.Tidy k key) a (active_where NeedsWriter (phase_at v seat) tt plain free) did
+  commanded command.Save a free plain did =
+      placed_then v t before (savepoint_steps v t seat (active_where NeedsWriter (phase_at v seat) tt plain free) (asked_save v t seat a did))
+  commanded (command.Back n) a free plain did =
+      placed_then v t before (savepoint_steps v t seat (active_where NeedsWriter (phase_at v seat) tt plain free) (asked_back v t seat n a did))
   commanded command.Durable a free plain did = placed_then v t before (still_steps v t (asked_still v t seat a did))
   commanded c a free plain did = absurd did
 

@@ -1,5 +1,5 @@
 -- Moves that touch no object: a transaction begins, is sealed, or is over; or nothing happens.
-use Rattle.std.proofs.Common.{◌≡◌, ℕ, ◌+◌, ◌<◌, ◌≤◌, ◌⊎◌, ◌++◌, length, Option, Some, None, append-nil, inl, inr, refl, sym, ap, subst, arith}
+use Rattle.std.proofs.Common.{◌≡◌, ℕ, ◌+◌, ◌<◌, ◌≤◌, ◌⊎◌, Bool, false, cond, ◌++◌, length, Option, Some, None, append-nil, inl, inr, refl, sym, ap, subst, arith}
 use Rattle.std.specs.Option.{option_map, option_to_list}
 use Rattle.erm_model.specs.declared.limits.TheConstants.{STOP}
 use Rattle.erm_model.specs.declared.history.TransactionRecord.{TransactionRecord}
@@ -21,8 +21,8 @@ use Rattle.erm_script.specs.declared.script.Command.TheVariants as command
 use Rattle.erm_script.specs.declared.script.ScriptLine.{ScriptLine}
 use Rattle.erm_good_report.specs.Phases.{Closes, FitsRefusal, HasNoSnapshot, Need, NeedsAny, NeedsReader, NeedsWriter, need_of, refusal_for, refusal_in, refusal_of}
 use Rattle.erm_good_report.proofs.Phases.{phase_refuses}
-use Rattle.erm_good_report.specs.Transactions.{Aborts, Commits, Ending, Excludes, Progress, Transaction, begun, ended, goes_on, heard, table_of, with_line, with_seal}
-use Rattle.erm_lines.specs.Answers.{DidAskDurable, DidAskSnapshot, DidAsked, DidClose, DidCommand, DidDecide, DidLine, DidOperation}
+use Rattle.erm_good_report.specs.Transactions.{Aborts, Commits, Ending, Excludes, Exchange, Progress, Transaction, begun, ended, goes_on, heard, table_of, with_line, with_seal, works_on_map}
+use Rattle.erm_lines.specs.Answers.{DidAskBack, DidAskDurable, DidAskSave, DidAskSnapshot, DidAsked, DidClose, DidCommand, DidDecide, DidLine, DidOperation}
 use Rattle.erm_lines.specs.Executions.{DidEnd}
 use Rattle.erm_lines.specs.Whole.{is_snapshot}
 use Rattle.erm_lines.proofs.Moved.{active_where, asked_still}
@@ -30,14 +30,15 @@ use Rattle.erm_lines.proofs.Watched.{idle_where, snapshot_there, start_where}
 use Rattle.erm_told.proofs.Lines.{in_either}
 use Rattle.erm_causes.specs.Touched.{IsClosedBy, WasClosed}
 use Rattle.erm_causes.proofs.Fine.{still_session}
-use Rattle.erm_causes.proofs.Operated.{Operated, operated}
+use Rattle.erm_causes.proofs.Operated.{GoesOnBy, Operated, operated}
+use Rattle.erm_causes.proofs.Saved.{AtSavepoint, asked_back, asked_save}
 use Rattle.erm_causes.proofs.Snapshots.{LeavesNone, Starts, Watches, ended_bare, leaves_none, line_none, line_watches, starts_none, starts_watches}
 use Rattle.erm_told_limits.proofs.Ran.{active_with}
 
--- a line that names no table, or no line
+-- a line that works on no table, nor on savepoints, or no line
 abbrev pub NamesNone : Option Command → Type 0
 NamesNone None = Unit {0}
-NamesNone (Some c) = table_of c ≡ None
+NamesNone (Some c) = works_on_map c ≡ false
 
 -- the transaction in progress has the lines that it had
 abbrev pub SameNow : Option Transaction → Option Transaction → Type 0
@@ -75,11 +76,12 @@ pub data Quiet (v : View) (seat : ℕ) (asked : Option Command) (a : Answer) (t 
       → (IsSerializable sound_law t → WasClosed (history_of t) ending w) → DoneBy asked a ending → Quiet v seat asked a t
   watched : Starts v seat → Watches v seat t → LeavesNone asked a → Quiet v seat asked a t
 
--- a line that names no table leaves the lines
+-- such a line leaves the lines
 pub same_line : (asked : Option Command) (a : Answer) (t : Transaction) → NamesNone asked → (with_line asked a t).lines ≡ t.lines
 same_line None a t none = append-nil t.lines
 same_line (Some c) a t none =
-    subst (λ (r : Option ℕ). (t.lines ++ option_to_list (option_map (λ (table : ℕ). record { asked = c; answer = a }) r)) ≡ t.lines) (sym none) (append-nil t.lines)
+    let it : Exchange = record { asked = c; answer = a } in
+    subst (λ (b : Bool). (t.lines ++ option_to_list (cond b (Some it) None)) ≡ t.lines) (sym none) (append-nil t.lines)
 
 same_now : (asked : Option Command) (a : Answer) (current : Option Transaction) → NamesNone asked → SameNow current (option_map (with_line asked a) current)
 same_now asked a None none = tt
@@ -179,11 +181,12 @@ idle_with (world.active w) is = cc
 idle_with (world.sealed w stamp) is = cc
 idle_with (world.snapshot s) is = absurd (snapshot_not_idle s is)
 
--- What a line did: it is a quiet one; or it sealed its transaction, and then it is; or it is one that names a table.
+-- What a line did: it is a quiet one; or it sealed its transaction, and then it is; or it is one that names a table, or one of savepoints.
 pub data Lined (v : View) (seat : ℕ) (c : Command) (a : Answer) (t : View) : Type 0 where
   quiet : Quiet v seat (Some c) a t → Lined v seat c a t
   sealed_first : (stamp : ℕ) (between : View) → phase_at v seat ≡ Active → DidSeal v seat stamp between → Quiet between seat (Some c) a t → Lined v seat c a t
   named : (k : ℕ) → table_of c ≡ Some k → phase_at v seat ≡ Active → Operated v seat c a t → Lined v seat c a t
+  at_savepoint : table_of c ≡ None → phase_at v seat ≡ Active → AtSavepoint v seat t → GoesOnBy a → Lined v seat c a t
 
 pub seal_heard : (current : Option Transaction) (stamp : ℕ) → SameNow current (option_map (with_seal stamp) current)
 seal_heard None stamp = tt
@@ -220,6 +223,16 @@ module _ (v t : View) (seat : ℕ) (session : IsSession v seat) where
   named_line : (c : Command) (a : Answer) (k : ℕ) → table_of c ≡ Some k → phase_at v seat ≡ Active → DidOperation v seat c a t → Lined v seat c a t
   named_line c a k names active did = named k names active (operated v t seat c active a did)
 
+  saved_line : (a : Answer) → phase_at v seat ≡ Active → DidAskSave v seat a t → Lined v seat command.Save a t
+  saved_line (answer.Saved held) active did = at_savepoint refl active (asked_save v t seat (answer.Saved held) did) (λ q asked p. refl)
+  saved_line answer.SavesFull active did = at_savepoint refl active (asked_save v t seat answer.SavesFull did) (λ q asked p. refl)
+  saved_line a active did = absurd did
+
+  back_line : (n : ℕ) (a : Answer) → phase_at v seat ≡ Active → DidAskBack v seat n a t → Lined v seat (command.Back n) a t
+  back_line n (answer.Back m) active did = at_savepoint refl active (asked_back v t seat n (answer.Back m) did) (λ q asked p. refl)
+  back_line n (answer.NoSave held) active did = at_savepoint refl active (asked_back v t seat n (answer.NoSave held) did) (λ q asked p. refl)
+  back_line n a active did = absurd did
+
   durable_heard : (a : Answer) → DidAskDurable v seat a t → StillBy (Some command.Durable) a
   durable_heard (answer.Durable stamp) did = λ q p. same_goes_on (Some command.Durable) (answer.Durable stamp) p refl
   durable_heard (answer.NotFlushed flushed) did = λ q p. same_goes_on (Some command.Durable) (answer.NotFlushed flushed) p refl
@@ -239,6 +252,8 @@ module _ (v t : View) (seat : ℕ) (session : IsSession v seat) where
   commanded (command.Next k from) a free plain did = named_line (command.Next k from) a k refl (active_where NeedsReader (phase_at v seat) tt plain free) did
   commanded (command.Scan k low high) a free plain did = named_line (command.Scan k low high) a k refl (active_where NeedsReader (phase_at v seat) tt plain free) did
   commanded (command.Tidy k key) a free plain did = named_line (command.Tidy k key) a k refl (active_where NeedsWriter (phase_at v seat) tt plain free) did
+  commanded command.Save a free plain did = saved_line a (active_where NeedsWriter (phase_at v seat) tt plain free) did
+  commanded (command.Back n) a free plain did = back_line n a (active_where NeedsWriter (phase_at v seat) tt plain free) did
   commanded command.Durable a free plain did = quiet (still (asked_still v t seat a did) (durable_heard a did))
   commanded command.Flush a free plain did = absurd did
   commanded command.Checkpoint a free plain did = absurd did

@@ -1,5 +1,5 @@
 -- The cause of a line's refusal, from what is told of the world in which it was run.
-use Rattle.std.proofs.Common.{◌≡◌, ◌≢◌, ℕ, ◌+◌, ◌*◌, ◌<◌, ◌≤◌, ◌⊎◌, min, length, sum_by, List, [], ◌∷◌, ◌++◌, Some, None, inl, inr, refl, sym, ap, ◌∙◌, subst, arith}
+use Rattle.std.proofs.Common.{◌≡◌, ◌≢◌, ℕ, ◌+◌, ◌*◌, ◌<◌, ◌≤◌, ◌⊎◌, false, min, length, sum_by, List, [], ◌∷◌, ◌++◌, Some, None, inl, inr, refl, sym, ap, ◌∙◌, subst, arith}
 use Rattle.erm_model.specs.declared.history.TransactionRecord.{TransactionRecord}
 use Rattle.erm_model.specs.declared.limits.TheConstants.{LEAST_BLOCK, RING_WORDS, WRITE_LIMIT}
 use Rattle.erm_model.specs.declared.outcome.Phase.TheVariants.{Active}
@@ -25,7 +25,7 @@ use Rattle.erm_world.proofs.Lists.{∈-last}
 use Rattle.erm_good_report.specs.Opening.{InTurn}
 use Rattle.erm_good_report.specs.Phases.{HasNoSnapshot, NeedsReader, refusal_of}
 use Rattle.erm_good_report.specs.Refusals.{HasNoWindowBefore, HasRefusalCause, HasWaitCause, HasWindowBefore, IsNewerBy, IsOwnedBy, MayHaveStamp, Moment, WaitsForRing, WaitsToRead, WaitsToSettle, WasOver, claims_of, current_of, flushed_at, most_words}
-use Rattle.erm_good_report.specs.Transactions.{Excludes, Exchange, Transaction, progress_of, table_of, with_line}
+use Rattle.erm_good_report.specs.Transactions.{Excludes, Exchange, Transaction, progress_of, table_of, with_line, works_on_map}
 use Rattle.erm_lines.specs.Answers.{DidCommand, DidDecide, WasRefusedAs, stop_told}
 use Rattle.erm_lines.specs.Operations.{AsksOf, FrontOf, WereCutOff}
 use Rattle.erm_lines.proofs.Moved.{active_where}
@@ -130,6 +130,8 @@ reads_wait m (command.Del n key) t k seat seen named waits = waits
 reads_wait m (command.Next n from) t k seat seen named waits = waits
 reads_wait m (command.Scan n low high) t k seat seen named waits = waits
 reads_wait m (command.Tidy n key) t k seat seen named waits = waits
+reads_wait m command.Save t k seat seen named waits = waits
+reads_wait m (command.Back n) t k seat seen named waits = waits
 reads_wait m command.Durable t k seat seen named waits = waits
 reads_wait m command.Flush t k seat seen named waits = waits
 reads_wait m command.Checkpoint t k seat seen named waits = waits
@@ -155,7 +157,7 @@ module _ (tree : TreeLaws) (laws : HistoryLaws) (table : ℕ → ℕ) (m : Momen
   -- A line that names a table.
   module _ (k : ℕ) (named : table_of c ≡ Some k) (active : phase_at before m.session ≡ Active) (a : Answer) where
     own : NowTold table m.session (current_of m m.session) (work_at before m.session)
-    own = now_told table m.session (current_of m m.session) (before.session m.session).stand (work_at before m.session) (known.tells m.session session) (known.fine m.session session)
+    own = now_told table m.session (current_of m m.session) (before.saves m.session) (before.session m.session).stand (work_at before m.session) (known.tells m.session session) (known.fine m.session session)
         (current_of_active (before.session m.session).stand (work_at before m.session) (active_with (before.session m.session).stand active))
 
     asked_there : (asked : Asked) (oid : ℕ) → AskedOf table k asked → (asked ≡ asked_read oid) ⊎ (asked ≡ asked_claim oid) → table oid ≡ k
@@ -172,7 +174,7 @@ module _ (tree : TreeLaws) (laws : HistoryLaws) (table : ℕ → ℕ) (m : Momen
         waits_to_read table m before known stamps c a own k named did.at gone.0 read.oid (asked_there did.asked read.oid cut.asked_is (inl read.asks)) other seen read.ahead
 
     abbrev now_told_is : Transaction
-    now_told_is = (now_active table (current_of m m.session) (before.session m.session).stand (fine m.session session).now active).told
+    now_told_is = (now_active table (current_of m m.session) (before.saves m.session) (before.session m.session).stand (fine m.session session).now active).told
 
     cut_out : (why : RowStop) (did : WereCutOff before m.session (FrontOf c) (AsksOf c) why after) (w : Work) → Last did.asked (work_at did.at m.session) w → IsDone did.at m.session w world.aborts after
         → CutFine table k c (with_line (Some c) a now_told_is) (work_at did.at m.session) did.asked
@@ -213,7 +215,7 @@ module _ (tree : TreeLaws) (laws : HistoryLaws) (table : ℕ → ℕ) (m : Momen
         let shut = excluded_done did.at after m.session succ pred did.asked refused in
         let cut = cut_out why did shut.work shut.last shut.done in
         let gone = ran sound_law did.events before did.at m.session active did.ran in
-        let now = now_active table (current_of m m.session) (before.session m.session).stand (fine m.session session).now active in
+        let now = now_active table (current_of m m.session) (before.saves m.session) (before.session m.session).stand (fine m.session session).now active in
         let same : now.told ≡ own.told = the_told (current_of m m.session) now.told own.told now.is own.is in
         let f : Finished = record { work = shut.work; fate = world.aborts } in
         let over : (after.session m.session).over ≡ (did.at.session m.session).over ++ f ∷ [] = ap (λ (s : Session). s.over) shut.done.own in
@@ -242,7 +244,7 @@ module _ (tree : TreeLaws) (laws : HistoryLaws) (table : ℕ → ℕ) (m : Momen
   -- The transaction that a line decides is told, where it was sealed before and where the line sealed it.
   pub decided_now : (w : Work) (stamp : ℕ) → (before.session m.session).stand ≡ world.sealed w stamp → NowTold table m.session (current_of m m.session) w
   decided_now w stamp is =
-      now_told table m.session (current_of m m.session) (before.session m.session).stand w (known.tells m.session session) (known.fine m.session session)
+      now_told table m.session (current_of m m.session) (before.saves m.session) (before.session m.session).stand w (known.tells m.session session) (known.fine m.session session)
       (current_of_sealed (before.session m.session).stand w stamp is)
 
   pub sealed_now : (between : View) (stamp : ℕ) → c ≡ command.Commit → DidSeal before m.session stamp between → (w : Work) (other : ℕ) → (between.session m.session).stand ≡ world.sealed w other
@@ -252,7 +254,7 @@ module _ (tree : TreeLaws) (laws : HistoryLaws) (table : ℕ → ℕ) (m : Momen
       active_where NeedsReader (phase_at before m.session) tt plain (subst (λ (d : Command). refusal_of (phase_at before m.session) d ≡ None) is free) in
       let same : w ≡ work_at before m.session = sealed_work (between.session m.session).stand w (work_at before m.session) other stand (ap (λ (s : Session). work_of s.stand) sealed.own) in
       subst (λ (x : Work). NowTold table m.session (current_of m m.session) x) (sym same)
-      (now_told table m.session (current_of m m.session) (before.session m.session).stand (work_at before m.session) (known.tells m.session session) (known.fine m.session session)
+      (now_told table m.session (current_of m m.session) (before.saves m.session) (before.session m.session).stand (work_at before m.session) (known.tells m.session session) (known.fine m.session session)
       (current_of_active (before.session m.session).stand (work_at before m.session) (active_with (before.session m.session).stand active)))
 
   module _ (u : Transaction) (current : current_of m m.session ≡ Some u) where
@@ -285,7 +287,7 @@ module _ (tree : TreeLaws) (laws : HistoryLaws) (table : ℕ → ℕ) (m : Momen
     -- or for the ring, which is full
     module _ (flushed : ℕ) (place : before.flushed ≡ flushed_at m)
         (few : length (work_at before m.session).claims ≤ min WRITE_LIMIT (sum_by (λ e. claims_of e.asked) u.lines)) where
-      ring_full : (none : table_of c ≡ None) (w : Work) → w ≡ work_at before m.session → (own_stamp : ℕ) → flushed ≡ before.flushed → flushed + RING_WORDS < own_stamp + size_of w
+      ring_full : (none : works_on_map c ≡ false) (w : Work) → w ≡ work_at before m.session → (own_stamp : ℕ) → flushed ≡ before.flushed → flushed + RING_WORDS < own_stamp + size_of w
           → size_of w ≤ LEAST_BLOCK + 17 * length w.claims → flushed + RING_WORDS < own_stamp + most_words (with_line (Some c) (answer.WaitRing flushed) u)
       ring_full none w is own_stamp at full bounded =
           let same : length w.claims ≡ length (work_at before m.session).claims = ap (λ (x : Work). length x.claims) is in
@@ -302,7 +304,7 @@ module _ (tree : TreeLaws) (laws : HistoryLaws) (table : ℕ → ℕ) (m : Momen
             flushed_is = waiting.0 ∙ place;
             own = own_stamp;
             own_is = as_told (λ t. MayHaveStamp m (with_line (Some c) a t) own_stamp) w now (own_is a before (λ q another. refl) refl same w now own_stamp stand);
-            full = ring_full (ap table_of is) w (sym (ap work_of stand)) own_stamp waiting.0 (omega (arith, waiting.1, waiting.0)) waiting.3;
+            full = ring_full (ap works_on_map is) w (sym (ap work_of stand)) own_stamp waiting.0 (omega (arith, waiting.1, waiting.0)) waiting.3;
           }
       wait_ring_as (waits.committed is stamp between sealed (same, (w, own_stamp, stand, waiting))) =
           let a = answer.WaitRing flushed in
@@ -312,7 +314,7 @@ module _ (tree : TreeLaws) (laws : HistoryLaws) (table : ℕ → ℕ) (m : Momen
             flushed_is = at ∙ place;
             own = own_stamp;
             own_is = as_told (λ t. MayHaveStamp m (with_line (Some c) a t) own_stamp) w now (own_is a between sealed.others sealed.opening same w now own_stamp stand);
-            full = ring_full (ap table_of is) w (sealed_work (between.session m.session).stand w (work_at before m.session) own_stamp stand (ap (λ (s : Session). work_of s.stand) sealed.own)) own_stamp at
+            full = ring_full (ap works_on_map is) w (sealed_work (between.session m.session).stand w (work_at before m.session) own_stamp stand (ap (λ (s : Session). work_of s.stand) sealed.own)) own_stamp at
                 (omega (arith, waiting.1, waiting.0)) waiting.3;
           }
 

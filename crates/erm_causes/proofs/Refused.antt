@@ -30,7 +30,7 @@ use Rattle.erm_told_limits.proofs.Ran.{Stays}
 pub record Known (table : ℕ → ℕ) (m : Moment) (v : View) : Type 0 where
   pub tells : (q : ℕ) → IsSession v q → TellsNow q (current_of m q) (v.session q).stand
   pub phase : (q : ℕ) → IsSession v q → report.phase_of q m.before ≡ phase_at v q
-  pub fine : (q : ℕ) → IsSession v q → FineNow table (current_of m q) (v.session q).stand
+  pub fine : (q : ℕ) → IsSession v q → FineNow table (current_of m q) (v.saves q) (v.session q).stand
 
 -- the stamps of those that are sealed are those that the report tells
 abbrev pub KnowsStamps : Moment → View → Type 0
@@ -46,7 +46,7 @@ pub record OtherSealed (table : ℕ → ℕ) (m : Moment) (q seen : ℕ) (w : Wo
 module _ (table : ℕ → ℕ) (m : Moment) (v : View) (known : Known table m v) (stamps : KnowsStamps m v) where
   pub other_sealed : (q seen : ℕ) (w : Work) → IsSession v q → (v.session q).stand ≡ world.sealed w seen → OtherSealed table m q seen w
   other_sealed q seen w session is =
-      let now = now_told table q (current_of m q) (v.session q).stand w (known.tells q session) (known.fine q session) (current_of_sealed (v.session q).stand w seen is) in
+      let now = now_told table q (current_of m q) (v.saves q) (v.session q).stand w (known.tells q session) (known.fine q session) (current_of_sealed (v.session q).stand w seen is) in
       record {
         told = now.told;
         sealed = record {
@@ -88,7 +88,7 @@ module _ (table : ℕ → ℕ) (m : Moment) (v : View) (known : Known table m v)
     owned_by other number mode owned =
         let session = session_back at other stays.opening owned.session in
         let same = stays.others other owned.another in
-        let now = now_told table other (current_of m other) (v.session other).stand owned.work (known.tells other session) (known.fine other session)
+        let now = now_told table other (current_of m other) (v.saves other) (v.session other).stand owned.work (known.tells other session) (known.fine other session)
         (claims_work (v.session other).stand owned.work oid (subst (λ (s : Session). IsCurrent s.stand owned.work) same owned.current) owned.claims) in
         record {
           another = owned.another;

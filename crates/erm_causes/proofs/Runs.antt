@@ -8,10 +8,11 @@ use Rattle.erm_script.specs.declared.script.ScriptLine.{ScriptLine}
 use Rattle.erm_world.specs.Going.{Extends}
 use Rattle.erm_world.specs.World.{IsSession, View, Work, history_of}
 use Rattle.erm_world.specs.World as world
-use Rattle.erm_maps.specs.Runs.{IsAnswered, IsRunOf}
+use Rattle.erm_maps.specs.Runs.{IsAnswered}
 use Rattle.erm_good_report.specs.GoodReport.{places_of}
 use Rattle.erm_good_report.specs.Phases.{Closed}
 use Rattle.erm_good_report.specs.Transactions.{Progress, nothing, progress_of}
+use Rattle.erm_lines.proofs.Keeping.{NoneRuns}
 use Rattle.erm_lines.specs.Executions.{AreClosed, IsCourse, IsExecution, Move, close, flush, line, line_moves, log}
 use Rattle.erm_told.proofs.Closing.{AreLast}
 use Rattle.erm_told.proofs.Runs.{executed_both, last_moves, same_progress}
@@ -45,7 +46,7 @@ module _ (v t : View) (script : List ScriptLine) (answers : List Answer) (run : 
   pub table_at : TreeLaws → TableOf (line_moves script answers ++ run.closing) v t whole_run
   table_at tree = table_of_run tree.one (line_moves script answers ++ run.closing) v t whole_run run.opened.serializable
 
-  module _ (tree : TreeLaws) (laws : HistoryLaws) (begun : (number begin : ℕ) → IsRunOf (world.begun number begin) [])
+  module _ (tree : TreeLaws) (laws : HistoryLaws) (begun : NoneRuns)
       (stay : (w u : Work) (steps : List Step) → Extends w u → IsAnswered w steps → IsAnswered u steps) where
     pub touched_by : (of : TableOf (line_moves script answers ++ run.closing) v t whole_run) (seat : ℕ) → IsSession v seat
         → TouchesAll of.table (history_of t) (progress_of seat (places_of script answers closed)) (t.session seat)
@@ -55,9 +56,9 @@ module _ (v t : View) (script : List ScriptLine) (answers : List Answer) (run : 
         (lines_range script answers run.closing run.ranges (last_range run.closing (last_moves v t script answers run closed are))) of.opened of.right
         (opened_told v run.opened) (opened_fine tree laws begun stay of.table v run.opened) in
         subst (λ (p : Progress). TouchesAll of.table (history_of t) p (t.session seat)) (heard_said moves (λ q. nothing) seat ∙ same_progress v t script answers run closed are seat)
-        (fine_touches of.table (history_of t) (heard_moves moves (λ q. nothing) seat) (t.session seat) (fine seat (still_session v t seat (run_opening moves v t whole_run) session)))
+        (fine_touches of.table (history_of t) (heard_moves moves (λ q. nothing) seat) (t.saves seat) (t.session seat) (fine seat (still_session v t seat (run_opening moves v t whole_run) session)))
 
-pub runs_touch : TreeLaws → HistoryLaws → ((number begin : ℕ) → IsRunOf (world.begun number begin) [])
+pub runs_touch : TreeLaws → HistoryLaws → NoneRuns
     → ((w u : Work) (steps : List Step) → Extends w u → IsAnswered w steps → IsAnswered u steps) → RunsTouchTables
 runs_touch tree laws begun stay v t script answers run closed are =
     let of = table_at v t script answers run closed are tree in

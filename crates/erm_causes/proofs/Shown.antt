@@ -17,7 +17,7 @@ use Rattle.erm_world.specs.Going.{Extends}
 use Rattle.erm_world.specs.Laws.{IsSerializable}
 use Rattle.erm_world.specs.World.{IsSession, View, Work, history_of, made_by_all, phase_at, work_at}
 use Rattle.erm_world.specs.World as world
-use Rattle.erm_maps.specs.Runs.{IsAnswered, IsRunOf}
+use Rattle.erm_maps.specs.Runs.{IsAnswered}
 use Rattle.erm_good_report.specs.GoodReport.{places_of}
 use Rattle.erm_good_report.specs.Opening.{InTurn, Opening}
 use Rattle.erm_good_report.specs.Phases.{Closed, refusal_in}
@@ -26,6 +26,7 @@ use Rattle.erm_good_report.specs.Refusals.{HasCauses, HasLogCause, HasRefusalCau
 use Rattle.erm_good_report.specs.Transactions.{Progress, Said, Transaction, nothing, progress_of, said_of, table_of, transactions_of, with_line}
 use Rattle.erm_lines.specs.Answers.{DidLine}
 use Rattle.erm_lines.specs.Executions.{AreClosed, DidLog, DidLogLine, IsCourse, IsExecution, IsOpeningOf, Move, line_moves, move_of, said_in}
+use Rattle.erm_lines.proofs.Keeping.{NoneRuns}
 use Rattle.erm_lines.proofs.Moved.{moved}
 use Rattle.erm_lines.specs.Laws.{ExecutionsGoOn, ExecutionsTell, OfCourses}
 use Rattle.erm_lines.specs.Told.{Tells}
@@ -33,7 +34,7 @@ use Rattle.erm_told.proofs.Ended.{stamp_later}
 use Rattle.erm_told.proofs.Runs.{said_first, said_lines, serializable_then}
 use Rattle.erm_told_limits.specs.Limits.{ClaimsAreFew, EndHasCause, FullHasCause, IsEnd, IsFull, StampsAreInReach}
 use Rattle.erm_told_limits.proofs.Given.{HistoryLaws}
-use Rattle.erm_causes.specs.Laws.{IsForOthers, IsOfLog, RefusesForOthers, RunsDrawInReach, RunsRefuseForOthers, RunsTellLog}
+use Rattle.erm_causes.specs.Laws.{IsForOthers, IsOfLog, RefusesForOthers, RunsDrawInReach, RunsRefuseForOthers, RunsTellLog, RunsTellSaves}
 use Rattle.erm_causes.specs.Touched.{AreOfTables}
 use Rattle.erm_causes.proofs.Causes.{commit_over, over_told}
 use Rattle.erm_causes.proofs.Early.{EarlyCommit, over_later}
@@ -78,7 +79,7 @@ pub record Ready (table : ℕ → ℕ) (m : Moment) (c : Command) (before after 
   pub stamps_after : KnowsStamps m after
   pub commits : (u : TransactionRecord) → u ∈ history_of before → EarlyCommit table m u
 
-module _ (tree : TreeLaws) (laws : HistoryLaws) (begun : (number begin : ℕ) → IsRunOf (world.begun number begin) [])
+module _ (tree : TreeLaws) (laws : HistoryLaws) (begun : NoneRuns)
     (stay : (w u : Work) (steps : List Step) → Extends w u → IsAnswered w steps → IsAnswered u steps) (tell : ExecutionsTell) (go : ExecutionsGoOn) (few : ClaimsAreFew)
     (v t : View) (script : List ScriptLine) (answers : List Answer) (run : IsCourse v script answers t) (closed : List Closed) (are : AreClosed run.closing closed) (opening : Opening) (starts : IsOpeningOf v opening) where
   abbrev all : List Transaction
@@ -118,7 +119,7 @@ module _ (tree : TreeLaws) (laws : HistoryLaws) (begun : (number begin : ℕ) �
     fine_there q session =
         let fine = run_fine tree laws begun stay of.table first (λ p. nothing) v here.before here.start (first_range script answers i run.ranges) of.opened here.right_first
         (opened_told v run.opened) (opened_fine tree laws begun stay of.table v run.opened) q session in
-        subst (λ (p : Progress). IsFine of.table (history_of here.before) p (here.before.session q))
+        subst (λ (p : Progress). IsFine of.table (history_of here.before) p (here.before.saves q) (here.before.session q))
         (heard_said first (λ p. nothing) q ∙ ap (λ (said : List Said). progress_of q said) (said_first i script answers)) fine
 
     -- its own transaction has claimed no more objects than it may
@@ -140,7 +141,7 @@ module _ (tree : TreeLaws) (laws : HistoryLaws) (begun : (number begin : ℕ) �
     commit_there u within =
         let found = commit_over here.before v.opening.sessions m.before of.table (serializable_then first v here.before run.opened.serializable here.start)
         (ap (λ (o : world.Opening). o.sessions) (sym opening_before)) (λ q session. (told_there q session).0)
-        (λ q session. fine_touches of.table (history_of here.before) (progress_of q m.before) (here.before.session q) (fine_there q session)) u within in
+        (λ q session. fine_touches of.table (history_of here.before) (progress_of q m.before) (here.before.saves q) (here.before.session q) (fine_there q session)) u within in
         let by = found.told.by in
         let session = session_before v here.before by.session opening_before found.session in
         record {
@@ -257,7 +258,7 @@ module _ (tree : TreeLaws) (laws : HistoryLaws) (begun : (number begin : ℕ) �
   refuses_for_others i l a at answered for told own =
       subst (λ (x : Transaction). HasRefusalCause (moment_at InTurn opening script answers all i l) l.command x a) (sym own.2) (cause_of i l a at answered for own.0 own.1)
 
-pub runs_refuse : TreeLaws → HistoryLaws → ((number begin : ℕ) → IsRunOf (world.begun number begin) [])
+pub runs_refuse : TreeLaws → HistoryLaws → NoneRuns
     → ((w u : Work) (steps : List Step) → Extends w u → IsAnswered w steps → IsAnswered u steps) → ExecutionsTell → ExecutionsGoOn → ClaimsAreFew → RunsRefuseForOthers
 runs_refuse tree laws begun stay tell go few v t script answers run closed opening are starts = refuses_for_others tree laws begun stay tell go few v t script answers run closed are opening starts
 
@@ -294,8 +295,8 @@ any_unfilled m command.Flush (answer.Unfilled place) log = log tt
 any_unfilled m command.Checkpoint (answer.Unfilled place) log = log tt
 any_unfilled m c a log = tt
 
-pub with_cause : RunsRefuseForOthers → FullHasCause → EndHasCause → RunsTellLog → StampsAreInReach → RunsDrawInReach → OfCourses (λ opening script answers closed told. HasCauses InTurn opening script answers told)
-with_cause others full end log reach draws v t script answers run closed opening are starts = record {
+pub with_cause : RunsRefuseForOthers → FullHasCause → EndHasCause → RunsTellLog → RunsTellSaves → StampsAreInReach → RunsDrawInReach → OfCourses (λ opening script answers closed told. HasCauses InTurn opening script answers told)
+with_cause others full end log saves reach draws v t script answers run closed opening are starts = record {
   each = λ i l a at answered.
       let all = transactions_of v.opening.sessions (places_of script answers closed) in
       let of_log = log v t script answers run closed opening are starts i l a at answered in
@@ -303,6 +304,7 @@ with_cause others full end log reach draws v t script answers run closed opening
         own = λ told own.
             any_cause (moment_at InTurn opening script answers all i l) l a told (λ for. others v t script answers run closed opening are starts i l a at answered for told own)
             (λ is. full v t script answers run opening starts all i l a at answered is told own);
+        saves = λ told current. saves v t script answers run closed opening are starts i l a at answered told current;
         log = any_log (moment_at InTurn opening script answers all i l) a (λ is. end v t script answers run opening starts all i l a at answered is) (λ is. (of_log is).0);
         unfilled = any_unfilled (moment_at InTurn opening script answers all i l) l.command a (λ is. (of_log is).1);
       };

@@ -12,10 +12,11 @@ use Rattle.erm_tree.specs.Tables.{ObjectsHaveOneTable, reached_by}
 use Rattle.erm_tree.proofs.Standing.{reached-table}
 use Rattle.erm_world.specs.Going.{Extends}
 use Rattle.erm_world.specs.Laws.{IsSerializable}
-use Rattle.erm_world.specs.World.{View, Work, history_of, made_by_all}
+use Rattle.erm_world.specs.World.{Session, View, Work, history_of, made_by_all}
 use Rattle.erm_world.specs.World as world
-use Rattle.erm_maps.specs.Runs.{IsAnswered, IsRunOf}
+use Rattle.erm_maps.specs.Runs.{IsAnswered}
 use Rattle.erm_good_report.specs.Transactions.{Progress, Said, heard, nothing}
+use Rattle.erm_lines.proofs.Keeping.{NoneRuns}
 use Rattle.erm_lines.specs.Executions.{IsExecution, IsOpened, Move, close, flush, line, log, said_in}
 use Rattle.erm_causes.specs.Touched.{AreOfTables}
 use Rattle.erm_causes.proofs.Fine.{IsFine}
@@ -144,7 +145,7 @@ abbrev pub AreMovesInRange : List Move → Type 0
 AreMovesInRange [] = Unit {0}
 AreMovesInRange (m ∷ moves) = IsMoveInRange m × AreMovesInRange moves
 
-module _ (tree : TreeLaws) (laws : HistoryLaws) (begun : (number begin : ℕ) → IsRunOf (world.begun number begin) [])
+module _ (tree : TreeLaws) (laws : HistoryLaws) (begun : NoneRuns)
     (stay : (w u : Work) (steps : List Step) → Extends w u → IsAnswered w steps → IsAnswered u steps) (table : ℕ → ℕ) where
   pub run_fine : (moves : List Move) (p : ℕ → Progress) (v t : View) (run : IsExecution v moves t) → AreMovesInRange moves → AreOfTables table v.opening.rows
       → AreRight table moves v t run → AllTold p v → AllFine table p v → AllFine table (heard_moves moves p) t
@@ -156,7 +157,7 @@ module _ (tree : TreeLaws) (laws : HistoryLaws) (begun : (number begin : ℕ) �
 
   -- in a world that was just opened nothing was touched
   pub opened_fine : (v : View) → IsOpened v → AllFine table (λ q. nothing) v
-  opened_fine v opened q session = subst (λ s. IsFine table (history_of v) nothing s) (sym (opened.idle q session)) (record { over = refl; now = tt })
+  opened_fine v opened q session = subst (λ (s : Session). IsFine table (history_of v) nothing (v.saves q) s) (sym (opened.idle q session)) (record { over = refl; now = tt })
 
 -- what is heard of moves is what they say
 pub heard_said : (moves : List Move) (p : ℕ → Progress) (q : ℕ)

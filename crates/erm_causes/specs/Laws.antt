@@ -9,10 +9,10 @@ use Rattle.erm_world.specs.World.{IsSession, View, history_of}
 use Rattle.erm_good_report.specs.GoodReport.{places_of}
 use Rattle.erm_good_report.specs.Opening.{InTurn, Opening}
 use Rattle.erm_good_report.specs.Phases.{Closed}
-use Rattle.erm_good_report.specs.Refusals.{HasLogCause, HasRefusalCause, HasUnfilledCause, IsOwn, moment_at, most_end}
+use Rattle.erm_good_report.specs.Refusals.{HasLogCause, HasRefusalCause, HasSaveCause, HasUnfilledCause, IsOwn, current_of, moment_at, most_end}
 use Rattle.erm_good_report.specs.Snapshots.{SnapshotsAgree}
 use Rattle.erm_good_report.specs.Stamps.{DrawsUntold}
-use Rattle.erm_good_report.specs.Transactions.{Transaction, progress_of, said_of}
+use Rattle.erm_good_report.specs.Transactions.{Transaction, held_of, progress_of, said_of}
 use Rattle.erm_lines.specs.Executions.{AreClosed, IsCourse}
 use Rattle.erm_lines.specs.Laws.{OfCourses}
 use Rattle.erm_causes.specs.Touched.{AreOfTables, TouchesAll}
@@ -60,6 +60,14 @@ TellsLog opening script answers told = (i : ℕ) (l : ScriptLine) (a : Answer) �
 
 abbrev pub RunsTellLog : Type 0
 RunsTellLog = OfCourses (λ opening script answers closed told. TellsLog opening script answers told)
+
+-- each answer to a line of savepoints has its cause in the lines of its transaction
+abbrev pub TellsSaves : Opening → List ScriptLine → List Answer → List Transaction → Type 0
+TellsSaves opening script answers told = (i : ℕ) (l : ScriptLine) (a : Answer) → slice_get script i ≡ Some l → slice_get answers i ≡ Some a
+    → (t : Transaction) → current_of (moment_at InTurn opening script answers told i l) l.session ≡ Some t → HasSaveCause (held_of t) l.command a
+
+abbrev pub RunsTellSaves : Type 0
+RunsTellSaves = OfCourses (λ opening script answers closed told. TellsSaves opening script answers told)
 
 abbrev pub RunsRefuseForOthers : Type 0
 RunsRefuseForOthers = OfCourses (λ opening script answers closed told. RefusesForOthers opening script answers told)

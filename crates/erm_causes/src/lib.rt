@@ -3,7 +3,7 @@
 //! a function that does nothing.
 #![tactic(auto)]
 
-ghost use Rattle.erm_causes.specs.Laws.{CoursesHaveSafeSnapshots, RunsDrawInReach, RunsRefuseForOthers, RunsTellLog, RunsTouchTables};
+ghost use Rattle.erm_causes.specs.Laws.{CoursesHaveSafeSnapshots, RunsDrawInReach, RunsRefuseForOthers, RunsTellLog, RunsTellSaves, RunsTouchTables};
 ghost use Rattle.erm_lines.specs.Laws.{PartsHaveCauses, PartsHaveSafeSnapshots, PartsRefuseWithCause, RunsAreSerialWithSnapshots, RunsHaveCauses, RunsHaveSafeSnapshots, RunsRefuseWithCause};
 
 /// Each object of a run has one table: that of the line that made it, or that whose tree reached it at the opening. Each
@@ -64,6 +64,16 @@ pub fn runs_tell_log()
     erm_told::executions_go_on();
 }
 
+/// Each answer of a run to a line that makes a savepoint, or goes back to one, has its cause in the lines of its transaction: how many savepoints
+/// it holds is told by them.
+pub fn runs_tell_saves()
+    ensures { RunsTellSaves }
+{
+    erm_told::executions_tell_sessions();
+    erm_told::executions_go_on();
+    erm_told::executions_hold_savepoints();
+}
+
 /// Each commit of a run that waits has drawn a stamp in reach of the lines up to its own, where the report tells it, by a later line or by the end
 /// of its session.
 pub fn runs_draw_in_reach()
@@ -74,7 +84,7 @@ pub fn runs_draw_in_reach()
     erm_told_limits::ends_are_in_reach();
 }
 
-/// Each answer of a run that refuses, or that tells of the log, has its cause in the lines.
+/// Each answer of a run that refuses, or that tells of the log or of savepoints, has its cause in the lines.
 pub fn runs_refuse_with_cause()
     ensures { RunsRefuseWithCause }
 {
@@ -82,6 +92,7 @@ pub fn runs_refuse_with_cause()
     erm_told_limits::full_has_cause();
     erm_told_limits::end_has_cause();
     runs_tell_log();
+    runs_tell_saves();
     erm_told_limits::stamps_are_in_reach();
     runs_draw_in_reach();
 }
@@ -94,6 +105,7 @@ pub fn parts_refuse_with_cause()
     erm_told_limits::full_has_cause();
     erm_told_limits::end_has_cause();
     runs_tell_log();
+    runs_tell_saves();
     erm_told_limits::stamps_are_in_reach();
     runs_draw_in_reach();
 }

@@ -30,7 +30,7 @@ pub record Saves (v : View) (seat : ℕ) (t : View) : Type 0 where
 pub kept_is : (w u : Work) (xs ys : List (List VersionWritten)) → w ≡ u → xs ≡ ys → let k : Kept = record { work = w; saves = xs } in k ≡ record { work = u; saves = ys }
 kept_is w u xs ys first second = cc
 
-still : (v t : View) (seat : ℕ) → t ≡ v → Saves v seat t
+pub still : (v t : View) (seat : ℕ) → t ≡ v → Saves v seat t
 still v t seat is = record {
   over = ap (λ (u : View). (u.session seat).over) is;
   active = λ active. ap (λ (u : View). phase_at u seat) is ∙ active;
@@ -43,7 +43,7 @@ still v t seat is = record {
 }
 
 -- A SAVEPOINT MORE
-holds : (v t : View) (seat : ℕ) (held : List (List VersionWritten)) → t ≡ holding seat held v → Saves v seat t
+pub holds : (v t : View) (seat : ℕ) (held : List (List VersionWritten)) → t ≡ holding seat held v → Saves v seat t
 holds v t seat held is = record {
   over = ap (λ (u : View). (u.session seat).over) is;
   active = λ active. ap (λ (u : View). phase_at u seat) is ∙ active;
