@@ -18,7 +18,7 @@ use Rattle.erm_node.specs.Sound.{sound_law}
 use Rattle.erm_node.specs.TreeMap.{map_of_rows}
 use Rattle.erm_world.specs.Laws.{FitsWork}
 use Rattle.erm_world.specs.World.{bare, begun}
-use Rattle.erm_maps.specs.Runs.{IsRunOf, Told, told_commit, told_commits}
+use Rattle.erm_maps.specs.Runs.{Told, WasRun, told_commit, told_commits}
 use Rattle.erm_maps.proofs.Histories.{work_in}
 
 module _ (told : Told) where
@@ -45,7 +45,7 @@ module _ (told : Told) where
   }
 
   -- where each record's transaction is the run of its operations, these run in turn as the transactions fit
-  pub told_run : (order : History) (rows : Rows) → FitInTurn sound_law rows order → ((t : TransactionRecord) → t ∈ order → IsRunOf (work_in t) (told t.seat t.number)) → RunsAll (map_of_rows rows) (map (λ (c : Committed). c.steps) (told_commits told order)) (map_of_rows (rows_after order rows))
+  pub told_run : (order : History) (rows : Rows) → FitInTurn sound_law rows order → ((t : TransactionRecord) → t ∈ order → WasRun (work_in t) (told t.seat t.number)) → RunsAll (map_of_rows rows) (map (λ (c : Committed). c.steps) (told_commits told order)) (map_of_rows (rows_after order rows))
   told_run [] rows fit runs = refl
   told_run (t ∷ order) rows fit runs =
       let own = runs t (∈-head t order) in

@@ -1,8 +1,11 @@
 pub mod Called
 pub mod Commits
 pub mod Extended
+pub mod GoingOn
 pub mod Histories
+pub mod Kept
 pub mod Lawful
 pub mod Made
 pub mod Ready
+pub mod Seen
 pub mod Standing

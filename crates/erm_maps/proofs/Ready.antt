@@ -10,7 +10,7 @@ use Rattle.erm_world.specs.Laws.{IsPossibleIn}
 use Rattle.erm_world.specs.Snapshots.{snapshot_not_active}
 use Rattle.erm_world.specs.World.{IsCurrent, Stand, View, phase_of, work_at, work_of}
 use Rattle.erm_world.specs.World as world
-use Rattle.erm_maps.specs.Runs.{IsRunOf}
+use Rattle.erm_maps.specs.Runs.{IsRunOf, kept_at}
 use Rattle.erm_maps.proofs.Called.{lawful_before}
 
 -- the work of an active session is its current one
@@ -22,7 +22,7 @@ current_in (world.snapshot s) active = absurd (snapshot_not_active s active)
 
 module _ {S : Type 0} (law : Law) (view : S → View) (seat : S → ℕ) (stands : S → Type 0) (one : S → S → Type 0)
     (possible : (s : S) → stands s → IsPossibleIn law (view s)) (same : SameLaw law sound_law) where
-  pub ready_runs : (s : S) (before : List Step) → (world_face law view seat stands one).active s → IsRunOf (work_at (view s) (seat s)) before
+  pub ready_runs : (s : S) (before : List Step) → (world_face law view seat stands one).active s → IsRunOf (kept_at (view s) (seat s)) before
       → IsReady (world_face law view seat stands one) s
   ready_runs s before active run = record {
     active = active;

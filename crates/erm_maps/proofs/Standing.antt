@@ -14,7 +14,7 @@ use Rattle.erm_node.specs.Sound.{IsSound, sound_law}
 use Rattle.erm_node.specs.TreeMap.{map_of_rows}
 use Rattle.erm_world.specs.Laws.{IsSerializable}
 use Rattle.erm_world.specs.World.{Has, IsSession, View, Work, history_of}
-use Rattle.erm_maps.specs.Runs.{AreRuns, IsRunOf, RunsAsOperations, StandsBelow, Told, told_commits}
+use Rattle.erm_maps.specs.Runs.{AreRuns, RunsAsOperations, StandsBelow, Told, WasRun, told_commits}
 use Rattle.erm_maps.proofs.Commits.{run_ends, told_below, told_order, told_run}
 use Rattle.erm_maps.proofs.Histories.{IsCommitted, of_history, work_in}
 use Rattle.erm_maps.proofs.Lawful.{LeavesNewest, RunsBelow, fits_below, lawful_below}
@@ -22,7 +22,7 @@ use Rattle.erm_maps.proofs.Lawful.{LeavesNewest, RunsBelow, fits_below, lawful_b
 module _ (v : View) (told : Told) (holds : IsSerializable sound_law v) (are_runs : AreRuns v told) where
   module _ (bound : ℕ) (order : History) (runs : RunsBelow v bound order) where
     -- the transaction of each commit in the order is the run of its operations
-    run_of : (t : TransactionRecord) → t ∈ order → IsRunOf (work_in t) (told t.seat t.number)
+    run_of : (t : TransactionRecord) → t ∈ order → WasRun (work_in t) (told t.seat t.number)
     run_of t m =
         let there = in_below (history_of v) bound t (∈-permutation t order (below bound (history_of v)) (IsPermutation-sym (below bound (history_of v)) order runs.serial.same) m) in
         let own : IsCommitted v t = of_history v t there.0 in

@@ -7,6 +7,7 @@ use Rattle.erm_model.specs.Committed.{Committed, HasSnapshotReplies, IsStateBelo
 use Rattle.erm_model.specs.Committed as committed
 use Rattle.erm_model.specs.Database.{Database}
 use Rattle.erm_model.specs.History.{History, after_writes, rows_after}
+use Rattle.erm_model.specs.Member.{◌∈◌}
 use Rattle.erm_model.specs.Rows.{Rows}
 use Rattle.erm_model.specs.Run.{RunsOn, RunsOne, Saving, Step, after_all, after_from, begins, change_all, ops_of}
 use Rattle.erm_model.specs.SerialOrder.{IsSerialOrder}
@@ -38,6 +39,10 @@ saving k = record { work = k.work; saves = k.saves ++ k.work.claims ∷ [] }
 -- it has gone back to its n-th savepoint, at which it had these claims
 abbrev pub going_back : ℕ → List VersionWritten → Kept → Kept
 going_back n saved k = record { work = with_claims (restored saved k.work.claims) k.work; saves = take n k.saves }
+
+-- an array has at each object claimed the row that the claim found
+abbrev pub Agree : Rows → List VersionWritten → Type 0
+Agree rows claims = (c : VersionWritten) → c ∈ claims → rows c.oid ≡ c.base
 
 -- the map that it sees where it began on these rows, and those that it saw at its savepoints
 abbrev pub maps_seen : Kept → Rows → Saving Database

@@ -2,12 +2,16 @@
 //! database map. Each law is the contract of a function that does nothing.
 #![tactic(auto)]
 
-ghost use Rattle.std.specs.Prelude.{◌≡◌, ℕ, ◌<◌, List, [], ◌++◌};
+ghost use Rattle.std.specs.Prelude.{◌≡◌, ℕ, suc, ◌<◌, List, [], ◌∷◌, ◌++◌, None, Some};
+ghost use Rattle.std.specs.List.{slice_get};
+ghost use Rattle.erm_model.specs.declared.history.VersionWritten.{VersionWritten};
+ghost use Rattle.erm_model.specs.declared.operation.Op.TheVariants as operation;
+ghost use Rattle.erm_model.specs.declared.operation.Reply.TheVariants as reply;
 ghost use Rattle.erm_model.specs.Committed.{HasSnapshotReplies};
-ghost use Rattle.erm_model.specs.History.{HasNewestRows, History, IsNewestBelow, below, rank_of, rows_after};
+ghost use Rattle.erm_model.specs.History.{HasNewestRows, History, IsNewestBelow, after_writes, below, rank_of, rows_after};
 ghost use Rattle.erm_model.specs.Rows.{Rows};
 ghost use Rattle.erm_model.specs.RowTransaction.{SameLaw};
-ghost use Rattle.erm_model.specs.Run.{RunsOne, Step};
+ghost use Rattle.erm_model.specs.Run.{AreOnMap, RunsOne, Step, saved_as};
 ghost use Rattle.erm_model.specs.SerialOrder.{IsSerialOrder};
 ghost use Rattle.erm_node.specs.Sound.{IsSound, sound_law};
 ghost use Rattle.erm_node.specs.TreeMap.{map_of_rows};
@@ -15,8 +19,9 @@ ghost use Rattle.erm_world.specs.Laws.{IsPossibleIn, IsSerializable};
 ghost use Rattle.erm_tree.specs.Calls.{IsReady};
 ghost use Rattle.erm_tree.specs.Operations.{AreCalled, Call, answered_steps};
 ghost use Rattle.erm_world.specs.Going.{Extends};
-ghost use Rattle.erm_world.specs.World.{View, Work, begun, history_of, work_at};
-ghost use Rattle.erm_maps.specs.Runs.{AreRuns, IsAnswered, IsRunOf, RepliesAreSnapshots, RunsAsOperations, StandsBelow, Told, told_commits};
+ghost use Rattle.erm_world.specs.Saves.{HasClaimed, OnceOf, restored};
+ghost use Rattle.erm_world.specs.World.{View, Work, begun, history_of};
+ghost use Rattle.erm_maps.specs.Runs.{Agree, AreRuns, GoesOnBy, IsAnswered, IsRunOf, Kept, RepliesAreSnapshots, RunsAsOperations, StandsBelow, Told, WasRun, going_back, kept_at, saving, told_commits};
 
 use erm_model::{RowLaw, RowRead};
 use erm_world::{RowWorld, WorldTxn};
@@ -87,11 +92,12 @@ pub fn safe_replies_are_snapshots()
 }
 
 /// The operations that tree calls of a session answer in turn, refused calls and calls that set no row among them, are the run of
-/// its transaction: so it keeps the law of sound rows, as a seal asks, and an answered operation is one of its run's.
+/// its transaction: so it keeps the law of sound rows, as a seal asks, and an answered operation is one of its run's. Its savepoints
+/// stay.
 pub fn calls_are_runs<'a, W: RowWorld + 'a>()
     ensures { SameLaw W.law sound_law → (s t : WorldTxn W) (calls : List Call) (before : List Step)
-        → IsRunOf (work_at (W.view s.world.now) s.seat) before → AreCalled ⟦<WorldTxn<'a, W> as RowRead>⟧.face s calls t
-        → IsRunOf (work_at (W.view t.world.now) t.seat) (before ++ answered_steps calls) }
+        → IsRunOf (kept_at (W.view s.world.now) s.seat) before → AreCalled ⟦<WorldTxn<'a, W> as RowRead>⟧.face s calls t
+        → IsRunOf (kept_at (W.view t.world.now) t.seat) (before ++ answered_steps calls) }
 {
     erm_tree::operations_are_run_one::<WorldTxn<'a, W>>();
 }
@@ -99,12 +105,50 @@ pub fn calls_are_runs<'a, W: RowWorld + 'a>()
 /// A session in the middle of a transaction that is a run of operations so far is ready for the next tree call.
 pub fn runs_are_ready<'a, W: RowWorld + 'a>()
     ensures { SameLaw W.law sound_law → (s : WorldTxn W) (before : List Step) → ⟦<WorldTxn<'a, W> as RowRead>⟧.face.active s
-        → IsRunOf (work_at (W.view s.world.now) s.seat) before → IsReady ⟦<WorldTxn<'a, W> as RowRead>⟧.face s }
+        → IsRunOf (kept_at (W.view s.world.now) s.seat) before → IsReady ⟦<WorldTxn<'a, W> as RowRead>⟧.face s }
 {}
 
-/// A transaction that has done nothing is the run of no operations.
+/// A transaction that has done nothing is the run of no operations, and has no savepoint.
 pub fn begun_transactions_are_runs()
-    ensures { (number begin : ℕ) → IsRunOf (begun number begin) [] }
+    ensures { (number begin : ℕ) → IsRunOf (record { work = begun number begin; saves = [] }) [] }
+{}
+
+/// A transaction that is the run of its operations is that of one `Save` more, once it has saved its claims.
+pub fn saves_are_runs()
+    ensures { (k : Kept) (steps : List Step) → IsRunOf k steps
+        → IsRunOf (saving k) (steps ++ record { op = operation.Save; reply = reply.Done } ∷ []) }
+{}
+
+/// And that of one `Back` more, once its claims are restored to those of the savepoint. What it has read, claimed and made stays
+/// so.
+pub fn backs_are_runs()
+    ensures { (k : Kept) (steps : List Step) (n : ℕ) (saved : List VersionWritten) → IsRunOf k steps
+        → slice_get k.saves n ≡ Some saved
+        → IsRunOf (going_back (suc n) saved k) (steps ++ record { op = operation.Back (suc n); reply = reply.Done } ∷ []) }
+{}
+
+/// And that of one `Back` more to where there is no savepoint: it leaves all as it is.
+pub fn backs_to_none_are_runs()
+    ensures { (k : Kept) (steps : List Step) (n : ℕ) → IsRunOf k steps → saved_as n k.saves ≡ None
+        → IsRunOf k (steps ++ record { op = operation.Back n; reply = reply.Done } ∷ []) }
+{}
+
+/// And that of more steps on the map, once it has gone on by them. Its savepoints stay.
+pub fn steps_on_the_map_are_runs()
+    ensures { (k : Kept) (u : Work) (steps more : List Step) → AreOnMap more → IsRunOf k steps → GoesOnBy k.work u more
+        → IsRunOf (record { work = u; saves = k.saves }) (steps ++ more) }
+{}
+
+/// Once it is over, it was the run of its operations.
+pub fn runs_are_over()
+    ensures { (k : Kept) (steps : List Step) → IsRunOf k steps → WasRun k.work steps }
+{}
+
+/// On rows where each claim finds what it found, a transaction that went back sees the rows that it saw at the savepoint, if it
+/// claimed each object once.
+pub fn restored_rows_are_seen()
+    ensures { (saved claims : List VersionWritten) (rows : Rows) → HasClaimed saved claims → OnceOf claims → Agree rows claims
+        → after_writes (restored saved claims) rows ≡ after_writes saved rows }
 {}
 
 /// A transaction that has gone on, and was ended by a refusal in the middle of a call, still owes the replies given before: they are
