@@ -1,3 +1,4 @@
 pub mod Given
 pub mod SafeTxns
+pub mod Saved
 pub mod Txns

@@ -77,6 +77,7 @@ from_goes seat v u t passes goes = record {
   opening = goes.opening ∙ passes.opening;
   tail = omega (arith, passes.tail, goes.tail);
   flushed = omega (arith, passes.flushed, goes.flushed);
+  saves = λ active. goes.saves active ∙ passes.saves;
 }
 
 goes_out : (seat : ℕ) (v t : View) (u : Work) → phase_at v seat ≡ Active → IsDone v seat u world.aborts t → Extends (work_at v seat) u → Goes v seat t
@@ -87,6 +88,8 @@ goes_out seat v t u active now more = record {
   tail = now.tail;
   flushed = now.flushed;
   pinned = now.pinned;
+  saves = λ then. let idle = ap (λ (s : Session). phase_of s.stand) now.own in absurd (cc);
+  saves_of_others = now.saves.others;
 }
 
 -- REFUSED. A refusal is one that the call may have; by one that ends the session is idle, and another leaves its part.
@@ -114,6 +117,7 @@ module _ (seat : ℕ) (may : RowStop → Type 0) (v u t : View) (passes : Passes
           opening = ap (λ (w : View). w.opening) gives.is ∙ passes.opening;
           tail = omega (arith, passes.tail, ap (λ (w : View). w.tail) gives.is);
           flushed = omega (arith, passes.flushed, ap (λ (w : View). w.flushed) gives.is);
+          saves = λ active. ap (λ (w : View). w.saves seat) gives.is ∙ passes.saves;
         };
         ended = λ ended. cc;
         stays = λ still. own ∙ passes.own;

@@ -1,7 +1,7 @@
 -- A session that goes on beside others, and goes on again, has gone on.
 use Rattle.std.proofs.Common.{◌≡◌, ℕ, refl, ◌∙◌, subst, le_trans, arith}
 use Rattle.erm_world.specs.Face.{same}
-use Rattle.erm_world.specs.Onward.{grows_then}
+use Rattle.erm_world.specs.Onward.{active_before, grows_then}
 use Rattle.erm_world.specs.World.{View}
 use Rattle.erm_beside.specs.Calls.{Passes}
 use Rattle.erm_beside.specs.Face.{GoesBeside}
@@ -18,7 +18,7 @@ onward_then seat then_seat last before between after first second = record {
 }
 
 pub beside_itself : (seat : ℕ) (v : View) → GoesBeside seat v v
-beside_itself seat v = record { own = same refl; opening = refl; tail = omega arith; flushed = omega arith }
+beside_itself seat v = record { own = same refl; opening = refl; tail = omega arith; flushed = omega arith; saves = λ active. refl }
 
 pub beside_then : (seat then_seat : ℕ) (v t u : View) → then_seat ≡ seat → GoesBeside seat v t → GoesBeside then_seat t u → GoesBeside seat v u
 beside_then seat then_seat v t u is first later =
@@ -27,6 +27,7 @@ beside_then seat then_seat v t u is first later =
       opening = second.opening ∙ first.opening;
       tail = le_trans first.tail second.tail;
       flushed = le_trans first.flushed second.flushed;
+      saves = λ active. second.saves active ∙ first.saves (active_before (t.session seat) (u.session seat) second.own active);
     }
 
 pub passes_itself : (seat : ℕ) (v : View) → Passes seat v v

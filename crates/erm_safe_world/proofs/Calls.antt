@@ -1,5 +1,6 @@
 -- What the calls of a world do to its view are moves.
-use Rattle.std.proofs.Common.{◌≡◌, ℕ, ◌+◌, true, false, List, length, inl, inr, refl, sym, ap, subst, arith}
+use Rattle.std.proofs.Common.{◌≡◌, ℕ, ◌+◌, true, false, List, [], ◌∷◌, ◌++◌, length, take, inl, inr, refl, sym, ap, subst, arith}
+use Rattle.erm_model.specs.declared.history.VersionWritten.{VersionWritten}
 use Rattle.erm_model.specs.declared.outcome.Outcome.{Outcome}
 use Rattle.erm_model.specs.declared.outcome.Outcome.TheVariants.{Committed, Excluded}
 use Rattle.erm_model.specs.declared.outcome.Phase.TheVariants.{Active}
@@ -10,15 +11,18 @@ use Rattle.erm_world.specs.declared.stops.BeginStop.{BeginStop}
 use Rattle.erm_world.specs.declared.stops.BeginStop.TheVariants as begin_stop
 use Rattle.erm_world.specs.declared.stops.SafeStop.{SafeStop}
 use Rattle.erm_world.specs.declared.stops.SafeStop.TheVariants as safe_stop
+use Rattle.erm_world.specs.declared.stops.SaveStop.{SaveStop}
+use Rattle.erm_world.specs.declared.stops.SaveStop.TheVariants as save_stop
 use Rattle.erm_world.specs.Calls.{DidBegin, DidClaim, DidNotClaim, DidNotMake, DidNotRead, DidRead, DidSeal, DidSettle, DidWrite, MayNotBegin, Works}
 use Rattle.erm_world.specs.Calls as calls
 use Rattle.erm_world.specs.Safe.{DidBeginSafe, DidNotSafe, DidSafe, with_snapshot}
+use Rattle.erm_world.specs.Saves.{DidNotSave, DidSave, HasNoSave, WentBack, holding, restored, with_claims}
 use Rattle.erm_world.specs.Snapshots.{snapshot_not_active}
 use Rattle.erm_world.specs.World.{Finished, IsSession, IsWorking, Session, Snapshot, Stand, View, Work, begun, phase_at, phase_of, work_at, work_of}
 use Rattle.erm_world.specs.World as world
 use Rattle.erm_world.specs.Works.{claiming, reading, setting}
 use Rattle.erm_safe_world.specs.Moves.{IsOfNow, MovesOn}
-use Rattle.erm_safe_world.proofs.Moved.{abort_moves, becomes_moves, done_moves, moves_nowhere, one_moves}
+use Rattle.erm_safe_world.proofs.Moved.{abort_moves, becomes_moves, done_moves, keeps_moves, moves_nowhere, moves_then, one_moves}
 
 -- an active session is at work with its transaction
 active_works : (s : Stand) → phase_of s ≡ Active → IsWorking s (work_of s)
@@ -62,6 +66,19 @@ claim_begin v t seat oid (calls.now stamp base unclaimed few unowned newer did) 
 pub write_moves : (v t : View) (seat oid : ℕ) (row : List ℕ) → IsSession v seat → phase_at v seat ≡ Active → DidWrite v seat oid row t → MovesOn v t
 write_moves v t seat oid row session active did =
     works_moves v t seat (setting oid row (work_at did.between seat)) session active (claim_begin v did.between seat oid did.claim) did.set
+
+-- SAVE, BACK. Savepoints are no move, and a transaction that goes back goes on.
+holds_moves : (v t : View) (seat : ℕ) (held : List (List VersionWritten)) → t ≡ holding seat held v → MovesOn v t
+holds_moves v t seat held is = subst (MovesOn v) (sym is) (keeps_moves v (holding seat held v) (record { session = λ q session. refl; opening = refl; tail = refl }))
+
+pub save_moves : (v t : View) (seat held : ℕ) → DidSave v seat held t → MovesOn v t
+save_moves v t seat held did = holds_moves v t seat (v.saves seat ++ (work_at v seat).claims ∷ []) did.saved
+
+pub back_moves : (v t : View) (seat n : ℕ) → IsSession v seat → phase_at v seat ≡ Active → WentBack v seat n t → MovesOn v t
+back_moves v t seat n session active did =
+    moves_then v did.between t
+    (works_moves v did.between seat (with_claims (restored did.saved (work_at v seat).claims) (work_at v seat)) session active refl did.claims)
+    (holds_moves did.between t seat (take n (v.saves seat)) did.saves)
 
 -- SEAL. It has its stamp, and is at work still.
 pub seal_moves : (v t : View) (seat stamp : ℕ) → IsSession v seat → phase_at v seat ≡ Active → DidSeal v seat stamp t → MovesOn v t
@@ -120,6 +137,13 @@ pub not_made_moves : (v t : View) (seat : ℕ) (why : RowStop) → DidNotMake v 
 not_made_moves v t seat (stop.OidsFull drawn) told = moves_nowhere v t told.0
 not_made_moves v t seat stop.Memory told = moves_nowhere v t told
 not_made_moves v t seat _ told = absurd told
+
+pub not_saved_moves : (v t : View) (seat : ℕ) (why : SaveStop) → DidNotSave v seat why t → MovesOn v t
+not_saved_moves v t seat (save_stop.SavesFull held) told = moves_nowhere v t told.0
+not_saved_moves v t seat save_stop.Memory told = moves_nowhere v t told.0
+
+pub no_save_moves : (v t : View) (seat n held : ℕ) → HasNoSave v seat n held t → MovesOn v t
+no_save_moves v t seat n held told = moves_nowhere v t told.0
 
 pub not_safe_moves : (v t : View) (seat : ℕ) (why : SafeStop) → DidNotSafe v seat why t → MovesOn v t
 not_safe_moves v t seat (safe_stop.NotYet other seen) told = moves_nowhere v t told.0

@@ -9,9 +9,11 @@ ghost use Rattle.erm_model.specs.declared.row_stop.RowStop.{RowStop};
 ghost use Rattle.erm_model.specs.History.{IsNewestBelow, IsSnapshot};
 ghost use Rattle.erm_world.specs.declared.stops.BeginStop.{BeginStop};
 ghost use Rattle.erm_world.specs.declared.stops.SafeStop.{SafeStop};
+ghost use Rattle.erm_world.specs.declared.stops.SaveStop.{SaveStop};
 ghost use Rattle.erm_world.specs.declared.stops.Wait.{Wait};
 ghost use Rattle.erm_world.specs.Calls.{DidAbort, DidBegin, DidClaim, DidMake, DidNotClaim, DidNotMake, DidNotRead, DidNotSettle, DidRead, DidSeal, DidSettle, DidWrite, MayNotBegin};
 ghost use Rattle.erm_world.specs.Safe.{DidBeginSafe, DidNotSafe, DidSafe, IsSafeIn};
+ghost use Rattle.erm_world.specs.Saves.{DidNotSave, DidSave, HasNoSave, WentBack};
 ghost use Rattle.erm_world.specs.Whole.{KeepsSessions};
 ghost use Rattle.erm_world.specs.World.{IsSession, View, history_of, phase_at};
 ghost use Rattle.erm_safe_world.specs.Moves.{MovesOn};
@@ -26,6 +28,8 @@ pub fn calls_move_on()
     ensures claims { (v t : View) (seat oid : ℕ) → IsSession v seat → phase_at v seat ≡ Active → DidClaim v seat oid t → MovesOn v t }
     ensures writes { (v t : View) (seat oid : ℕ) (row : List ℕ) → IsSession v seat → phase_at v seat ≡ Active → DidWrite v seat oid row t → MovesOn v t }
     ensures makes { (v t : View) (seat oid : ℕ) → IsSession v seat → phase_at v seat ≡ Active → DidMake v seat oid t → MovesOn v t }
+    ensures saves { (v t : View) (seat held : ℕ) → DidSave v seat held t → MovesOn v t }
+    ensures backs { (v t : View) (seat n : ℕ) → IsSession v seat → phase_at v seat ≡ Active → WentBack v seat n t → MovesOn v t }
     ensures seals { (v t : View) (seat stamp : ℕ) → IsSession v seat → phase_at v seat ≡ Active → DidSeal v seat stamp t → MovesOn v t }
     ensures settles { (v t : View) (seat : ℕ) (outcome : Outcome) → IsSession v seat → DidSettle v seat outcome t → MovesOn v t }
     ensures aborts { (v t : View) (seat : ℕ) → DidAbort v seat t → MovesOn v t }
@@ -40,6 +44,8 @@ pub fn refusals_move_on()
     ensures reads { (v t : View) (seat oid : ℕ) (why : RowStop) → DidNotRead v seat oid why t → MovesOn v t }
     ensures claims { (v t : View) (seat oid : ℕ) (why : RowStop) → DidNotClaim v seat oid why t → MovesOn v t }
     ensures makes { (v t : View) (seat : ℕ) (why : RowStop) → DidNotMake v seat why t → MovesOn v t }
+    ensures saves { (v t : View) (seat : ℕ) (why : SaveStop) → DidNotSave v seat why t → MovesOn v t }
+    ensures backs { (v t : View) (seat n held : ℕ) → HasNoSave v seat n held t → MovesOn v t }
     ensures settles { (v t : View) (seat : ℕ) (why : Wait) → DidNotSettle v seat why t → MovesOn v t }
     ensures safe { (v t : View) (seat : ℕ) (why : SafeStop) → DidNotSafe v seat why t → MovesOn v t }
 {}

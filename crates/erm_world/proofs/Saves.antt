@@ -1,11 +1,11 @@
 -- The savepoints of a view: what becomes of them by what a session does.
-use Rattle.std.proofs.Common.{◌≡◌, ◌≢◌, ℕ, ◌==◌, cond, Bool, List, [], refl, ap, ◌∙◌, subst, eq-eqb, ne_eqb}
+use Rattle.std.proofs.Common.{◌≡◌, ◌≢◌, ℕ, cond, Bool, List, [], refl, ap, ◌∙◌, subst, eq-eqb, ne_eqb}
 use Rattle.erm_model.specs.declared.history.VersionWritten.{VersionWritten}
 use Rattle.erm_model.specs.declared.outcome.Phase.TheVariants.{Active, Idle}
 use Rattle.erm_world.specs.Calls.{Becomes, KeepsOwnSaves, KeepsSaves, Works}
-use Rattle.erm_world.specs.Saves.{holding, with_saves}
+use Rattle.erm_world.specs.Saves.{holding}
 use Rattle.erm_world.specs.Snapshots.{snapshot_not_active}
-use Rattle.erm_world.specs.World.{Session, Snapshot, Stand, View, Work, phase_at, phase_of}
+use Rattle.erm_world.specs.World.{Session, Stand, View, Work, phase_at, phase_of}
 use Rattle.erm_world.specs.World as world
 
 -- THE OWN ONES. They stay where a transaction in progress goes on.

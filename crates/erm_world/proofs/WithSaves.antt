@@ -8,7 +8,7 @@ use Rattle.erm_model.specs.declared.history.VersionWritten.{VersionWritten}
 use Rattle.erm_model.specs.declared.limits.TheConstants.{SAVES}
 use Rattle.erm_model.specs.declared.outcome.Outcome.{Outcome}
 use Rattle.erm_model.specs.declared.outcome.Outcome.TheVariants.{Committed, Excluded}
-use Rattle.erm_model.specs.declared.outcome.Phase.TheVariants.{Active, Idle}
+use Rattle.erm_model.specs.declared.outcome.Phase.TheVariants.{Active}
 use Rattle.erm_model.specs.declared.row_stop.RowStop.{RowStop}
 use Rattle.erm_model.specs.declared.row_stop.RowStop.TheVariants as stop
 use Rattle.erm_model.specs.RowTransaction.{Law}
@@ -58,17 +58,15 @@ holds_with saves more v seat held own others = ap (λ (at : ℕ → List (List V
     ]
 
 -- BEGIN. It has none.
+pub begins_with : (saves more : ℕ → List (List VersionWritten)) (v t : View) (seat at : ℕ) → ((q : ℕ) → q ≢ seat → more q ≡ saves q) → more seat ≡ [] → (v.session seat).stand ≡ world.idle
+    → Works v seat (begun (length (v.session seat).over + 1) at) t → Works (with_saves saves v) seat (begun (length (v.session seat).over + 1) at) (with_saves more t)
+begins_with saves more v t seat at others none idle now =
+    becomes_with saves more v t seat (record { over = (v.session seat).over; stand = world.active (begun (length (v.session seat).over + 1) at) }) others
+    (subst (λ (x : Stand). KeepsOwnSaves (world.active (begun (length (v.session seat).over + 1) at)) x (more seat) (saves seat)) (sym idle) none) now
+
 pub did_begin : (saves more : ℕ → List (List VersionWritten)) (v t : View) (seat at : ℕ) → ((q : ℕ) → q ≢ seat → more q ≡ saves q) → more seat ≡ [] → (v.session seat).stand ≡ world.idle
     → DidBegin v seat at t → DidBegin (with_saves saves v) seat at (with_saves more t)
-did_begin saves more v t seat at others none idle did = (
-  did.0,
-  did.1,
-  did.2,
-  becomes_with saves more v t seat _ others (begins_so (v.session seat).stand idle) did.3,
-)
-  where
-    begins_so : (stand : Stand) → stand ≡ world.idle → KeepsOwnSaves (world.active (begun (length (v.session seat).over + 1) at)) stand (more seat) (saves seat)
-    begins_so stand is = subst (λ (x : Stand). KeepsOwnSaves (world.active (begun (length (v.session seat).over + 1) at)) x (more seat) (saves seat)) (sym is) none
+did_begin saves more v t seat at others none idle did = (did.0, did.1, did.2, begins_with saves more v t seat at others none idle did.3)
 
 -- SAVE. The view is the same but for the savepoints, of which there is one more.
 pub did_save : (saves more : ℕ → List (List VersionWritten)) (v t : View) (seat : ℕ) → length (saves seat) < SAVES → more seat ≡ saves seat ++ (work_at v seat).claims ∷ []
@@ -101,13 +99,13 @@ module _ (f : ℕ → List (List VersionWritten)) where
   pub became : (v t : View) (seat : ℕ) (s : Session) → (phase_of s.stand ≡ Active → phase_at v seat ≡ Active) → Becomes v seat s t → Becomes (saved v) seat s (saved t)
   became v t seat s so is = becomes_with f f v t seat s (λ q another. refl) (same_by s.stand (v.session seat).stand (f seat) so) is
 
-  worked : (v t : View) (seat : ℕ) (w : Work) → phase_at v seat ≡ Active → Works v seat w t → Works (saved v) seat w (saved t)
+  pub worked : (v t : View) (seat : ℕ) (w : Work) → phase_at v seat ≡ Active → Works v seat w t → Works (saved v) seat w (saved t)
   worked v t seat w active now = became v t seat _ (λ is. active) now
 
-  done : (v t : View) (seat : ℕ) (w : Work) (fate : Fate) → IsDone v seat w fate t → IsDone (saved v) seat w fate (saved t)
+  pub done : (v t : View) (seat : ℕ) (w : Work) (fate : Fate) → IsDone v seat w fate t → IsDone (saved v) seat w fate (saved t)
   done v t seat w fate now = became v t seat _ (λ active. absurd (cc active)) now
 
-  watched : (v t : View) (seat : ℕ) (s : Snapshot) → Becomes v seat (with_snapshot v seat s) t → Becomes (saved v) seat (with_snapshot (saved v) seat s) (saved t)
+  pub watched : (v t : View) (seat : ℕ) (s : Snapshot) → Becomes v seat (with_snapshot v seat s) t → Becomes (saved v) seat (with_snapshot (saved v) seat s) (saved t)
   watched v t seat s now = became v t seat (with_snapshot v seat s) (λ active. absurd (snapshot_not_active s active)) now
 
   ahead : (v : View) (seat oid bound other seen : ℕ) → IsAhead v seat oid bound other seen → IsAhead (saved v) seat oid bound other seen

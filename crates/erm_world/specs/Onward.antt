@@ -54,7 +54,7 @@ grows_then s t r (ends w u begins over stands went) (ends y x then_begins then_o
     absurd (none_in_progress t.stand y stands then_begins)
 
 -- one that is active after it went on was so before
-active_before : (s t : Session) → Grows s t → phase_of t.stand ≡ Active → phase_of s.stand ≡ Active
+pub active_before : (s t : Session) → Grows s t → phase_of t.stand ≡ Active → phase_of s.stand ≡ Active
 active_before s t (same e) active = ap (λ (at : Session). phase_of at.stand) (sym e) ∙ active
 active_before s t (works w u begins over stands went) active = ap phase_of begins
 active_before s t (ends w u begins over stands went) active = ap phase_of begins

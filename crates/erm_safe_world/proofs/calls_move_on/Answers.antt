@@ -1,7 +1,7 @@
 use Rattle.std.proofs.Common.{refl}
 use Rattle.erm_world.specs.World.{work_at}
 use Rattle.erm_world.specs.Works.{making}
-use Rattle.erm_safe_world.proofs.Calls.{begin_moves, begin_safe_moves, claim_moves, read_moves, safe_moves, seal_moves, settle_moves, works_moves, write_moves}
+use Rattle.erm_safe_world.proofs.Calls.{back_moves, begin_moves, begin_safe_moves, claim_moves, read_moves, safe_moves, save_moves, seal_moves, settle_moves, works_moves, write_moves}
 use Rattle.erm_safe_world.proofs.Moved.{abort_moves, keeps_moves, moves_nowhere, moves_then}
 use Rattle.erm_safe_world.proofs.calls_move_on.Goals as goal
 
@@ -25,6 +25,12 @@ returns-clause-writes c v t seat oid row session active did = write_moves v t se
 
 pub returns-clause-makes : goal.returns-clause-makes
 returns-clause-makes c v t seat oid session active did = works_moves v t seat (making oid (work_at v seat)) session active refl did
+
+pub returns-clause-saves : goal.returns-clause-saves
+returns-clause-saves c v t seat held did = save_moves v t seat held did
+
+pub returns-clause-backs : goal.returns-clause-backs
+returns-clause-backs c v t seat n session active did = back_moves v t seat n session active did
 
 pub returns-clause-seals : goal.returns-clause-seals
 returns-clause-seals c v t seat stamp session active did = seal_moves v t seat stamp session active did
