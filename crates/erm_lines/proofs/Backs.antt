@@ -1,6 +1,6 @@
 -- A transaction that went back to a savepoint: it may have begun on rows on which it may have begun before, and with the claims that it had at the
 -- savepoint; it sees what it saw there; and it has claimed what it had.
-use Rattle.std.proofs.Common.{◌≡◌, ℕ, ◌==◌, Bool, ◌||◌, List, [], ◌∷◌, Some, map, refl, sym, ap, ◌∙◌, subst}
+use Rattle.std.proofs.Common.{◌≡◌, ℕ, ◌==◌, Bool, ◌||◌, List, [], ◌∷◌, ◌++◌, Some, append-nil, map, refl, sym, ap, ◌∙◌, subst}
 use Rattle.std.specs.List.{list_any, slice_get}
 use Rattle.erm_model.specs.declared.history.VersionWritten.{VersionWritten}
 use Rattle.erm_model.specs.Rows.{Rows}
@@ -14,8 +14,7 @@ use Rattle.erm_world.specs.World.{Work}
 use Rattle.erm_world.proofs.Restored.{extends_restored, found_restored}
 use Rattle.erm_maps.specs.Runs.{IsRunOf, Kept}
 use Rattle.erm_maps.proofs.Extended.{fitted_before}
-use Rattle.erm_maps.proofs.GoingOn.{extends_with}
-use Rattle.erm_maps.proofs.Restored.{seen_restored}
+use Rattle.erm_maps.proofs.Seen.{seen_restored}
 
 -- CLAIMS that found the same are of the same objects.
 any_found : (claims : List VersionWritten) (x : ℕ) → is_claimed claims x ≡ list_any (λ (f : ℕ × ℕ × List ℕ). f.0 == x) (map found_by claims)
@@ -25,6 +24,19 @@ any_found (c ∷ claims) x = ap (λ (b : Bool). (c.oid == x) || b) (any_found cl
 pub claimed_found : (claims others : List VersionWritten) (x : ℕ) → map found_by claims ≡ map found_by others → is_claimed claims x ≡ is_claimed others x
 claimed_found claims others x same =
     any_found claims x ∙ ap (λ (fs : List (ℕ × ℕ × List ℕ)). list_any (λ (f : ℕ × ℕ × List ℕ). f.0 == x) fs) same ∙ sym (any_found others x)
+
+-- with the same claims as before it has gone on too
+extends_with : (claims : List VersionWritten) (w u : Work) → Extends w u → Extends (with_claims claims w) (with_claims claims u)
+extends_with claims w u more = record {
+  number = more.number;
+  begin = more.begin;
+  read = more.read;
+  reads = more.reads;
+  claimed = [];
+  claims = sym (append-nil (map found_by claims));
+  more = more.more;
+  made = more.made;
+}
 
 -- ROWS on which it may have begun where it has gone on: with the claims of a savepoint too.
 pub fits_with : (saved : List VersionWritten) (w u : Work) → Extends w u → (rows : Rows) → FitsWork sound_law (with_claims saved u) rows → FitsWork sound_law (with_claims saved w) rows

@@ -2,8 +2,7 @@
 use Rattle.std.proofs.Common.{◌≡◌, ◌≢◌, ℕ, suc, List, [], ◌∷◌, ◌++◌, take, refl, sym, ap, ◌∙◌, subst}
 use Rattle.erm_model.specs.declared.history.VersionWritten.{VersionWritten}
 use Rattle.erm_model.specs.declared.outcome.Phase.TheVariants.{Active}
-use Rattle.erm_model.specs.Database.{Database}
-use Rattle.erm_model.specs.Run.{Saving, Step}
+use Rattle.erm_model.specs.Run.{Step}
 use Rattle.erm_report.specs.declared.answer.Answer.{Answer}
 use Rattle.erm_report.specs.declared.answer.Answer.TheVariants as answer
 use Rattle.erm_world.specs.Going.{Extends}
@@ -11,7 +10,7 @@ use Rattle.erm_world.specs.Saves.{WentBack, holding, restored, with_claims}
 use Rattle.erm_world.specs.World.{Session, View, Work, phase_at, phase_of, work_at, work_of}
 use Rattle.erm_world.proofs.Restored.{extends_restored}
 use Rattle.erm_world.proofs.Saves.{held_now, held_others}
-use Rattle.erm_maps.specs.Runs.{IsRunOf, Kept, WasRun, going_back, kept_at, saving}
+use Rattle.erm_maps.specs.Runs.{IsRunOf, Kept, going_back, kept_at, saving}
 use Rattle.erm_maps.proofs.Kept.{IsRunOf-going_back, IsRunOf-saving, back_step, save_step}
 use Rattle.erm_lines.specs.Answers.{DidAskBack, DidAskSave}
 
@@ -88,10 +87,6 @@ went_back v t seat n a did = absurd did
 -- RUNS. The transaction is the run of the operations before, and of this one where it was answered.
 abbrev pub IsRunAt : View → ℕ → Type 0
 IsRunAt v seat = (steps : List Step) × IsRunOf (kept_at v seat) steps
-
--- what it was, should it end so
-pub was_run : (k : Kept) (steps : List Step) → IsRunOf k steps → WasRun k.work steps
-was_run k steps run = record { run = run.run; after = λ rows sound fits. sym (ap (λ (s : Saving Database). s.now) (run.after rows sound fits)); lawful = run.lawful }
 
 -- what a transaction is then
 pub kept_saving : (v t : View) (seat : ℕ) → t ≡ holding seat (v.saves seat ++ (work_at v seat).claims ∷ []) v → kept_at t seat ≡ saving (kept_at v seat)

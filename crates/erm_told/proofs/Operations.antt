@@ -17,12 +17,12 @@ use Rattle.erm_world.specs.World.{Finished, Session, Stand, View, Work, phase_at
 use Rattle.erm_world.specs.World as world
 use Rattle.erm_world.proofs.Txns.{stopped}
 use Rattle.erm_maps.specs.Runs.{IsAnswered, IsRunOf, WasRun, kept_at}
+use Rattle.erm_maps.proofs.GoingOn.{WasRun-from}
 use Rattle.erm_good_report.specs.Phases.{asks_safe, phase_after, phase_after_wait}
 use Rattle.erm_good_report.specs.Transactions.{Aborts, Ending, Excludes, Progress, Snapshot, Transaction, ended, goes_on, heard, held_of, op_of, reply_in, snapshot_after, steps_of, table_of, with_line, with_look}
 use Rattle.erm_lines.specs.Answers.{DidOperation, WasRefusedAs, stop_told}
 use Rattle.erm_lines.specs.Operations.{AsksOf, DidCalls, FrontOf, WereCutOff, WholeOf}
 use Rattle.erm_lines.specs.Told.{EndsAs, Tells, TellsNow, TellsOver, TellsWatched}
-use Rattle.erm_lines.proofs.Saved.{was_run}
 use Rattle.erm_told.proofs.Going.{continues_from}
 use Rattle.erm_told.proofs.Running.{GoesOn, active_in, over_still, over_then, ran_on, ran_saves}
 use Rattle.erm_told.proofs.Sessions.{aborted_told, active_told, look_after, none_watched, unchanged_told}
@@ -61,7 +61,7 @@ module _ (v : View) (seat : ℕ) (asked : Option Command) (a : Answer) (t : View
   stands = active_in (t.session seat).stand on.active
 
   run_then : (u : Transaction) → RunsBy v seat u → WasRun (work_at t seat) (steps_of (with_line asked a u))
-  run_then u by = was_run (kept_at t seat) (steps_of (with_line asked a u)) (runs u by).run
+  run_then u by = WasRun-from (kept_at t seat) (steps_of (with_line asked a u)) (runs u by).run
 
   goes_told : (p : Progress) → TellsAt seat p v → TellsAt seat (goes_on asked a p) t
   goes_told p told = record {

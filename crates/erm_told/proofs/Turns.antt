@@ -11,11 +11,12 @@ use Rattle.erm_world.specs.Snapshots.{snapshot_not_idle}
 use Rattle.erm_world.specs.World.{Fate, Finished, Opening, Session, Stand, View, Work, phase_at, phase_of, stamp_of, work_at, work_of}
 use Rattle.erm_world.specs.World as world
 use Rattle.erm_maps.specs.Runs.{IsRunOf, Kept, WasRun, kept_at}
+use Rattle.erm_maps.proofs.GoingOn.{WasRun-from}
 use Rattle.erm_good_report.specs.Phases.{asks_safe, phase_after}
 use Rattle.erm_good_report.specs.Transactions.{Ending, Aborts, Progress, Transaction, begun, ended, goes_on, heard, held_of, steps_of, with_line}
 use Rattle.erm_lines.specs.Told.{Continues, EndsAs, RanAs, Tells, TellsNow, TellsWatched}
 use Rattle.erm_lines.proofs.Keeping.{NoneRuns}
-use Rattle.erm_lines.proofs.Saved.{kept_is, was_run}
+use Rattle.erm_lines.proofs.Saved.{kept_is}
 use Rattle.erm_told.proofs.Going.{continues_from, continues_itself, extends_itself}
 use Rattle.erm_told.proofs.Running.{active_in}
 use Rattle.erm_told.proofs.Sessions.{aborted_told, begun_told, decided_told, none_watched, same_steps, sealed_told, sealed_untold, still_watched, unchanged_told, watched_none}
@@ -141,7 +142,7 @@ turn_begins v seat begin asked t none idle now =
       phase = sym (ap (λ (r : Session). phase_of r.stand) now.own);
       tells = λ p told. record {
         tells = subst (λ (r : Session). Tells seat (heard seat asked (answer.Began begin) p) r) (sym now.own)
-            (begun_told seat begin asked p over (was_run (record { work = world.begun (length over + 1) begin; saves = [] }) [] bare_run) told.tells.over (subst (λ (at : Stand). TellsWatched p.snapshot at) stand told.tells.watched));
+            (begun_told seat begin asked p over (WasRun-from (record { work = world.begun (length over + 1) begin; saves = [] }) [] bare_run) told.tells.over (subst (λ (at : Stand). TellsWatched p.snapshot at) stand told.tells.watched));
         runs = λ one same active. subst (λ (x : Transaction). RunsBy t seat x) (the_one (begun seat begin p) one same) (record { run = run; held = ap length (sym bare) });
       };
     }
