@@ -88,7 +88,7 @@ owes = record {
   serial = serial_of_none;
   causes = none_told _;
   refusals = each_place (λ i l a. HasCause (moment_in first_opening script_with_gap (answered_of counts script_with_gap) (answer.NoTransaction ∷ []) [] i l) l.command a) (answered_of counts script_with_gap) (answer.NoTransaction ∷ [])
-      (record { own = λ t is. tt; log = tt; unfilled = tt }, tt);
+      (record { own = λ t is. tt; saves = λ t is. tt; log = tt; unfilled = tt }, tt);
   reach = each_place (λ i l a. IsInReach (moment_in first_opening script_with_gap (answered_of counts script_with_gap) (answer.NoTransaction ∷ []) [] i l) l.command a) (answered_of counts script_with_gap) (answer.NoTransaction ∷ [])
       (record { begin = tt; drawn = tt }, tt);
   safe = none_agree (moment_in first_opening script_with_gap (answered_of counts script_with_gap) (answer.NoTransaction ∷ []) []) first_opening (answered_of counts script_with_gap) (answer.NoTransaction ∷ []) [] refl;

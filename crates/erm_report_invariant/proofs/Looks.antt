@@ -22,7 +22,7 @@ use Rattle.erm_script.specs.declared.script.ScriptLine.{ScriptLine}
 use Rattle.erm_good_report.specs.GoodReport.{places_of, serial_of}
 use Rattle.erm_good_report.specs.Phases.{Closed, Closes, FitsPhase, FitsSnapshot, HasNoSnapshot, IsAnswerTo, NeedsWriter, PhasesAgree, phase_after, phase_after_wait, phase_of, refusal_for, refusal_of}
 use Rattle.erm_good_report.specs.Stamps.{IsWait}
-use Rattle.erm_good_report.specs.Transactions.{Progress, Said, Snapshot, ended_as, ended_of, exchange_of, heard, history_of, looks_of, next_number, nothing, op_of, own_snapshot, placed_at, progress_of, reply_in, said_of, snapshot_after, step_of, table_of, transactions_of, with_begin, with_end, with_look}
+use Rattle.erm_good_report.specs.Transactions.{Progress, Said, Snapshot, ended_as, ended_of, exchange_of, heard, history_of, looks_of, next_number, nothing, op_of, own_snapshot, placed_at, progress_of, reply_in, said_of, snapshot_after, step_of, transactions_of, with_begin, with_end, with_look, works_on_map}
 use Rattle.erm_good_report.proofs.InReach.{either_part}
 use Rattle.erm_good_report.proofs.Phases.{answers_so}
 use Rattle.erm_invariant.specs.Commits.{AllKeep}
@@ -47,10 +47,10 @@ one_step : (o : Option Step) → IfSome o Reads → All Reads (cons_option o [])
 one_step None is = All-nil Reads
 one_step (Some step) is = All-cons Reads step [] is (All-nil Reads)
 
-one_line : (c : Command) (a : Answer) (table : Option ℕ) → IfSome (step_of (record { asked = c; answer = a })) Reads
-    → All Reads (filter_map step_of (option_to_list (option_map (λ (n : ℕ). record { asked = c; answer = a }) table)))
-one_line c a None is = All-nil Reads
-one_line c a (Some table) is = one_step (step_of (record { asked = c; answer = a })) is
+one_line : (c : Command) (a : Answer) (works : Bool) → IfSome (step_of (record { asked = c; answer = a })) Reads
+    → All Reads (filter_map step_of (option_to_list (cond works (Some (record { asked = c; answer = a })) None)))
+one_line c a false is = All-nil Reads
+one_line c a true is = one_step (step_of (record { asked = c; answer = a })) is
 
 -- a line without a reply adds nothing
 abbrev told_by : Option Op → Option Reply → Option Step
@@ -62,7 +62,7 @@ untold (Some op) None none = tt
 untold (Some op) (Some reply) none = absurd (let no : None ≡ Some reply = sym none in cc)
 
 quiet : (c : Command) (a : Answer) → reply_in a ≡ None → All Reads (added (Some c) a)
-quiet c a none = one_line c a (table_of c) (untold (op_of c) (reply_in a) none)
+quiet c a none = one_line c a (works_on_map c) (untold (op_of c) (reply_in a) none)
 
 -- one that is replied to is a look, or there is no snapshot
 writes_plain : (phase : Phase) → refusal_for (Some NeedsWriter) phase ≡ None → HasNoSnapshot phase
@@ -73,12 +73,21 @@ writes_plain Pending free = absurd (cc)
 writes_plain Safe free = absurd (cc)
 
 replied : (c : Command) (r : Reply) (phase : Phase) → IsAnswerTo c (answer.Replied r) → refusal_of phase c ≡ None → HasNoSnapshot phase ⊎ All Reads (added (Some c) (answer.Replied r))
-replied (command.Get table key) r phase is free = inr (one_line (command.Get table key) (answer.Replied r) (Some table) tt)
-replied (command.Next table from) r phase is free = inr (one_line (command.Next table from) (answer.Replied r) (Some table) tt)
-replied (command.Scan table low high) r phase is free = inr (one_line (command.Scan table low high) (answer.Replied r) (Some table) tt)
+replied (command.Get table key) r phase is free = inr (one_line (command.Get table key) (answer.Replied r) true tt)
+replied (command.Next table from) r phase is free = inr (one_line (command.Next table from) (answer.Replied r) true tt)
+replied (command.Scan table low high) r phase is free = inr (one_line (command.Scan table low high) (answer.Replied r) true tt)
 replied (command.Put table key value) r phase is free = inl (writes_plain phase free)
 replied (command.Del table key) r phase is free = inl (writes_plain phase free)
 replied c r phase is free = absurd is
+
+-- a savepoint sets no value, and neither does a way back
+saved : (c : Command) (held : ℕ) → IsAnswerTo c (answer.Saved held) → All Reads (added (Some c) (answer.Saved held))
+saved command.Save held is = one_line command.Save (answer.Saved held) true tt
+saved c held is = absurd is
+
+went_back : (c : Command) (told : ℕ) → IsAnswerTo c (answer.Back told) → All Reads (added (Some c) (answer.Back told))
+went_back (command.Back n) told is = one_line (command.Back n) (answer.Back told) true tt
+went_back c told is = absurd is
 
 -- THE SNAPSHOTS of a session: those that are over, and the one that isn't, have only read; and in a phase without one there is none.
 record Holds (phase : Phase) (past : List Snapshot) (own : Option Snapshot) : Type 0 where
@@ -210,6 +219,10 @@ module _ (q : ℕ) where
   hears c (answer.WaitSeat seat seen) phase p fits looks h = waits c seat seen phase p fits looks h
   hears c (answer.WaitRing flushed) phase p fits looks h = waits_ring c flushed phase p fits looks h
   hears c (answer.Replied r) phase p fits looks h = replies c r phase p fits h
+  hears c (answer.Saved held) phase p fits looks h =
+      goes phase phase (Some c) (answer.Saved held) p.snapshots p.snapshot (saved c held (answers_so phase c (answer.Saved held) refl fits).1) (λ none. none) h
+  hears c (answer.Back n) phase p fits looks h =
+      goes phase phase (Some c) (answer.Back n) p.snapshots p.snapshot (went_back c n (answers_so phase c (answer.Back n) refl fits).1) (λ none. none) h
   hears c a phase p fits looks h = goes phase phase (Some c) a p.snapshots p.snapshot (quiet c a refl) (λ none. none) h
 
   abbrev phase_from : Phase → List Said → Phase
