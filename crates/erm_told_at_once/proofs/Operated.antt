@@ -22,6 +22,7 @@ use Rattle.erm_good_report.specs.Phases.{asks_safe, phase_after}
 use Rattle.erm_good_report.specs.Transactions.{Aborts, Ending, Excludes, Progress, Transaction, ended, goes_on, heard, held_of, reply_in, steps_of, table_of, with_line}
 use Rattle.erm_lines.specs.Operations.{AsksOf, DidCalls, FrontOf, Ran, WholeOf}
 use Rattle.erm_lines.specs.Told.{Continues, EndsAs, TellsNow, TellsOver, TellsWatched}
+use Rattle.erm_maps.proofs.GoingOn.{WasRun-from}
 use Rattle.erm_beside.specs.Calls.{Passes}
 use Rattle.erm_beside.proofs.Txns.{Stopped, stopped_after}
 use Rattle.erm_told.proofs.Executed.{told_same}
@@ -65,7 +66,7 @@ went_from s t active (u, stand, more, over) =
 
 -- its run, with the savepoints that it holds
 now_run : (t : View) (seat : ℕ) (u : Work) (x : Transaction) → (t.session seat).stand ≡ world.active u → RunsBy t seat x → WasRun u (steps_of x)
-now_run t seat u x stand by = (t.saves seat, subst (λ (w : Work). IsRunOf (record { work = w; saves = t.saves seat }) (steps_of x)) (ap work_of stand) by.run)
+now_run t seat u x stand by = subst (λ (w : Work). WasRun w (steps_of x)) (ap work_of stand) (WasRun-from (kept_at t seat) (steps_of x) by.run)
 
 took_on : (seat : ℕ) (asked : Option Command) (a : Answer) (v t : View) → phase_at v seat ≡ Active → asks_safe asked ≡ false → GoesFrom (v.session seat) (t.session seat)
     → ((before : List Step) → IsRunOf (kept_at v seat) before → IsRunOf (kept_at t seat) (before ++ added asked a))
@@ -141,7 +142,7 @@ module _ (f : View) (seat : ℕ) (front : Rows → List Event → Type 0) (asks 
   )
 
   pub cut_saves : rows.ends why ≡ false → t.saves seat ≡ v.saves seat
-  cut_saves stays = last.saves stays ∙ before.saves
+  cut_saves stays = last.goes.saves (ap (λ (s : Session). phase_of s.stand) (last.stays stays) ∙ ap phase_of before.stand) ∙ before.saves
 
   pub cut_ends : rows.ends why ≡ true → Grows (v.session seat) (t.session seat) × ((t.session seat).stand ≡ world.idle)
   cut_ends ends = (grows_then (v.session seat) (cut.at.session seat) (t.session seat) before.grows last.goes.own, last.ended ends)
