@@ -154,6 +154,12 @@ becomes_later v t seat s now later = record {
   session = one_session v t seat (subst (λ (r : Session). IsLater (v.session seat) r) (sym now.own) later) now.others;
 }
 
+pub active_later : (v t : View) (seat : ℕ) (w u : Work) → (v.session seat).stand ≡ world.active w → Extends w u → Works v seat u t → IsLaterWorld v t
+active_later v t seat w u stand goes now =
+    let s : Session = record { over = (v.session seat).over; stand = world.active u } in
+    becomes_later v t seat s now
+    (later_on (v.session seat) s w u goes (ap work_of stand) (λ x at. one_active (v.session seat).stand w x stand at) refl refl refl (unsealed (v.session seat).stand w [] s.stand stand))
+
 pub world_begins : (v t : View) (seat : ℕ) (w : Work) → (v.session seat).stand ≡ world.idle → Works v seat w t → IsLaterWorld v t
 world_begins v t seat w idle now =
     becomes_later v t seat (record { over = (v.session seat).over; stand = world.active w }) now (idle_later (v.session seat) (record { over = (v.session seat).over; stand = world.active w }) idle refl)

@@ -1,5 +1,6 @@
 -- The other sessions of a world, of which one is called alone.
 use Rattle.std.proofs.Common.{◌≡◌, ◌≢◌, ℕ, ◌≤◌, List, ap, ◌∙◌, subst, sym, Result, Ok, Err, IfOk, IfErr, OnOk}
+use Rattle.erm_model.specs.declared.history.VersionWritten.{VersionWritten}
 use Rattle.erm_model.specs.declared.outcome.Outcome.{Outcome}
 use Rattle.erm_model.specs.declared.outcome.Outcome.TheVariants.{Committed, Excluded}
 use Rattle.erm_model.specs.declared.outcome.Phase.TheVariants.{Active}
@@ -15,25 +16,26 @@ use Rattle.erm_world.proofs.Txns.{stopped, went}
 use Rattle.erm_beside.proofs.Given.{given_answered, given_refused, given_same}
 use Rattle.erm_lone.specs.Later.{OthersStand}
 
--- a call of one session leaves the others as they are, how the world was opened, and which claims were given up
+-- a call of one session leaves the others as they are, with their savepoints, how the world was opened, and which claims were given up
 pub record Leaves (v : View) (seat : ℕ) (t : View) : Type 0 where
   pub others : (q : ℕ) → q ≢ seat → t.session q ≡ v.session q
   pub opening : t.opening ≡ v.opening
   pub given_up : t.given_up ≡ v.given_up
+  pub saves : (q : ℕ) → q ≢ seat → t.saves q ≡ v.saves q
 
 -- so the session may be called again, beside the same
-pub stays : (standing : ℕ → Session × List GivenUp) (v t : View) (seat : ℕ) → Leaves v seat t → IsSession v seat × OthersStand standing v seat → IsSession t seat × OthersStand standing t seat
+pub stays : (standing : ℕ → Session × List GivenUp × List (List VersionWritten)) (v t : View) (seat : ℕ) → Leaves v seat t → IsSession v seat × OthersStand standing v seat → IsSession t seat × OthersStand standing t seat
 stays standing v t seat leaves (session, stand) =
-    ((session.0, subst (λ (o : Opening). seat ≤ o.sessions) (sym leaves.opening) session.1), λ q another. (leaves.others q another ∙ (stand q another).0, ap (λ (given : ℕ → List GivenUp). given q) leaves.given_up ∙ (stand q another).1))
+    ((session.0, subst (λ (o : Opening). seat ≤ o.sessions) (sym leaves.opening) session.1), λ q another. (leaves.others q another ∙ (stand q another).0, ap (λ (given : ℕ → List GivenUp). given q) leaves.given_up ∙ (stand q another).1, leaves.saves q another ∙ (stand q another).2))
 
 pub leaves_same : (v t : View) (seat : ℕ) → t ≡ v → Leaves v seat t
-leaves_same v t seat is = record { others = λ q another. ap (λ (u : View). u.session q) is; opening = ap (λ (u : View). u.opening) is; given_up = given_same v t is }
+leaves_same v t seat is = record { others = λ q another. ap (λ (u : View). u.session q) is; opening = ap (λ (u : View). u.opening) is; given_up = given_same v t is; saves = λ q another. ap (λ (u : View). u.saves q) is }
 
 pub leaves_becomes : (v t : View) (seat : ℕ) (s : Session) → Becomes v seat s t → Leaves v seat t
-leaves_becomes v t seat s now = record { others = now.others; opening = now.opening; given_up = now.given_up }
+leaves_becomes v t seat s now = record { others = now.others; opening = now.opening; given_up = now.given_up; saves = now.saves.others }
 
 leaves_goes : (v t : View) (seat : ℕ) → Goes v seat t → t.given_up ≡ v.given_up → Leaves v seat t
-leaves_goes v t seat goes given = record { others = goes.others; opening = goes.opening; given_up = given }
+leaves_goes v t seat goes given = record { others = goes.others; opening = goes.opening; given_up = given; saves = goes.saves_of_others }
 
 answered_leaves : (law : Law) (v t : View) (seat : ℕ) (event : Event) → phase_at v seat ≡ Active → Answered v seat event t → Leaves v seat t
 answered_leaves law v t seat event active did = leaves_goes v t seat (went law v seat event t active did).goes (given_answered seat event v t did)
@@ -69,7 +71,7 @@ settles_leaves (Ok outcome) v t seat did was = settled_leaves v t seat outcome d
 settles_leaves (Err why) v t seat did was = leaves_same v t seat was.0
 
 pub seals_leaves : (v t : View) (seat stamp : ℕ) → DidSeal v seat stamp t → Leaves v seat t
-seals_leaves v t seat stamp did = record { others = did.others; opening = did.opening; given_up = did.given_up }
+seals_leaves v t seat stamp did = record { others = did.others; opening = did.opening; given_up = did.given_up; saves = did.saves }
 
 pub aborts_leaves : (v t : View) (seat : ℕ) → DidAbort v seat t → Leaves v seat t
 aborts_leaves v t seat did = leaves_becomes v t seat _ did

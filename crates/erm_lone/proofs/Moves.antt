@@ -27,7 +27,7 @@ use Rattle.erm_lone.proofs.Later.{ends_onward, world_aborts, world_begins, world
 
 -- nothing happened between
 pub rests : (seat : ℕ) (v : View) → Passes seat v v
-rests seat v = record { own = refl; opening = refl; tail = omega arith; flushed = omega arith; given_up = refl }
+rests seat v = record { own = refl; opening = refl; tail = omega arith; flushed = omega arith; given_up = refl; saves = refl }
 
 pub at_once : (seat : ℕ) (Did : View → View → Type 0) (v t : View) → Did v t → After seat Did v t
 at_once seat Did v t did = (v, rests seat v, did)

@@ -1,5 +1,6 @@
 -- A world after calls of its sessions: in which worlds its sessions may end.
 use Rattle.std.specs.Prelude.{◌≡◌, ◌≢◌, ℕ, ◌≤◌, List}
+use Rattle.erm_model.specs.declared.history.VersionWritten.{VersionWritten}
 use Rattle.erm_model.specs.RowTransaction.{Law}
 use Rattle.erm_world.specs.Laws.{IsSerializable}
 use Rattle.erm_world.specs.World.{GivenUp, IsSession, Session, View}
@@ -17,6 +18,6 @@ pub record IsLaterWorld (v f : View) : Type 0 where
 abbrev pub EndsIn : Law → View → ℕ → View → Type 0
 EndsIn law v seat f = IsSession v seat × IsLaterWorld v f × IsSerializable law f × MovesOn v f
 
--- the sessions of a world but the one of this seat stand so, and have given these claims up
-abbrev pub OthersStand : (ℕ → Session × List GivenUp) → View → ℕ → Type 0
-OthersStand standing v seat = (q : ℕ) → q ≢ seat → (v.session q ≡ (standing q).0) × (v.given_up q ≡ (standing q).1)
+-- the sessions of a world but the one of this seat stand so, have given these claims up, and hold these savepoints
+abbrev pub OthersStand : (ℕ → Session × List GivenUp × List (List VersionWritten)) → View → ℕ → Type 0
+OthersStand standing v seat = (q : ℕ) → q ≢ seat → (v.session q ≡ (standing q).0) × (v.given_up q ≡ (standing q).1) × (v.saves q ≡ (standing q).2)

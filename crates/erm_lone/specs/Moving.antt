@@ -7,10 +7,12 @@ use Rattle.erm_model.specs.History.{IsNewestBelow, IsSnapshot}
 use Rattle.erm_model.specs.RowTransaction.{Asked, Event}
 use Rattle.erm_world.specs.declared.stops.BeginStop.{BeginStop}
 use Rattle.erm_world.specs.declared.stops.SafeStop.{SafeStop}
+use Rattle.erm_world.specs.declared.stops.SaveStop.{SaveStop}
 use Rattle.erm_world.specs.declared.stops.Wait.{Wait}
 use Rattle.erm_world.specs.Calls.{DidAbort, DidBegin, DidNotSettle, DidSeal, DidSettle, MayNotBegin}
 use Rattle.erm_world.specs.Face.{Answered, WasRefused}
 use Rattle.erm_world.specs.Safe.{DidBeginSafe, DidNotSafe, DidSafe, IsSafeIn}
+use Rattle.erm_world.specs.Saves.{DidNotSave, DidSave, HasNoSave, WentBack}
 use Rattle.erm_world.specs.World.{IsSession, View, history_of, phase_at}
 use Rattle.erm_safe_world.specs.Moves.{MovesOn}
 
@@ -23,6 +25,10 @@ pub record WorldsMoveOn : Type 0 where
   pub begins : (v t : View) (seat begin : ℕ) → DidBegin v seat begin t → MovesOn v t
   pub begins_safe : (v t : View) (seat begin : ℕ) → DidBeginSafe v seat begin t → MovesOn v t
   pub not_begun : (v t : View) (seat : ℕ) (why : BeginStop) → MayNotBegin v seat why t → MovesOn v t
+  pub saves : (v t : View) (seat held : ℕ) → DidSave v seat held t → MovesOn v t
+  pub not_saved : (v t : View) (seat : ℕ) (why : SaveStop) → DidNotSave v seat why t → MovesOn v t
+  pub backs : (v t : View) (seat n : ℕ) → IsSession v seat → phase_at v seat ≡ Active → WentBack v seat n t → MovesOn v t
+  pub no_save : (v t : View) (seat n held : ℕ) → HasNoSave v seat n held t → MovesOn v t
   pub seals : (v t : View) (seat stamp : ℕ) → IsSession v seat → phase_at v seat ≡ Active → DidSeal v seat stamp t → MovesOn v t
   pub settles : (v t : View) (seat : ℕ) (outcome : Outcome) → IsSession v seat → DidSettle v seat outcome t → MovesOn v t
   pub not_settled : (v t : View) (seat : ℕ) (why : Wait) → DidNotSettle v seat why t → MovesOn v t

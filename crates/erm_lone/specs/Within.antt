@@ -28,6 +28,12 @@ current_in (world.active w) active = refl
 current_in (world.sealed w stamp) active = cc
 current_in (world.snapshot s) active = absurd (snapshot_not_active s active)
 
+pub active_with : (stand : Stand) → phase_of stand ≡ Active → stand ≡ world.active (work_of stand)
+active_with world.idle active = cc
+active_with (world.active w) active = refl
+active_with (world.sealed w stamp) active = cc
+active_with (world.snapshot s) active = absurd (snapshot_not_active s active)
+
 pub is_sound : (law : Law) (v : View) (seat : ℕ) → IsSession v seat → IsSerializable law v → IsPossibleIn law v → IsSound law v seat
 is_sound law v seat session serializable possible = record {
   session = session;
@@ -35,6 +41,9 @@ is_sound law v seat session serializable possible = record {
   once = λ x.
       let among : made_in (v.session seat) x ≤ made_by_all v x = made_among v.opening.sessions v.session seat x session.0 session.1 in
       omega (arith, among, serializable.made_once x);
+  claimed_once = serializable.once seat session;
+  saves = λ active. serializable.saves seat (work_at v seat) session (active_with (v.session seat).stand active);
+  few_saves = λ active. serializable.few_saves seat session active;
 }
 
 -- EACH WORLD in which all may end.

@@ -6,7 +6,7 @@ ghost use Rattle.erm_lone.specs.Within.{ends_itself, is_sound, is_within};
 use crate::{Others, worlds_move_on};
 use erm_beside::SharedSession;
 use erm_model::{Oid, Outcome, Phase, Receipt, Row, RowStop, Seat, Stamp};
-use erm_world::{BeginStop, NotFlushed, RowWorld, Wait};
+use erm_world::{BeginStop, NoSave, NotFlushed, RowWorld, SaveStop, Wait};
 use std::marker::PhantomData;
 
 /// A world and the seat of one of its sessions. It has the world alone, so that the others may go on between its calls only where the world
@@ -63,6 +63,16 @@ impl<W: RowWorld, O: Others> SharedSession for LoneSession<W, O> {
     fn tidy(&mut self, _shared: &(), oid: Oid) -> Result<u32, RowStop> {
         worlds_move_on();
         self.world.tidy(self.seat, oid)
+    }
+
+    fn save(&mut self, _shared: &()) -> Result<u32, SaveStop> {
+        worlds_move_on();
+        self.world.save(self.seat)
+    }
+
+    fn back(&mut self, _shared: &(), n: u32) -> Result<(), NoSave> {
+        worlds_move_on();
+        self.world.back(self.seat, n)
     }
 
     fn seal(&mut self, _shared: &()) -> Stamp {

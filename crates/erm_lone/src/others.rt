@@ -5,15 +5,16 @@ use std::marker::Brand;
 /// `Brand`.
 pub trait Others {
     ghost use Rattle.std.specs.Prelude.{ℕ, List};
+    ghost use Rattle.erm_model.specs.declared.history.VersionWritten.{VersionWritten};
     ghost use Rattle.erm_world.specs.World.{GivenUp, Session};
 
-    /// Each session, by its seat, and the claims that it gave up.
-    ghost standing: { ℕ → Session × List GivenUp };
+    /// Each session, by its seat, the claims that it gave up, and the savepoints that it holds.
+    ghost standing: { ℕ → Session × List GivenUp × List (List VersionWritten) };
 }
 
 impl Others for Brand {
     ghost use Rattle.std.specs.Prelude.{[]};
     ghost use Rattle.erm_world.specs.World.{idle};
 
-    ghost standing = { λ seat. (record { over = []; stand = idle }, []) };
+    ghost standing = { λ seat. (record { over = []; stand = idle }, [], []) };
 }
