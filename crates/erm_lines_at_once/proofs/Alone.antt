@@ -241,7 +241,8 @@ module _ {S : Type 0} (law : Law) (own : S → View) (seat : S → ℕ) (stands 
 
   pub follows_alone : (s t : S) → Shared.follows s t → Alone.follows s t
   follows_alone s t (same_one, standing, onward, goes) =
-      let there : (view t).session (seat s) ≡ (own t).session (seat s) = ap (λ (x : View). x.session (seat s)) (view_at s t onward.seat_is) ∙ alone_own (seat s) (own t) in (
+      let there : (view t).session (seat s) ≡ (own t).session (seat s) = ap (λ (x : View). x.session (seat s)) (view_at s t onward.seat_is) ∙ alone_own (seat s) (own t) in
+      let there_saves : (view t).saves (seat s) ≡ (own t).saves (seat s) = ap (λ (x : View). x.saves (seat s)) (view_at s t onward.seat_is) ∙ alone_saves (seat s) (own t) in (
         tt,
         onward.seat_is,
         standing,
@@ -253,6 +254,9 @@ module _ {S : Type 0} (law : Law) (own : S → View) (seat : S → ℕ) (stands 
           tail = refl;
           flushed = refl;
           pinned = refl;
+          saves = λ active. there_saves ∙ goes.saves (sym (ap (λ (x : Session). phase_of x.stand) there) ∙ active) ∙ sym (alone_saves (seat s) (own s));
+          saves_of_others = λ q another.
+              ap (λ (x : View). x.saves q) (view_at s t onward.seat_is) ∙ no_saves (seat s) (own t) q another ∙ sym (no_saves (seat s) (own s) q another);
         },
       )
 
