@@ -4,33 +4,24 @@ use Rattle.erm_model.specs.declared.history.VersionWritten.{VersionWritten}
 use Rattle.erm_model.specs.declared.operation.Op.{Op}
 use Rattle.erm_model.specs.declared.operation.Op.TheVariants.{Get, Put, Del, Next, Scan, Save, Back}
 use Rattle.erm_model.specs.declared.operation.Reply.{Reply}
-use Rattle.erm_model.specs.declared.outcome.Phase.TheVariants.{Active, Idle}
+use Rattle.erm_model.specs.declared.outcome.Phase.TheVariants.{Active}
 use Rattle.erm_model.specs.Rows.{Rows}
 use Rattle.erm_model.specs.RowTransaction.{Face, IsLawful, Law, SameLaw}
 use Rattle.erm_model.specs.Run.{Step}
 use Rattle.erm_node.specs.Sound.{sound_law}
 use Rattle.erm_tree.specs.Operations.{AreCalled, Call, IsAnswered, OperationsAreRunOne, Stutters, answered, answered_steps, stuttered}
-use Rattle.erm_world.specs.Face.{Grows, ends, same, works, world_face}
+use Rattle.erm_world.specs.Face.{world_face}
 use Rattle.erm_world.specs.Going.{Extends}
 use Rattle.erm_world.specs.Laws.{FitsWork}
 use Rattle.erm_world.specs.Onward.{extends_then}
 use Rattle.erm_world.specs.Saves.{OnceOf}
 use Rattle.erm_world.specs.Works.{seen_by}
-use Rattle.erm_world.specs.World.{Session, View, Work, phase_at, phase_of, work_at, work_of}
+use Rattle.erm_world.specs.World.{View, Work, phase_at, work_at}
 use Rattle.erm_maps.specs.Runs.{GoesOnBy, IsRunOf, kept_at}
-use Rattle.erm_maps.proofs.GoingOn.{IsRunOf-on_map, extends_itself}
+use Rattle.erm_maps.proofs.GoingOn.{IsRunOf-on_map, extends_itself, grown}
 
 -- what calls of a transaction leave
 module _ {S : Type 0} (face : Face S) where
-  answer_fitted : (s t : S) (op : Op) (r : Reply) → IsAnswered face s op r t → (rows : Rows) → face.fits t rows → face.fits s rows
-  answer_fitted s t (Get table key) r (value, is, saw) rows fits = Runs-fitted face saw.events s t saw.goes_on.runs rows fits
-  answer_fitted s t (Put table key value) r (is, did) rows fits = Runs-fitted face did.events s t did.goes_on.runs rows fits
-  answer_fitted s t (Del table key) r (is, did) rows fits = Runs-fitted face did.events s t did.goes_on.runs rows fits
-  answer_fitted s t (Next table from) r (found, is, saw) rows fits = Runs-fitted face saw.events s t saw.goes_on.runs rows fits
-  answer_fitted s t (Scan table low high) r none rows fits = absurd none
-  answer_fitted s t Save r none rows fits = absurd none
-  answer_fitted s t (Back n) r none rows fits = absurd none
-
   -- the transaction follows, and is active
   answer_follows : (s t : S) (op : Op) (r : Reply) → IsAnswered face s op r t → face.follows s t × face.active t
   answer_follows s t (Get table key) r (value, is, saw) = (saw.follows, saw.goes_on.active)
@@ -60,19 +51,6 @@ fits_as a b same w rows fits = record {
   claims = fits.claims;
   unreached = λ x made. sym (same.reach rows x) ∙ fits.unreached x made;
 }
-
--- a session that has grown, and is active, was active
-grown : (v r : Session) → Grows v r → phase_of r.stand ≡ Active → (phase_of v.stand ≡ Active) × Extends (work_of v.stand) (work_of r.stand)
-grown v r (same is) active =
-    let stand : r.stand ≡ v.stand = ap (λ (x : Session). x.stand) is in (
-      sym (ap phase_of stand) ∙ active,
-      subst (λ (w : Work). Extends (work_of v.stand) w) (sym (ap work_of stand)) (extends_itself (work_of v.stand)),
-    )
-grown v r (works w u was over now more) active =
-    (ap phase_of was, subst (λ (x : Work). Extends x (work_of r.stand)) (sym (ap work_of was)) (subst (λ (x : Work). Extends w x) (sym (ap work_of now)) more))
-grown v r (ends w u was over now more) active =
-    let idle : phase_of r.stand ≡ Idle = ap phase_of now in
-    absurd (cc (idle, active))
 
 module _ {S : Type 0} (law : Law) (view : S → View) (seat : S → ℕ) (stands : S → Type 0) (one : S → S → Type 0) (same : SameLaw law sound_law) where
   abbrev pub face : Face S
@@ -125,26 +103,26 @@ module _ {S : Type 0} (law : Law) (view : S → View) (seat : S → ℕ) (stands
 
   -- so it is where it stuttered
   went_stuttered : (s t : S) → Stutters face s t → Went s t
-  went_stuttered s t same = elim same.rests [
-    | inl there ↦ subst (λ (u : S). Went s u) (sym there) (went s same.at same.goes (subst (λ (u : S). face.active u) there same.stays.active).2)
-    | inr after ↦ let last = went same.at t after same.stays.active.2 in went_then s same.at t (went s same.at same.goes last.active) last
+  went_stuttered s t stutters = elim stutters.rests [
+    | inl there ↦ subst (λ (u : S). Went s u) (sym there) (went s stutters.at stutters.goes (subst (λ (u : S). face.active u) there stutters.stays.active).2)
+    | inr after ↦ let last = went stutters.at t after stutters.stays.active.2 in went_then s stutters.at t (went s stutters.at stutters.goes last.active) last
   ]
 
   went_called : (calls : List Call) (s t : S) → AreCalled face s calls t → Extends (work s) (work t) × ((view t).saves (seat t) ≡ (view s).saves (seat s))
-  went_called [] s t same = (subst (λ (u : S). Extends (work s) (work u)) (sym same) (extends_itself (work s)), ap (λ (u : S). (view u).saves (seat u)) same)
+  went_called [] s t is = (subst (λ (u : S). Extends (work s) (work u)) (sym is) (extends_itself (work s)), ap (λ (u : S). (view u).saves (seat u)) is)
   went_called (answered step ∷ calls) s t (u, did, rest) =
       let there = answer_follows face s u step.op step.reply did in
       let first = went s u there.0 there.1.2 in
       let more = went_called calls u t rest in
       (extends_then (work s) (work u) (work t) first.extends more.0, more.1 ∙ first.saves)
-  went_called (stuttered ∷ calls) s t (u, same, rest) =
-      let first = went_stuttered s u same in
+  went_called (stuttered ∷ calls) s t (u, stutters, rest) =
+      let first = went_stuttered s u stutters in
       let more = went_called calls u t rest in
       (extends_then (work s) (work u) (work t) first.extends more.0, more.1 ∙ first.saves)
 
   -- what is kept of it
   kept_now : (u : Work) (xs ys : List (List VersionWritten)) (steps : List Step) → xs ≡ ys → IsRunOf (record { work = u; saves = ys }) steps → IsRunOf (record { work = u; saves = xs }) steps
-  kept_now u xs ys steps same run = subst (λ (saves : List (List VersionWritten)). IsRunOf (record { work = u; saves = saves }) steps) (sym same) run
+  kept_now u xs ys steps equal run = subst (λ (saves : List (List VersionWritten)). IsRunOf (record { work = u; saves = saves }) steps) (sym equal) run
 
   pub called_runs : ((s : S) → face.active s → OnceOf (work s).claims) → OperationsAreRunOne face → (s t : S) (calls : List Call) (before : List Step) → IsRunOf (kept_at (view s) (seat s)) before → AreCalled face s calls t →
       IsRunOf (kept_at (view t) (seat t)) (before ++ answered_steps calls)

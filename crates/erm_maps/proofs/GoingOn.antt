@@ -1,21 +1,22 @@
 -- Transactions that go on by steps on the map.
-use Rattle.std.proofs.Common.{◌≡◌, refl, ℕ, ◌+◌, ◌≤◌, eqb, cond, List, [], ◌∷◌, ◌++◌, Some, map, sym, ap, ◌∙◌, subst, arith}
-use Rattle.std.specs.List.{slice_get}
+use Rattle.std.proofs.Common.{◌≡◌, refl, ℕ, ◌+◌, ◌≤◌, eqb, cond, List, [], ◌++◌, map, sym, ap, ◌∙◌, subst, arith}
 use Rattle.std.proofs.lemmas.List.{append-nil}
 use Rattle.std.proofs.lemmas.List.Sums.{sum_by-append}
 use Rattle.erm_model.specs.declared.history.VersionWritten.{VersionWritten}
+use Rattle.erm_model.specs.declared.outcome.Phase.TheVariants.{Active, Idle}
 use Rattle.erm_model.specs.Database.{Database}
 use Rattle.erm_model.specs.Lawful.{times_made}
 use Rattle.erm_model.specs.Rows.{Rows}
 use Rattle.erm_model.specs.Run.{AreOnMap, RunsFrom, Saving, Step, after_from, begins, ops_of}
 use Rattle.erm_model.proofs.OnMap.{after_plainly, runs_plainly}
 use Rattle.erm_model.proofs.Runs.{RunsFrom-append, after_from-ops_of-append}
-use Rattle.erm_node.specs.Sound.{IsSound, sound_law}
+use Rattle.erm_node.specs.Sound.{sound_law}
 use Rattle.erm_node.specs.TreeMap.{map_of_rows}
+use Rattle.erm_world.specs.Face.{Grows, ends, same, works}
 use Rattle.erm_world.specs.Going.{Extends, found_by}
 use Rattle.erm_world.specs.Laws.{FitsWork, IsLawfulWork}
 use Rattle.erm_world.specs.Saves.{with_claims}
-use Rattle.erm_world.specs.World.{Work, begun}
+use Rattle.erm_world.specs.World.{Session, Work, begun, phase_of, work_of}
 use Rattle.erm_world.proofs.Restored.{AreSavesOf-extended}
 use Rattle.erm_maps.specs.Runs.{GoesOnBy, IsRunOf, Kept, WasRun, maps_seen}
 use Rattle.erm_maps.proofs.Extended.{fitted_before}
@@ -32,6 +33,19 @@ extends_itself w = record {
   more = [];
   made = sym (append-nil w.made);
 }
+
+-- a session that has grown, and is active, was active
+pub grown : (v r : Session) → Grows v r → phase_of r.stand ≡ Active → (phase_of v.stand ≡ Active) × Extends (work_of v.stand) (work_of r.stand)
+grown v r (same is) active =
+    let stand : r.stand ≡ v.stand = ap (λ (x : Session). x.stand) is in (
+      sym (ap phase_of stand) ∙ active,
+      subst (λ (w : Work). Extends (work_of v.stand) w) (sym (ap work_of stand)) (extends_itself (work_of v.stand)),
+    )
+grown v r (works w u was over now more) active =
+    (ap phase_of was, subst (λ (x : Work). Extends x (work_of r.stand)) (sym (ap work_of was)) (subst (λ (x : Work). Extends w x) (sym (ap work_of now)) more))
+grown v r (ends w u was over now more) active =
+    let idle : phase_of r.stand ≡ Idle = ap phase_of now in
+    absurd (cc (idle, active))
 
 made_more : (w u : Work) (x : ℕ) → Extends w u → times_made w.made x ≤ times_made u.made x
 made_more w u x more =

@@ -18,7 +18,7 @@ use Rattle.erm_model.proofs.Savings.{saved_as-map, slice_get-take}
 use Rattle.erm_node.specs.Sound.{sound_law}
 use Rattle.erm_node.specs.TreeMap.{map_of_rows}
 use Rattle.erm_world.specs.Laws.{FitsWork, IsLawfulWork}
-use Rattle.erm_world.specs.Saves.{AreSavesOf, HasClaimed, restored, with_claims}
+use Rattle.erm_world.specs.Saves.{HasClaimed, restored, with_claims}
 use Rattle.erm_world.specs.World.{Work}
 use Rattle.erm_world.proofs.Restored.{AreSavesOf-more, HasClaimed-restored, OnceOf-restored}
 use Rattle.erm_maps.specs.Runs.{Agree, IsRunOf, Kept, going_back, maps_seen, saving}

@@ -1,7 +1,7 @@
 -- A session in the middle of a transaction that is a run so far, as a tree call asks for it.
-use Rattle.std.proofs.Common.{◌≡◌, ◌⊎◌, inr, refl, ℕ, List}
+use Rattle.std.proofs.Common.{◌≡◌, inr, refl, ℕ, List}
 use Rattle.erm_model.specs.declared.outcome.Phase.TheVariants.{Active}
-use Rattle.erm_model.specs.RowTransaction.{Face, Law, SameLaw}
+use Rattle.erm_model.specs.RowTransaction.{Law, SameLaw}
 use Rattle.erm_model.specs.Run.{Step}
 use Rattle.erm_node.specs.Sound.{sound_law}
 use Rattle.erm_tree.specs.Calls.{IsReady}

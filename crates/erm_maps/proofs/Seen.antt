@@ -1,6 +1,5 @@
 -- The rows that a transaction sees after it has gone back are those that it saw at the savepoint.
 use Rattle.std.proofs.Common.{◌≡◌, refl, ℕ, zero, suc, Bool, true, false, eqb, cond, List, [], ◌∷◌, Some, Option, map, sym, ap, ◌∙◌, subst, arith, eqb-true}
-use Rattle.std.specs.List.{slice_get}
 use Rattle.erm_model.specs.declared.history.VersionWritten.{VersionWritten}
 use Rattle.erm_model.specs.History.{after_writes}
 use Rattle.erm_model.specs.Rows.{Rows, set_row}
