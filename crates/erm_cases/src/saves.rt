@@ -1,8 +1,7 @@
 //! Transactions with savepoints, worked out by hand.
 use crate::lines::value;
 use Short::{Back, Del, Get, Put, Save};
-use erm_model::{Map, Reply, VersionWritten};
-use erm_saves::{Op, Saved, back, kept_places, run_one};
+use erm_model::{Map, Op, Reply, Staying, run_one};
 use std::alloc::{AllocError, Global};
 
 // An operation in short, on a key of table 0 and values of one byte. A `Get` has the value that it is to be told.
@@ -125,13 +124,13 @@ const CASES: [Case; 7] = [
 
 fn op(short: Short) -> Op {
     match short {
-        Put(key, byte) => Op::Plain(erm_model::Op::Put {
+        Put(key, byte) => Op::Put {
             table: 0,
             key,
             value: value(&[byte]),
-        }),
-        Del(key) => Op::Plain(erm_model::Op::Del { table: 0, key }),
-        Get(key, _) => Op::Plain(erm_model::Op::Get { table: 0, key }),
+        },
+        Del(key) => Op::Del { table: 0, key },
+        Get(key, _) => Op::Get { table: 0, key },
         Save => Op::Save,
         Back(n) => Op::Back { n },
     }
@@ -153,6 +152,19 @@ fn ops(alloc: Global, shorts: &[Short]) -> Result<Vec<Op>, AllocError> {
     Ok(ops)
 }
 
+// The places of the operations that stay.
+fn kept(alloc: Global, ops: &[Op]) -> Result<Staying, AllocError> {
+    let mut staying = Staying::new(alloc);
+    for (place, op) in ops.iter().enumerate() {
+        match op {
+            Op::Save => staying.save()?,
+            Op::Back { n } => staying.back(*n),
+            _ => staying.add(place)?,
+        }
+    }
+    Ok(staying)
+}
+
 // Whether these are the replies.
 fn are_told(replies: &[Reply], shorts: &[Short]) -> bool {
     for (reply, short) in replies.iter().zip(shorts) {
@@ -166,7 +178,7 @@ fn are_told(replies: &[Reply], shorts: &[Short]) -> bool {
 // Whether the transaction is answered so, and leaves the keys with their values, and those operations stay.
 fn is_so(alloc: Global, case: &Case) -> Result<bool, AllocError> {
     let ops = ops(alloc, case.ops)?;
-    if kept_places(alloc, &ops)?.as_slice() != case.kept {
+    if kept(alloc, &ops)?.as_slice() != case.kept {
         return Ok(false);
     }
     let mut map = Map::new(alloc);
@@ -196,30 +208,4 @@ fn runs(rt: HostRuntime) -> Result<(), AllocError> {
         assert!(rt; is_so(rt.alloc(), case)?, "run of {place}");
     }
     Ok(())
-}
-
-fn claim(base: u64, row: u64) -> VersionWritten {
-    VersionWritten {
-        oid: 16,
-        stamp: 8,
-        base: [base; 16],
-        row: [row; 16],
-        is_set: true,
-    }
-}
-
-// Whether a claim has these rows, and one of its own or none.
-fn is_claim(claim: &VersionWritten, base: u64, row: u64, is_set: bool) -> bool {
-    claim.base == [base; 16] && claim.row == [row; 16] && claim.is_set == is_set
-}
-
-#[test]
-fn claims_go_back(rt: HostRuntime) {
-    let mut claims = [claim(1, 3), claim(5, 6)];
-    let saved = Saved {
-        row: [2; 16],
-        is_set: true,
-    };
-    back(&mut claims, &[saved]);
-    assert!(rt; is_claim(&claims[0], 1, 2, true) && is_claim(&claims[1], 5, 5, false));
 }

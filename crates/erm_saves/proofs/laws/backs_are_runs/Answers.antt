@@ -1,5 +1,0 @@
-use Rattle.erm_saves.proofs.Kept.{IsRunOf-going_back}
-use Rattle.erm_saves.proofs.laws.backs_are_runs.Goals as goal
-
-pub returns : goal.returns
-returns c k steps n saved run at = IsRunOf-going_back k steps run n saved at

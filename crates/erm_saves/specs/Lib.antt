@@ -1,4 +1,0 @@
-pub mod Claims
-pub mod Run
-pub mod Staying
-pub mod Transactions
