@@ -6,7 +6,8 @@ use Rattle.erm_model.specs.Rows.{Rows}
 use Rattle.erm_model.specs.Run.{Step}
 use Rattle.erm_model.proofs.Members.{slice_get-push}
 use Rattle.erm_model.proofs.Savings.{slice_get-take}
-use Rattle.erm_world.specs.Saves.{DidSave, WentBack, restored, with_claims}
+use Rattle.erm_world.specs.Saves.{AreSavesOf, DidSave, WentBack, restored, with_claims}
+use Rattle.erm_world.specs.Works.{is_claimed}
 use Rattle.erm_world.specs.World.{Session, View, made_in, work_at}
 use Rattle.erm_maps.specs.Runs.{IsRunOf, Kept, going_back, kept_at, saving}
 use Rattle.erm_maps.proofs.Kept.{IsRunOf-saving, back_step, save_step}
@@ -46,6 +47,19 @@ pub saves_made : (v t : View) (seat x : ℕ) → AtSavepoint v seat t → made_i
 saves_made v t seat x (refused is) = ap (λ (u : View). made_in (u.session seat) x) is
 saves_made v t seat x (saved held did) = ap (λ (u : View). made_in (u.session seat) x) did.saved
 saves_made v t seat x (back n did) = ap (λ (u : View). made_in (u.session seat) x) did.saves ∙ ap (λ (s : Session). made_in s x) did.claims.own
+
+-- and it has claimed what it had, from its begin on
+pub savepoint_begin : (v t : View) (seat : ℕ) → AtSavepoint v seat t → (work_at t seat).begin ≡ (work_at v seat).begin
+savepoint_begin v t seat (refused is) = ap (λ (u : View). (work_at u seat).begin) is
+savepoint_begin v t seat (saved held did) = ap (λ (u : View). (work_at u seat).begin) did.saved
+savepoint_begin v t seat (back n did) = ap (λ (k : Kept). k.work.begin) (kept_back v t seat n did)
+
+pub savepoint_claims : (v t : View) (seat x : ℕ) → AreSavesOf (work_at v seat) (v.saves seat) → AtSavepoint v seat t
+    → is_claimed (work_at t seat).claims x ≡ is_claimed (work_at v seat).claims x
+savepoint_claims v t seat x has (refused is) = ap (λ (u : View). is_claimed (work_at u seat).claims x) is
+savepoint_claims v t seat x has (saved held did) = ap (λ (u : View). is_claimed (work_at u seat).claims x) did.saved
+savepoint_claims v t seat x has (back n did) =
+    ap (λ (k : Kept). is_claimed k.work.claims x) (kept_back v t seat n did) ∙ claimed_back (work_at v seat) did.saved (has did.place did.saved did.was_saved) x
 
 -- WORKS. What one that is back sees is of its tables.
 module _ (table : ℕ → ℕ) (k : Kept) (steps : List Step) (run : IsRunOf k steps) (keeps : KeepsSaved table k) (n : ℕ) (saved_claims : List VersionWritten)

@@ -17,13 +17,13 @@ use Rattle.erm_world.specs.World as world
 use Rattle.erm_maps.proofs.Histories.{of_history, work_in}
 use Rattle.erm_maps.proofs.Lawful.{begins_above}
 use Rattle.erm_good_report.specs.Transactions.{Aborts, Commits, Ending, Excludes, Exchange, Said, Transaction, Unfinished, progress_of, transactions_of}
-use Rattle.erm_good_report.specs.Windows.{GetsFirst, HasLine, IsCommit, IsHighEnd, IsNextWriter, IsTightAt, OverwritesKey, PutsKey, WasPut}
+use Rattle.erm_good_report.specs.Windows.{ChangesKey, GetsFirst, HasKept, HasLine, IsCommit, IsHighEnd, IsNextWriter, IsTightAt, OverwritesKey, PutsKey, WasPut}
 use Rattle.erm_good_report.specs.GoodReport.{HaveTightWindows}
 use Rattle.erm_lines.specs.Told.{EndsAs, Tells}
 use Rattle.erm_causes.proofs.Beside.{claimed_at}
 use Rattle.erm_tight.proofs.Found.{claimed_in, read_in}
 use Rattle.erm_tight.proofs.Low.{IsLowAt, low_ends}
-use Rattle.erm_tight.proofs.Marks.{Changing, Marks, Puts, Touching}
+use Rattle.erm_tight.proofs.Marks.{Marks, Puts, Touching}
 use Rattle.erm_tight.proofs.Moves.{IsMarked}
 use Rattle.erm_tight.proofs.Serial.{RowsBelow, rows_below}
 use Rattle.erm_tight.proofs.Told.{IsOne, IsCommitted, IsCommitTold, commit_known, commit_told, one_told, record_told}
@@ -41,7 +41,7 @@ IsHighAt ending transactions t = Unit {0}
 
 module _ (laws : HistoryLaws) (v : View) (sessions : ℕ) (said : List Said) (holds : IsSerializable sound_law v) (of : sessions ≡ v.opening.sessions)
     (tells : (seat : ℕ) → IsSession v seat → Tells seat (progress_of seat said) (v.session seat))
-    (marked : (seat : ℕ) → IsSession v seat → IsMarked (progress_of seat said) (v.session seat)) where
+    (marked : (seat : ℕ) → IsSession v seat → IsMarked (progress_of seat said) (v.saves seat) (v.session seat)) where
   abbrev all : List Transaction
   all = transactions_of sessions said
 
@@ -80,14 +80,14 @@ module _ (laws : HistoryLaws) (v : View) (sessions : ℕ) (said : List Said) (ho
     record_at : (r : TransactionRecord) (within : r ∈ history_of v) → u.stamp < r.begin → record_in (began r within).rows table key ≡ Some put.1.0
     record_at r within less = ((began r within).put u u_in less table key put).0
 
-    -- a commit that overwrites the key's record by its lines claims it
-    put_claims : (t : Transaction) (r : TransactionRecord) → r ∈ history_of v → Marks t.lines (work_in r) → HasLine (PutsKey table key) t → is_claimed r.writes put.1.0 ≡ true
+    -- a commit that overwrites the key's record by its lines claims it, where a put stayed, or was undone
+    put_claims : (t : Transaction) (r : TransactionRecord) → r ∈ history_of v → Marks t.lines (work_in r) → HasKept (PutsKey table key) t → is_claimed r.writes put.1.0 ≡ true
     put_claims t r within marks line =
         let its = marks.puts table key line in
         let claimed = ((below_at (r.stamp + 1) (omega arith)).put r within (omega arith) table key its).1 in
         subst (λ (n : ℕ). is_claimed r.writes n ≡ true) (same_object r within its) claimed
 
-    change_claims : (t : Transaction) (r : TransactionRecord) → (within : r ∈ history_of v) → t.begin ≡ r.begin → Marks t.lines (work_in r) → HasLine (Changing table key) t → WasPut all table key t.begin
+    change_claims : (t : Transaction) (r : TransactionRecord) → (within : r ∈ history_of v) → t.begin ≡ r.begin → Marks t.lines (work_in r) → HasLine (ChangesKey table key) t → WasPut all table key t.begin
         → is_claimed r.writes put.1.0 ≡ true
     change_claims t r within begin marks line was =
         let by = known was.by was.stamp was.succ was.commit in
@@ -103,7 +103,7 @@ module _ (laws : HistoryLaws) (v : View) (sessions : ℕ) (said : List Said) (ho
 
     -- and a later commit that claims it overwrites it by its lines
     module _ (m : TransactionRecord) (within : m ∈ history_of v) (c : VersionWritten) (c_in : c ∈ m.writes) (oid : c.oid ≡ put.1.0) (later : u.stamp < m.stamp)
-        (by : Transaction) (succ : ℕ) (commit : IsCommit all by u.stamp succ) (puts : HasLine (PutsKey table key) by) where
+        (by : Transaction) (succ : ℕ) (commit : IsCommit all by u.stamp succ) (puts : HasKept (PutsKey table key) by) where
       begins_later : u.stamp < m.begin
       begins_later =
           let over = (holds.snapshots m within).writes c c_in in
@@ -121,13 +121,7 @@ module _ (laws : HistoryLaws) (v : View) (sessions : ℕ) (said : List Said) (ho
       claimer_overwrites =
           let claimed : is_claimed m.writes put.1.0 ≡ true = subst (λ (n : ℕ). is_claimed m.writes n ≡ true) oid (claimed_at m.writes c_in.0 c c_in.1) in
           let line = told_m.marks.only (began m within).rows (began m within).sound (fits_at m within) table key put.1.0 put.0 (record_at m within begins_later) claimed in
-          elim line.2 as (λ _. OverwritesKey all table key told_m.told) [
-            | inl put_line ↦ inl (line.0, line.1, put_line)
-            | inr change ↦ elim change as (λ _. OverwritesKey all table key told_m.told) [
-              | inl deletes ↦ inr ((line.0, line.1, inl deletes), was_put)
-              | inr tidies ↦ inr ((line.0, line.1, inr tidies), was_put)
-            ]
-          ]
+          inr (line, was_put)
 
   -- a transaction, the commit that put the key, and the next that overwrites its record
   module _ (t : Transaction) (w : Work) (begin : t.begin ≡ w.begin) (table key : ℕ) (was : WasPut all table key t.begin)

@@ -17,7 +17,9 @@ pub mod OneKey
 pub mod Orderly
 pub mod Quiet
 pub mod Runs
+pub mod Saved
 pub mod Serial
+pub mod Stays
 pub mod Told
 pub mod Undecided
 pub mod Ways

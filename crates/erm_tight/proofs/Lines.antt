@@ -1,5 +1,5 @@
 -- A line that names a table, by what its calls did to the records of keys.
-use Rattle.std.proofs.Common.{◌≡◌, ℕ, false, List, [], ◌∷◌, ◌++◌, Some, None, inl, inr, refl, sym, ap, ◌∙◌, subst}
+use Rattle.std.proofs.Common.{◌≡◌, ℕ, false, List, [], ◌∷◌, ◌++◌, Some, None, option_and_then, inl, inr, refl, sym, ap, ◌∙◌, subst}
 use Rattle.erm_model.specs.declared.outcome.Phase.TheVariants.{Active}
 use Rattle.erm_model.specs.declared.row_stop.RowStop.{RowStop}
 use Rattle.erm_model.specs.declared.row_stop.RowStop.TheVariants as stop
@@ -13,33 +13,62 @@ use Rattle.erm_world.specs.Calls.{IsDone}
 use Rattle.erm_world.specs.World.{Finished, Session, View, Work, phase_at, phase_of, work_at}
 use Rattle.erm_world.specs.World as world
 use Rattle.erm_world.proofs.Txns.{stopped}
-use Rattle.erm_maps.specs.Runs.{IsRunOf}
+use Rattle.erm_maps.specs.Runs.{IsRunOf, kept_at}
 use Rattle.erm_report.specs.declared.answer.Answer.{Answer}
 use Rattle.erm_report.specs.declared.answer.Answer.TheVariants as answer
 use Rattle.erm_script.specs.declared.script.Command.{Command}
 use Rattle.erm_script.specs.declared.script.Command.TheVariants as command
 use Rattle.erm_script.specs.Script.{IsInRange}
-use Rattle.erm_good_report.specs.Transactions.{Aborts, Ending, Excludes, op_of, table_of}
-use Rattle.erm_good_report.specs.Windows.{IsReplied, IsTidied}
+use Rattle.erm_good_report.specs.Transactions.{Aborts, Ending, Excludes, op_of, reply_in, table_of}
+use Rattle.erm_good_report.specs.Windows.{ChangesKey, IsReplied, IsTidied}
 use Rattle.erm_lines.specs.Answers.{DidOperation, WasRefusedAs, stop_told}
 use Rattle.erm_lines.specs.Operations.{AsksOf, FrontOf, Ran, WereCutOff}
 use Rattle.erm_causes.proofs.Answered.{last_number}
 use Rattle.erm_causes.proofs.Operated.{EndsBy, GoesOnBy, excluded_done, newer_done, owned_done}
 use Rattle.erm_told_limits.proofs.Ran.{ran}
 use Rattle.erm_tight.proofs.Calls.{same_kept}
-use Rattle.erm_tight.proofs.Marks.{LineDid, Overwriting}
+use Rattle.erm_tight.proofs.Marks.{LineDid}
 use Rattle.erm_tight.proofs.Whole.{KeyLaws, Overwrites, WholeDid, front_only, tidy_did, whole_did}
 
 -- The calls were answered, and left the transaction in progress; or the last one's refusal ended it.
 pub data Called (v : View) (seat : ℕ) (c : Command) (a : Answer) (u : View) : Type 0 where
   goes : (events : List Event) → Ran v seat events u → LineDid (record { asked = c; answer = a }) events
-      → ((before : List Step) → IsRunOf (work_at v seat) before → (steps : List Step) × IsRunOf (work_at u seat) steps) → GoesOnBy a → Called v seat c a u
+      → ((before : List Step) → IsRunOf (kept_at v seat) before → (steps : List Step) × IsRunOf (kept_at u seat) steps) → GoesOnBy a → Called v seat c a u
   out : (w : Work) (ending : Ending) → w.number ≡ (work_at v seat).number → u.session seat ≡ record { over = (v.session seat).over ++ record { work = w; fate = world.aborts } ∷ []; stand = world.idle } → EndsBy a ending
       → Called v seat c a u
 
+-- REFUSED. No refusal is a reply, and none tells how many versions were cut off.
+no_reply : (why : RowStop) → option_and_then reply_in (stop_told why) ≡ None
+no_reply (stop.NotYet other seen) = refl
+no_reply stop.ReadsFull = refl
+no_reply (stop.Owned other number) = refl
+no_reply (stop.Newer stamp) = refl
+no_reply stop.WritesFull = refl
+no_reply (stop.CellsFull drawn) = refl
+no_reply (stop.OidsFull drawn) = refl
+no_reply (stop.Excluded succ pred) = refl
+no_reply stop.Memory = refl
+
+unreplied : (why : RowStop) (a : Answer) → stop_told why ≡ Some a → IsReplied a → ⊥
+unreplied why a told (r, is) = let never : None ≡ Some r = sym (no_reply why) ∙ ap (option_and_then reply_in) told ∙ is in cc
+
+untold_cut : (why : RowStop) (cells : ℕ) → stop_told why ≡ Some (answer.Cut cells) → ⊥
+untold_cut (stop.NotYet other seen) cells told = cc
+untold_cut stop.ReadsFull cells told = cc
+untold_cut (stop.Owned other number) cells told = cc
+untold_cut (stop.Newer stamp) cells told = cc
+untold_cut stop.WritesFull cells told = cc
+untold_cut (stop.CellsFull drawn) cells told = cc
+untold_cut (stop.OidsFull drawn) cells told = cc
+untold_cut (stop.Excluded succ pred) cells told = cc
+untold_cut stop.Memory cells told = cc
+
+untidied : (why : RowStop) (a : Answer) → stop_told why ≡ Some a → IsTidied a → ⊥
+untidied why a told (cells, is) = untold_cut why cells (told ∙ ap (λ (b : Answer). Some b) is)
+
 -- ANSWERED. What the events of a whole line tell of it.
 module _ (c : Command) where
-  pub line_did : (a : Answer) (events : List Event) → ((table key : ℕ) → Overwrites table key c → Overwriting table key (record { asked = c; answer = a })) → WholeDid c events
+  pub line_did : (a : Answer) (events : List Event) → ((table key : ℕ) → Overwrites table key c → ChangesKey table key (record { asked = c; answer = a })) → WholeDid c events
       → LineDid (record { asked = c; answer = a }) events
   line_did a events over did = record {
     kept = did.kept;
@@ -50,12 +79,12 @@ module _ (c : Command) where
   }
 
   pub replied_over : (r : Reply) (o : Op) → op_of c ≡ Some o → (table key : ℕ) → Overwrites table key c
-      → Overwriting table key (record { asked = c; answer = answer.Replied r })
+      → ChangesKey table key (record { asked = c; answer = answer.Replied r })
   replied_over r o is table key (inl put) = inl (put, (r, refl))
   replied_over r o is table key (inr (inl del)) = inr (inl (del, (r, refl)))
   replied_over r o is table key (inr (inr tidy)) = let never : None ≡ Some o = sym (ap op_of tidy) ∙ is in cc
 
-  pub cut_over : (cells : ℕ) → op_of c ≡ None → (table key : ℕ) → Overwrites table key c → Overwriting table key (record { asked = c; answer = answer.Cut cells })
+  pub cut_over : (cells : ℕ) → op_of c ≡ None → (table key : ℕ) → Overwrites table key c → ChangesKey table key (record { asked = c; answer = answer.Cut cells })
   cut_over cells is table key (inl put) = let never : op_of (command.Put table key put.0) ≡ None = sym (ap op_of put.1) ∙ is in cc
   cut_over cells is table key (inr (inl del)) = let never : op_of (command.Del table key) ≡ None = sym (ap op_of del) ∙ is in cc
   cut_over cells is table key (inr (inr tidy)) = inr (inr (tidy, (cells, refl)))
@@ -101,8 +130,8 @@ module _ (laws : KeyLaws) (v u : View) (seat : ℕ) (c : Command) (k : ℕ) (nam
         ends_at (stop.Excluded succ pred) did shut.work (Excludes None succ pred) (last_number did.asked (work_at did.at seat) shut.work shut.last) shut.done (subst (λ (b : Answer). EndsBy b (Excludes None succ pred)) same (λ q asked p. refl))
     refused stop.Memory told did = let never : None ≡ Some a = told in cc
 
-    refused_as : WasRefusedAs v seat c a u → Called v seat c a u
-    refused_as (why, told, did) = refused why told did
+  refused_as : (a : Answer) → WasRefusedAs v seat c a u → Called v seat c a u
+  refused_as a (why, told, did) = refused a (unreplied why a told) (untidied why a told) why told did
 
   pub called : (a : Answer) → DidOperation v seat c a u → Called v seat c a u
   called (answer.Replied r) (o, is, did) =
@@ -113,4 +142,4 @@ module _ (laws : KeyLaws) (v u : View) (seat : ℕ) (c : Command) (k : ℕ) (nam
   called (answer.Cut cells) (none, few, did) =
       goes did.events did.ran (line_did c (answer.Cut cells) did.events (cut_over c cells none) (tidy_did laws did.events c k named range cells none (λ rows sound agrees. did.of rows sound agrees)))
       (λ before run. (_, did.run before run)) (λ q asked p. refl)
-  called a did = refused_as a (λ replied. let never : None ≡ Some replied.0 = replied.1 in cc) (λ tidied. let other = tidied.1 in cc) did
+  called a did = refused_as a did

@@ -24,7 +24,7 @@ IsLowAt ending transactions t = Unit {0}
 
 module _ (laws : HistoryLaws) (v : View) (sessions : ℕ) (said : List Said) (holds : IsSerializable sound_law v) (of : sessions ≡ v.opening.sessions)
     (tells : (seat : ℕ) → IsSession v seat → Tells seat (progress_of seat said) (v.session seat))
-    (marked : (seat : ℕ) → IsSession v seat → IsMarked (progress_of seat said) (v.session seat)) where
+    (marked : (seat : ℕ) → IsSession v seat → IsMarked (progress_of seat said) (v.saves seat) (v.session seat)) where
   abbrev all : List Transaction
   all = transactions_of sessions said
 

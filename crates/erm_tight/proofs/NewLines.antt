@@ -9,6 +9,7 @@ use Rattle.erm_node.specs.Sound.{sound_law}
 use Rattle.erm_world.specs.Laws.{IsNumbered, IsSerializable}
 use Rattle.erm_world.specs.World.{IsSession, Stand, View, history_of, phase_at, phase_of, work_at, work_of}
 use Rattle.erm_world.specs.World as world
+use Rattle.erm_maps.specs.Runs.{kept_at}
 use Rattle.erm_maps.proofs.Histories.{work_in}
 use Rattle.erm_report.specs.declared.answer.Answer.{Answer}
 use Rattle.erm_report.specs.declared.answer.Answer.TheVariants as answer
@@ -57,10 +58,10 @@ new_keys-more sessions before (r ∷ said) s n (inr (first, (m, is, have))) puts
 
 module _ (laws : HistoryLaws) (limits : Laws) (v t : View) (before : List Said) (numbered : (seat : ℕ) → IsSession v seat → IsNumbered (v.session seat))
     (tells : (seat : ℕ) → IsSession v seat → Tells seat (progress_of seat before) (v.session seat))
-    (marked : (seat : ℕ) → IsSession v seat → IsMarked (progress_of seat before) (v.session seat)) (holds : IsSerializable sound_law t)
+    (marked : (seat : ℕ) → IsSession v seat → IsMarked (progress_of seat before) (v.saves seat) (v.session seat)) (holds : IsSerializable sound_law t)
     (told : (r : TransactionRecord) → r ∈ history_of t → IsTold r) (stays : (r : TransactionRecord) → r ∈ history_of v → r ∈ history_of t) where
-  pub going : (seat : ℕ) → IsSession v seat → phase_at v seat ≡ Active → IsGoing (progress_of seat before).current (work_at v seat)
-  going seat session active = now_active (progress_of seat before).current (v.session seat).stand (marked seat session).now active
+  pub going : (seat : ℕ) → IsSession v seat → phase_at v seat ≡ Active → IsGoing (progress_of seat before).current (kept_at v seat)
+  going seat session active = now_active (progress_of seat before).current (v.saves seat) (v.session seat).stand (marked seat session).now active
 
   -- a put of a known key makes none
   known_none : (seat table key : ℕ) (value : List ℕ) (a : Answer) (session : IsSession v seat) (active : phase_at v seat ≡ Active) → DidOperation v seat (command.Put table key value) a t
@@ -68,11 +69,11 @@ module _ (laws : HistoryLaws) (limits : Laws) (v t : View) (before : List Said) 
       → mades_by_all t ≤ mades_by_all v
   known_none seat table key value (answer.Replied r) session active (o, is, did) by within below puts =
       let g = going seat session active in
-      whole_none laws v t seat session active holds told g.told.lines g.marks g.run.lawful did.events did.ran table key value (λ rows sound agrees. (did.of rows sound agrees).0) by (stays by within) below puts
+      whole_none laws v t seat session active holds told g.told.lines g.goes.marks g.run.lawful did.events did.ran table key value (λ rows sound agrees. (did.of rows sound agrees).0) by (stays by within) below puts
   known_none seat table key value (answer.Cut cells) session active (none, few, did) by within below puts = absurd (cc none)
   known_none seat table key value a session active (why, is, cut) by within below puts =
       let g = going seat session active in
-      cut_none laws v t seat session active holds told g.told.lines g.marks g.run.lawful table key value why cut by (stays by within) below puts
+      cut_none laws v t seat session active holds told g.told.lines g.goes.marks g.run.lawful table key value why cut by (stays by within) below puts
 
   -- so one that makes some is of a key that is new
   pub put_new : (l : ScriptLine) (a : Answer) (table key : ℕ) (value : List ℕ) → l.command ≡ command.Put table key value → (session : IsSession v l.session) (active : phase_at v l.session ≡ Active)

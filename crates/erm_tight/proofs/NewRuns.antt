@@ -16,7 +16,7 @@ use Rattle.erm_world.specs.Going.{Extends}
 use Rattle.erm_world.specs.Laws.{IsNumbered, IsSerializable}
 use Rattle.erm_world.specs.World.{IsSession, Session, View, Work, history_of, phase_at, work_at}
 use Rattle.erm_world.specs.World as world
-use Rattle.erm_maps.specs.Runs.{IsAnswered, IsRunOf}
+use Rattle.erm_maps.specs.Runs.{IsAnswered}
 use Rattle.erm_report.specs.declared.answer.Answer.{Answer}
 use Rattle.erm_report.specs.declared.answer.Answer.TheVariants as answer
 use Rattle.erm_script.specs.declared.script.Command.{Command}
@@ -31,6 +31,7 @@ use Rattle.erm_lines.specs.Executions.{DidLog, DidLogLine, DidMove, IsCourse, Is
 use Rattle.erm_lines.specs.Laws.{ExecutionsTell}
 use Rattle.erm_lines.specs.Operations.{AsksOf, FrontOf, WereCutOff}
 use Rattle.erm_lines.specs.Told.{Tells}
+use Rattle.erm_lines.proofs.Keeping.{NoneRuns}
 use Rattle.erm_lines.proofs.Moved.{log_flushes, moved, said_move}
 use Rattle.erm_told.proofs.Runs.{executed_both, said_both, serializable_then}
 use Rattle.erm_causes.proofs.Moves.{move_history, move_range, opened_told, session_before}
@@ -83,7 +84,7 @@ asked_for_one drawn at t seat (asked_read oid) did = absurd did
 asked_for_one drawn at t seat (asked_claim oid) did = absurd did
 asked_for_one drawn at t seat asked_make did = (refl, did.0, did.2)
 
-module _ (laws : HistoryLaws) (limits : Laws) (keys : KeyLaws) (begun : (number begin : ℕ) → IsRunOf (world.begun number begin) [])
+module _ (laws : HistoryLaws) (limits : Laws) (keys : KeyLaws) (begun : NoneRuns)
     (stay : (w u : Work) (steps : List Step) → Extends w u → IsAnswered w steps → IsAnswered u steps) (tell : ExecutionsTell) (v0 : View) (opened : IsOpened v0) where
   -- AFTER MOVES
   module _ (moves : List Move) (v : View) (run : IsExecution v0 moves v) (range : AreMovesInRange moves) where
@@ -96,9 +97,9 @@ module _ (laws : HistoryLaws) (limits : Laws) (keys : KeyLaws) (begun : (number 
     numbered : (seat : ℕ) → IsSession v seat → IsNumbered (v.session seat)
     numbered = (serializable_then moves v0 v opened.serializable run).numbered
 
-    marked : (seat : ℕ) → IsSession v seat → IsMarked (progress_of seat (said_in moves)) (v.session seat)
+    marked : (seat : ℕ) → IsSession v seat → IsMarked (progress_of seat (said_in moves)) (v.saves seat) (v.session seat)
     marked seat session =
-        subst (λ (p : Progress). IsMarked p (v.session seat)) (heard_said moves (λ q. nothing) seat)
+        subst (λ (p : Progress). IsMarked p (v.saves seat) (v.session seat)) (heard_said moves (λ q. nothing) seat)
         (run_marked keys begun stay moves (λ q. nothing) v0 v run range (opened_told v0 opened) (opened_marked v0 opened) seat session)
 
     told : (r : TransactionRecord) → r ∈ history_of v → IsTold r
@@ -157,9 +158,9 @@ module _ (laws : HistoryLaws) (limits : Laws) (keys : KeyLaws) (begun : (number 
         let puts : PutsNewKey v.opening.sessions (said_in moves) (said_by l (answer.OidsFull drawn)) =
         put_new laws limits v u (said_in moves) (numbered moves v run range) (tells moves v run range) (marked moves v run range) holds told_then stays l (answer.OidsFull drawn) table key value put.is line.session full.active
         (λ by within below known.
-        cut_asks_none laws v u l.session line.session full.active holds told_then lines g.marks g.run.lawful table key value why cut by (stays by within) below known one.0) in
-        let less : count_makes cut.events + 1 ≤ PUT_OBJECTS = cut_less laws v u l.session line.session full.active holds told_then lines g.marks g.run.lawful table key value why cut one.0 in
-        let grown : mades_by_all u ≤ mades_by_all v + count_makes cut.events = grows_to laws v u l.session line.session full.active holds told_then lines g.marks g.run.lawful table key value why cut in
+        cut_asks_none laws v u l.session line.session full.active holds told_then lines g.goes.marks g.run.lawful table key value why cut by (stays by within) below known one.0) in
+        let less : count_makes cut.events + 1 ≤ PUT_OBJECTS = cut_less laws v u l.session line.session full.active holds told_then lines g.goes.marks g.run.lawful table key value why cut one.0 in
+        let grown : mades_by_all u ≤ mades_by_all v + count_makes cut.events = grows_to laws v u l.session line.session full.active holds told_then lines g.goes.marks g.run.lawful table key value why cut in
         let made : AreAllMade u = subst AreAllMade (sym one.1) one.2 in
         let first : u.opening.first ≡ v0.opening.first = ap (λ (o : world.Opening). o.first) opening_then in
         let most : OID_LIMIT ≤ u.opening.first + length (all_made u) =

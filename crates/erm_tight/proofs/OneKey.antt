@@ -3,7 +3,7 @@ use Rattle.std.proofs.Common.{◌≡◌, ℕ, ◌<◌, ◌≤◌, Bool, true, fa
 use Rattle.std.specs.Prelude.{drop}
 use Rattle.std.proofs.lemmas.Bool.{false≢true}
 use Rattle.erm_good_report.specs.Transactions.{Commits, Said, Transaction, progress_of}
-use Rattle.erm_good_report.specs.Windows.{HasLine, PutsKey}
+use Rattle.erm_good_report.specs.Windows.{HasKept, PutsKey}
 use Rattle.erm_model.specs.declared.operation.Reply.TheVariants as reply
 use Rattle.erm_report.specs.declared.answer.Answer.TheVariants as answer
 use Rattle.erm_script.specs.declared.script.Command.{Command}
@@ -41,9 +41,9 @@ first = record {
   ending = Commits 13 13 0;
 }
 
-put_first : (table key : ℕ) → 0 ≡ table → 10 ≡ key → HasLine (PutsKey table key) first
+put_first : (table key : ℕ) → 0 ≡ table → 10 ≡ key → HasKept (PutsKey table key) first
 put_first table key of_table of_key =
-    subst (λ (t : ℕ). HasLine (PutsKey t key) first) of_table (subst (λ (k : ℕ). HasLine (PutsKey 0 k) first) of_key
+    subst (λ (t : ℕ). HasKept (PutsKey t key) first) of_table (subst (λ (k : ℕ). HasKept (PutsKey 0 k) first) of_key
     (record { asked = command.Put 0 10 []; answer = answer.Replied reply.Done }, (0, refl), (([], refl), (reply.Done, refl))))
 
 -- the last put isn't of a new key

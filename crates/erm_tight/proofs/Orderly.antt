@@ -11,6 +11,7 @@ use Rattle.erm_world.specs.Calls.{DidClaim, DidSeal, HasNoNewer}
 use Rattle.erm_world.specs.Calls as calls
 use Rattle.erm_world.specs.Face.{Answered}
 use Rattle.erm_world.specs.Laws.{IsCommitOf, IsSerializable}
+use Rattle.erm_world.specs.Saves.{AreSavesOf}
 use Rattle.erm_world.specs.World.{Finished, IsSession, Session, View, Work, history_of, phase_at, phase_of, stamp_of, work_at, work_of}
 use Rattle.erm_world.specs.World as world
 use Rattle.erm_world.proofs.Commits.{tells_commits}
@@ -25,9 +26,10 @@ use Rattle.erm_causes.proofs.Moves.{session_before}
 use Rattle.erm_causes.proofs.Operated.{Operated, operated}
 use Rattle.erm_causes.proofs.Operated as operated
 use Rattle.erm_causes.proofs.Quiet.{HasNow}
+use Rattle.erm_causes.proofs.Saved.{AtSavepoint, asked_back, asked_save, savepoint_begin, savepoint_claims, saves_of}
 use Rattle.erm_causes.proofs.Snapshots.{Watches}
 use Rattle.erm_causes.proofs.Snapshots as snapshots
-use Rattle.erm_told_limits.proofs.Ran.{stays_one}
+use Rattle.erm_told_limits.proofs.Ran.{active_with, stays_one}
 use Rattle.erm_tight.proofs.Newest.{IsNewestMaker, newest_maker}
 use Rattle.erm_tight.proofs.Quiet.{Lined, Quiet, closed_quiet, lined}
 use Rattle.erm_tight.proofs.Quiet as quiet
@@ -138,18 +140,31 @@ module _ (v t : View) (seat own : ℕ) (did : DidSeal v seat own t) where
   sealed_below below q stamp f session within is =
       omega (arith, below q stamp f (session_before v t q did.opening session) (subst (λ (fs : List Finished). f ∈ fs) (same_over q) within) is, did.tail)
 
-lined_orderly : (v t : View) (seat : ℕ) (c : Command) (a : Answer) → IsSession v seat → AreApart v → AreStampedBelow v → Lined v seat c a t → IsOrderly v → IsOrderly t
-lined_orderly v t seat c a session apart below (quiet.quiet did) before = quiet_orderly v seat (Some c) a t session apart below did before
-lined_orderly v t seat c a session apart below (quiet.sealed_first stamp between active sealed did) before =
+-- a savepoint is made, or gone back to
+savepoint_orderly : (v t : View) (seat : ℕ) → IsSession v seat → phase_at v seat ≡ Active → AreSavesOf (work_at v seat) (v.saves seat) → AtSavepoint v seat t → IsOrderly v → IsOrderly t
+savepoint_orderly v t seat session active saved at before =
+    let goes = saves_of v t seat at in
+    let begin = savepoint_begin v t seat at in
+    active_orderly v t seat (work_at t seat) goes.others goes.opening goes.over (active_with (t.session seat).stand (goes.active active)) before
+    (λ x u claimed within makes. omega (arith, before.claimed seat x u session (sym (savepoint_claims v t seat x saved at) ∙ claimed) within makes, begin))
+    (λ stamp f within is. omega (arith, before.earlier seat stamp f session active within is, begin))
+
+lined_orderly : (v t : View) (seat : ℕ) (c : Command) (a : Answer) → IsSession v seat → AreApart v → AreStampedBelow v → (phase_at v seat ≡ Active → AreSavesOf (work_at v seat) (v.saves seat))
+    → Lined v seat c a t → IsOrderly v → IsOrderly t
+lined_orderly v t seat c a session apart below saved (quiet.quiet did) before = quiet_orderly v seat (Some c) a t session apart below did before
+lined_orderly v t seat c a session apart below saved (quiet.sealed_first stamp between active sealed did) before =
     quiet_orderly between seat (Some c) a t (still_session v between seat sealed.opening session) (sealed_apart v between seat stamp sealed apart)
     (sealed_below v between seat stamp sealed below) did (sealed_orderly v between seat stamp sealed session before below)
-lined_orderly v t seat c a session apart below (quiet.named k names active did) before = operated_orderly v t seat c a session active (operated v t seat c active a did) before
+lined_orderly v t seat c a session apart below saved (quiet.named k names active did) before = operated_orderly v t seat c a session active (operated v t seat c active a did) before
+lined_orderly v t seat c a session apart below saved (quiet.saves is active did) before = savepoint_orderly v t seat session active (saved active) (asked_save v t seat a did) before
+lined_orderly v t seat c a session apart below saved (quiet.backs n is active did) before = savepoint_orderly v t seat session active (saved active) (asked_back v t seat n a did) before
 
 stamped_below : (v : View) → IsSerializable sound_law v → AreStampedBelow v
 stamped_below v holds q stamp f session within is = (holds.stamps q f.work stamp session (inl (f, within, refl, is))).1
 
 move_orderly : (v : View) (m : Move) (t : View) → IsSerializable sound_law v → DidMove v m t → IsOrderly v → IsOrderly t
-move_orderly v (line l a) t holds did before = lined_orderly v t l.session l.command a did.session holds.apart (stamped_below v holds) (lined v l a t did) before
+move_orderly v (line l a) t holds did before = lined_orderly v t l.session l.command a did.session holds.apart (stamped_below v holds)
+    (λ active. holds.saves l.session (work_at v l.session) did.session (active_with (v.session l.session).stand active)) (lined v l a t did) before
 move_orderly v (log l a) t holds did before = flushed_orderly v t (log_flushes v t l a did) before
 move_orderly v (close seat a) t holds did before = quiet_orderly v seat None a t did.session holds.apart (stamped_below v holds) (closed_quiet v seat a t did) before
 move_orderly v flush t holds did before = flushed_orderly v t did before

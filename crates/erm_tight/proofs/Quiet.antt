@@ -20,7 +20,7 @@ use Rattle.erm_script.specs.declared.script.Command.TheVariants as command
 use Rattle.erm_script.specs.declared.script.ScriptLine.{ScriptLine}
 use Rattle.erm_good_report.specs.Phases.{Closes, FitsRefusal, HasNoSnapshot, NeedsAny, NeedsReader, NeedsWriter, need_of, refusal_of}
 use Rattle.erm_good_report.specs.Transactions.{Aborts, Commits, Ending, Excludes, Progress, Transaction, begun, heard, table_of}
-use Rattle.erm_lines.specs.Answers.{DidAskDurable, DidAskSnapshot, DidAsked, DidClose, DidCommand, DidDecide, DidLine, DidOperation}
+use Rattle.erm_lines.specs.Answers.{DidAskBack, DidAskDurable, DidAskSave, DidAskSnapshot, DidAsked, DidClose, DidCommand, DidDecide, DidLine, DidOperation}
 use Rattle.erm_lines.specs.Executions.{DidEnd}
 use Rattle.erm_lines.specs.Whole.{is_snapshot}
 use Rattle.erm_lines.proofs.Moved.{active_where, asked_still}
@@ -104,11 +104,13 @@ decided v t seat asked (answer.WaitSeat other seen) session none did = still did
 decided v t seat asked (answer.WaitRing flushed) session none did = still did.0 (λ q p. same_goes_on asked (answer.WaitRing flushed) p none)
 decided v t seat asked a session none did = absurd did
 
--- What a line did: it is a quiet one; or it sealed its transaction, and then it is; or it is one that names a table.
+-- What a line did: it is a quiet one; or it sealed its transaction, and then it is; or it is one that names a table, or one of savepoints.
 pub data Lined (v : View) (seat : ℕ) (c : Command) (a : Answer) (t : View) : Type 0 where
   quiet : Quiet v seat (Some c) a t → Lined v seat c a t
   sealed_first : (stamp : ℕ) (between : View) → phase_at v seat ≡ Active → DidSeal v seat stamp between → Quiet between seat (Some c) a t → Lined v seat c a t
   named : (k : ℕ) → table_of c ≡ Some k → phase_at v seat ≡ Active → DidOperation v seat c a t → Lined v seat c a t
+  saves : c ≡ command.Save → phase_at v seat ≡ Active → DidAskSave v seat a t → Lined v seat c a t
+  backs : (n : ℕ) → c ≡ command.Back n → phase_at v seat ≡ Active → DidAskBack v seat n a t → Lined v seat c a t
 
 module _ (v t : View) (seat : ℕ) (session : IsSession v seat) where
   begun_line : (a : Answer) → phase_at v seat ≡ Idle → DidCommand v seat command.Begin a t → Lined v seat command.Begin a t
@@ -160,6 +162,8 @@ module _ (v t : View) (seat : ℕ) (session : IsSession v seat) where
   commanded (command.Next k from) a free plain did = named_line (command.Next k from) a k refl (active_where NeedsReader (phase_at v seat) tt plain free) did
   commanded (command.Scan k low high) a free plain did = named_line (command.Scan k low high) a k refl (active_where NeedsReader (phase_at v seat) tt plain free) did
   commanded (command.Tidy k key) a free plain did = named_line (command.Tidy k key) a k refl (active_where NeedsWriter (phase_at v seat) tt plain free) did
+  commanded command.Save a free plain did = saves refl (active_where NeedsWriter (phase_at v seat) tt plain free) did
+  commanded (command.Back n) a free plain did = backs n refl (active_where NeedsWriter (phase_at v seat) tt plain free) did
   commanded command.Durable a free plain did = quiet (still (asked_still v t seat a did) (durable_heard a did))
   commanded command.Flush a free plain did = absurd did
   commanded command.Checkpoint a free plain did = absurd did

@@ -46,7 +46,7 @@ pub record IsCommitTold (transactions : List Transaction) (r : TransactionRecord
 
 module _ (v : View) (sessions : ℕ) (said : List Said) (of : sessions ≡ v.opening.sessions) (numbered : (seat : ℕ) → IsSession v seat → IsNumbered (v.session seat))
     (tells : (seat : ℕ) → IsSession v seat → Tells seat (progress_of seat said) (v.session seat))
-    (marked : (seat : ℕ) → IsSession v seat → IsMarked (progress_of seat said) (v.session seat)) where
+    (marked : (seat : ℕ) → IsSession v seat → IsMarked (progress_of seat said) (v.saves seat) (v.session seat)) where
   abbrev of_seat : ℕ → List Transaction
   of_seat seat = (progress_of seat said).over ++ option_to_list (progress_of seat said).current
 

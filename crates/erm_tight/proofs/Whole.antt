@@ -8,7 +8,7 @@ use Rattle.erm_model.specs.declared.operation.Reply.{Reply}
 use Rattle.erm_model.specs.declared.operation.Reply.TheVariants as reply
 use Rattle.erm_model.specs.RowTransaction.{Agrees, Event, KeepsLaw, OnlyReads, WritesNothing, after_all, did_claim, did_write}
 use Rattle.erm_model.specs.Rows.{Rows}
-use Rattle.erm_model.specs.Run.{IsReply, after}
+use Rattle.erm_model.specs.Run.{IsReplyOn, change}
 use Rattle.erm_model.proofs.RowCalls.{after_all-OnlyReads}
 use Rattle.erm_record.specs.Record.{IsRecord, IsValue, absent_row, record_value, value_row}
 use Rattle.erm_node.specs.Node.{node_of}
@@ -178,7 +178,7 @@ module _ (laws : KeyLaws) (events : List Event) where
         kept = reads_kept (λ rows sound agrees. (of rows sound agrees).0.0);
         gets = λ table other at. at_key (ReadsRecord events) t key table other (cc) (cc) (
           below,
-          get_reads laws.rows laws.values t key events r below (λ rows sound agrees. subst (λ (p : Op). IsReply (map_of_rows rows) p r) (sym same) (right rows sound agrees).reply),
+          get_reads laws.rows laws.values t key events r below (λ rows sound agrees. subst (λ (p : Op). IsReplyOn (map_of_rows rows) p r) (sym same) (right rows sound agrees).reply),
         );
         puts = λ table other value at. cc;
         writes = λ table other at. elim at as (λ _. ClaimsRecord events table other) [ inl no_del ↦ cc | inr no_tidy ↦ cc ];
@@ -188,7 +188,7 @@ module _ (laws : KeyLaws) (events : List Event) where
       let same : op.Put t key value ≡ o = cc in
       whole_put t key value range (λ rows sound agrees.
       let it = of rows sound agrees in
-      (it.0, it.1, subst (λ (p : Op). map_of_rows (after_all events rows) ≡ after p (map_of_rows rows)) (sym same) (right rows sound agrees).after_is))
+      (it.0, it.1, subst (λ (p : Op). map_of_rows (after_all events rows) ≡ change p (map_of_rows rows)) (sym same) (right rows sound agrees).after_is))
   whole_did (command.Del t key) k named range r o is of right =
       let below : t < 16 = omega (arith, range.0) in
       record {
@@ -217,6 +217,8 @@ module _ (laws : KeyLaws) (events : List Event) where
     writes = λ table other at. elim at as (λ _. ClaimsRecord events table other) [ inl no_del ↦ cc | inr no_tidy ↦ cc ];
     only = λ rows sound agrees table other x t_below at by. absurd (no_claims events (of rows sound agrees).0.0 x by);
   }
+  whole_did command.Save k named range r o is of right = let never : None ≡ Some k = named in cc
+  whole_did (command.Back n) k named range r o is of right = let never : None ≡ Some k = named in cc
   whole_did c k named range r o is of right = let never : None ≡ Some o = is in cc
 
   -- those of an answered tidy

@@ -10,10 +10,11 @@ use Rattle.erm_script.specs.declared.script.Command.TheVariants as command
 use Rattle.erm_script.specs.declared.script.ScriptLine.{ScriptLine}
 use Rattle.erm_world.specs.World.{View}
 use Rattle.erm_good_report.specs.Transactions.{Said, Transaction, progress_of, said_of, transactions_of}
-use Rattle.erm_good_report.specs.Windows.{HasLine, IsCommit, PutsKey}
+use Rattle.erm_good_report.specs.Windows.{HasKept, IsCommit, PutsKey}
 use Rattle.erm_lines.specs.Executions.{IsCourse}
 
--- A line of a transaction puts a key that is new to it: no commit that the places before tell put the key, with a stamp below its begin.
+-- A line of a transaction puts a key that is new to it: of no commit that the places before tell, with a stamp below its begin, did a put of the key
+-- stay.
 pub record PutsNewKey (sessions : ℕ) (before : List Said) (s : Said) : Type 0 where
   pub table : ℕ
   pub key : ℕ
@@ -21,7 +22,7 @@ pub record PutsNewKey (sessions : ℕ) (before : List Said) (s : Said) : Type 0 
   pub asks : s.asked ≡ Some (command.Put table key value)
   pub own : Transaction
   pub current : (progress_of s.session before).current ≡ Some own
-  pub new : (by : Transaction) (stamp succ : ℕ) → IsCommit (transactions_of sessions before) by stamp succ → stamp < own.begin → HasLine (PutsKey table key) by → ⊥
+  pub new : (by : Transaction) (stamp succ : ℕ) → IsCommit (transactions_of sessions before) by stamp succ → stamp < own.begin → HasKept (PutsKey table key) by → ⊥
 
 -- so many of these places do, each behind those before it
 abbrev pub HaveNewKeys : ℕ → List Said → List Said → ℕ → Type 0
