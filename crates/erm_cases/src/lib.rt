@@ -25,8 +25,6 @@ mod phantom;
 #[cfg(test)]
 mod report;
 #[cfg(test)]
-mod saves;
-#[cfg(test)]
 mod script;
 #[cfg(test)]
 mod segment;

@@ -1,7 +1,7 @@
 //! One small transaction, values at the edges of their length, and the limits as numbers.
 use erm_model::{
     COMMIT_KIND, GREATEST_BLOCK, Key, LAST_NUMBER, LAST_RUN, LEAST_BLOCK, LOG_END, MOST_CELLS, Map,
-    OID_LIMIT, Op, Pair, READ_LIMIT, RING_WORDS, RUN_UNIT, Reply, SEGMENT_WORDS, SESSIONS,
+    OID_LIMIT, Op, Pair, READ_LIMIT, RING_WORDS, RUN_UNIT, Reply, SAVES, SEGMENT_WORDS, SESSIONS,
     SIZE_UNIT, SKIP_KIND, STOP, TABLE_CELLS, TABLES, VALUE_BYTES, Value, WRITE_LIMIT, run_one,
 };
 use std::alloc::{AllocError, Global};
@@ -47,7 +47,8 @@ const KEYS: [Key; 2] = [
     },
 ];
 
-fn value(byte: u8) -> Value {
+/// A value of one byte.
+pub fn value(byte: u8) -> Value {
     Value::new(&[byte]).unwrap()
 }
 
@@ -135,12 +136,13 @@ fn lengths_of_values(rt: HostRuntime) {
 }
 
 // Each limit, and the numbers of a header, spelled out.
-const LIMITS: [(u64, u64); 19] = [
+const LIMITS: [(u64, u64); 20] = [
     (OID_LIMIT as u64, 16_384),
     (TABLES as u64, 16),
     (SESSIONS as u64, 48),
     (READ_LIMIT as u64, 512),
     (WRITE_LIMIT as u64, 128),
+    (SAVES as u64, 8),
     (TABLE_CELLS as u64, 65_536),
     (MOST_CELLS as u64, 1 << 24),
     (RING_WORDS, 32_768),

@@ -1,5 +1,5 @@
 //! Transactions with savepoints, worked out by hand.
-use crate::lines::value;
+use crate::model::value;
 use Short::{Back, Del, Get, Put, Save};
 use erm_model::{Map, Op, Reply, Staying, run_one};
 use std::alloc::{AllocError, Global};
@@ -127,7 +127,7 @@ fn op(short: Short) -> Op {
         Put(key, byte) => Op::Put {
             table: 0,
             key,
-            value: value(&[byte]),
+            value: value(byte),
         },
         Del(key) => Op::Del { table: 0, key },
         Get(key, _) => Op::Get { table: 0, key },
@@ -138,7 +138,7 @@ fn op(short: Short) -> Op {
 
 fn told(short: Short) -> Reply {
     match short {
-        Get(_, Some(byte)) => Reply::Value(Some(value(&[byte]))),
+        Get(_, Some(byte)) => Reply::Value(Some(value(byte))),
         Get(_, None) => Reply::Value(None),
         _ => Reply::Done,
     }
