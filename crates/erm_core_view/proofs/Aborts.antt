@@ -21,9 +21,10 @@ use Rattle.erm_machine.proofs.Frames.{put_same}
 use Rattle.erm_world.specs.Calls.{IsDone}
 use Rattle.erm_world.specs.World.{Finished, Session, Stand, Work, work_at}
 use Rattle.erm_world.specs.World as world
+use Rattle.erm_world.proofs.Saves.{becomes_then}
 use Rattle.erm_core_view.specs.Steps.{RestsAt, clear_steps, end_steps, release_steps}
 use Rattle.erm_core_view.specs.Views.{finished_of, session_of, view_of, work_of}
-use Rattle.erm_core_view.proofs.Chained.{becomes_then, goes, run_append, taken}
+use Rattle.erm_core_view.proofs.Chained.{goes, run_append, taken}
 use Rattle.erm_core_view.proofs.Ends.{Ending, all_cleared, all_released, nothing_ended}
 use Rattle.erm_core_view.proofs.Moved.{one_becomes}
 use Rattle.erm_core_view.proofs.Shown.{work_active}
@@ -96,7 +97,7 @@ module _ (seat : ℕ) (c : Core) (sound : Sound c) (session : is_flusher seat �
       let after : Session = record { over = s.over ++ record { work = world.work_of s.stand; fate = world.aborts } ∷ []; stand = world.idle } in
       let shows : session_of (done.seats seat) ≡ after = ap session_of (put_same last.seats seat (gone y)) ∙ gone_shows y s at.shows.own still at.new in
       subst (λ (d : Core). IsDone (view_of sessions c) seat (work_at (view_of sessions c) seat) world.aborts (view_of sessions d)) (sym runs)
-      (becomes_then (view_of sessions c) seat s (view_of sessions last) after (view_of sessions done) at.shows
+      (becomes_then (view_of sessions c) seat s (view_of sessions last) after (view_of sessions done) (λ active. absurd (cc active)) at.shows
       (one_becomes sessions seat last done (kind.StoreBegin 0) after session tt tt refl refl last_goes shows))
 
   pub abort_rests : RestsAt seat Idle (run_from c (end_steps seat (c.seats seat).current))

@@ -149,7 +149,7 @@ module _ (seat : ℕ) (c : Core) (sound : Sound c) (session : is_flusher seat �
       let same : session_of (loaded Idle c.shared.tail x) ≡ session_of x =
       ap (λ (place : Place). record { over = map finished_of x.over; stand = stand_of place x.task x.current }) (sym idle) in
       let count = length-map x.over finished_of in (
-        same_view (view_of sessions c) seat (view_of sessions d)
+        same_view (view_of sessions c) seat (view_of sessions d) refl
             (alone_shows sessions seat c (loaded Idle c.shared.tail x) d (session_of x) (refused_alone above) (λ here. absurd (eqb-false seat FLUSH_SEAT session here)) same),
         omega (arith, count, left),
         refl,

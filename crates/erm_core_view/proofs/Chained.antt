@@ -2,6 +2,7 @@
 use Rattle.std.proofs.Common.{◌≡◌, ◌≢◌, ℕ, ⊎_elim, true, List, [], ◌∷◌, ◌++◌, Option, Some, None, refl, sym, ap, ◌∙◌, subst}
 use Rattle.std.proofs.lemmas.Bool.{cases_eq, cond-true}
 use Rattle.std.proofs.Math.Path.{fun_ext}
+use Rattle.erm_model.specs.declared.history.VersionWritten.{VersionWritten}
 use Rattle.erm_machine.specs.declared.attempt.Attempt.{Attempt}
 use Rattle.erm_machine.specs.declared.event.Event.{Event}
 use Rattle.erm_machine.specs.declared.event.Kind.{Kind}
@@ -16,7 +17,8 @@ use Rattle.erm_machine.specs.Step.{after_event, core_step, is_known, moved, part
 use Rattle.erm_machine.specs.Words.{put}
 use Rattle.erm_machine.proofs.Frames.{put_other, put_same}
 use Rattle.erm_world.specs.Calls.{Becomes}
-use Rattle.erm_world.specs.World.{GivenUp, Opening, Session, View}
+use Rattle.erm_world.specs.World.{GivenUp, Opening, Session, View, phase_of}
+use Rattle.erm_world.proofs.Saves.{becomes_then, without}
 use Rattle.erm_core_view.specs.Steps.{MeetsOne}
 use Rattle.erm_core_view.specs.Views.{pin_of, session_of, view_of}
 
@@ -81,6 +83,7 @@ alone_shows sessions seat c y d s alone pin is = record {
   flushed = ap (λ (shared : Shared). shared.flushed) alone.shared;
   pinned = alone_pins sessions seat c y d alone pin;
   given_up = refl;
+  saves = record { own = without s.stand (session_of (c.seats seat)).stand; others = λ q other. refl };
 }
   where
     opening_from : ℕ → Shared → Opening
@@ -94,39 +97,28 @@ alone_shows sessions seat c y d s alone pin is = record {
       cuts = 0;
     }
 
--- a session that becomes one twice
-pub becomes_then : (v : View) (seat : ℕ) (s : Session) (t : View) (r : Session) (u : View) → Becomes v seat s t → Becomes t seat r u → Becomes v seat r u
-becomes_then v seat s t r u first second = record {
-  own = second.own;
-  others = λ q other. second.others q other ∙ first.others q other;
-  opening = second.opening ∙ first.opening;
-  tail = second.tail ∙ first.tail;
-  flushed = second.flushed ∙ first.flushed;
-  pinned = second.pinned ∙ first.pinned;
-  given_up = second.given_up ∙ first.given_up;
-}
-
 -- it still is what it was
 pub becomes_same : (sessions seat : ℕ) (c d e : Core) → Becomes (view_of sessions c) seat (session_of (c.seats seat)) (view_of sessions d)
     → Becomes (view_of sessions d) seat (session_of (d.seats seat)) (view_of sessions e) → Becomes (view_of sessions c) seat (session_of (c.seats seat)) (view_of sessions e)
 becomes_same sessions seat c d e first second =
     subst (λ (s : Session). Becomes (view_of sessions c) seat s (view_of sessions e)) first.own
-    (becomes_then (view_of sessions c) seat (session_of (c.seats seat)) (view_of sessions d) (session_of (d.seats seat)) (view_of sessions e) first second)
+    (becomes_then (view_of sessions c) seat (session_of (c.seats seat)) (view_of sessions d) (session_of (d.seats seat)) (view_of sessions e)
+    (λ active. ap (λ (s : Session). phase_of s.stand) (sym first.own) ∙ active) first second)
 
--- a world whose session becomes what it was is the same
-same_fields : (o p : Opening) (s r : ℕ → Session) (tail end flushed synced : ℕ) (pin held : Option ℕ) (given up : ℕ → List GivenUp) → o ≡ p → s ≡ r → tail ≡ end → flushed ≡ synced
-    → pin ≡ held → given ≡ up
-    → ◌≡◌ {A = View} (record { opening = o; session = s; tail = tail; flushed = flushed; pinned = pin; given_up = given })
-    (record { opening = p; session = r; tail = end; flushed = synced; pinned = held; given_up = up })
-same_fields o p s r tail end flushed synced pin held given up a b c d e f = cc
+-- a world whose session becomes what it was is the same, with the same savepoints
+same_fields : (o p : Opening) (s r : ℕ → Session) (tail end flushed synced : ℕ) (pin pinned : Option ℕ) (given up : ℕ → List GivenUp) (held kept : ℕ → List (List VersionWritten)) → o ≡ p → s ≡ r → tail ≡ end → flushed ≡ synced
+    → pin ≡ pinned → given ≡ up → held ≡ kept
+    → ◌≡◌ {A = View} (record { opening = o; session = s; tail = tail; flushed = flushed; pinned = pin; given_up = given; saves = held })
+    (record { opening = p; session = r; tail = end; flushed = synced; pinned = pinned; given_up = up; saves = kept })
+same_fields o p s r tail end flushed synced pin pinned given up held kept a b c d e f g = cc
 
-pub same_view : (v : View) (seat : ℕ) (t : View) → Becomes v seat (v.session seat) t → t ≡ v
-same_view v seat t becomes =
+pub same_view : (v : View) (seat : ℕ) (t : View) → t.saves ≡ v.saves → Becomes v seat (v.session seat) t → t ≡ v
+same_view v seat t saves becomes =
     let sessions : t.session ≡ v.session = fun_ext (λ q.
     ⊎_elim (λ (same : q ≡ seat). subst (λ (n : ℕ). t.session n ≡ v.session n) (sym same) becomes.own)
     (λ (other : q ≡ seat → ⊥). becomes.others q other) (cases_eq q seat)) in
-    same_fields t.opening v.opening t.session v.session t.tail v.tail t.flushed v.flushed t.pinned v.pinned t.given_up v.given_up becomes.opening sessions becomes.tail becomes.flushed becomes.pinned
-    becomes.given_up
+    same_fields t.opening v.opening t.session v.session t.tail v.tail t.flushed v.flushed t.pinned v.pinned t.given_up v.given_up t.saves v.saves becomes.opening sessions becomes.tail becomes.flushed becomes.pinned
+    becomes.given_up saves
 
 -- events behind others
 pub run_append : (es fs : List Event) (c : Core) → run_from c (es ++ fs) ≡ run_from (run_from c es) fs

@@ -9,6 +9,7 @@ pub mod Lives
 pub mod Looks
 pub mod Made
 pub mod Moved
+pub mod Onces
 pub mod Parts
 pub mod Rows
 pub mod Seals

@@ -4,6 +4,7 @@ use Rattle.std.specs.Prelude.{if◌then◌else◌}
 use Rattle.std.proofs.Math.ListN as listn
 use Rattle.std.proofs.lemmas.Bool.{and_from, cases_eq, cases_lt, cond-false, cond-true, eq-eqb, lt-ltb, ne_eqb}
 use Rattle.std.proofs.lemmas.List.{ext_get_or, get_or-map, length-map, set-set, take_all, take_more_set}
+use Rattle.std.proofs.Math.Seq.{map-set}
 use Rattle.erm_model.specs.declared.TheConstants.{ROW_WORDS}
 use Rattle.erm_model.specs.declared.history.VersionWritten.{VersionWritten}
 use Rattle.erm_machine.specs.declared.attempt.Claim.{Claim}
@@ -24,6 +25,7 @@ use Rattle.erm_machine.specs.Words.{put}
 use Rattle.erm_machine.proofs.Frames.{put_same}
 use Rattle.erm_machine.proofs.Holders.{stands_in}
 use Rattle.erm_world.specs.Calls.{Works}
+use Rattle.erm_world.specs.Saves.{with_claims}
 use Rattle.erm_world.specs.Works.{setting, with_row}
 use Rattle.erm_world.specs.World.{Work, work_at}
 use Rattle.erm_core_view.specs.Steps.{MayWrite, RestsAt, stores_from}
@@ -228,6 +230,29 @@ claims_apart : (seat : ℕ) (c : Core) → Sound c → Apart (c.seats seat).curr
 claims_apart seat c sound j k within_j within_k differ =
     let once = (sound.own seat).claims.once in
     ⊎_elim (λ (less : j < k). once j k less within_k) (λ (more : k ≤ j). λ same. once k j (omega (arith, more, differ)) within_j (sym same)) (cases_lt j k)
+
+-- the claim at the place has the row, set by a write
+pub stores_claim : (sessions seat place cell : ℕ) (row : List ℕ) (c : Core) → Sound c → MayWrite (c.seats seat) place cell → length row ≡ ROW_WORDS
+    → Works (view_of sessions c) seat
+    (with_claims (set (work_at (view_of sessions c) seat).claims place (record (written_of (claim_at (c.seats seat).current place)) { row = row; is_set = true })) (work_at (view_of sessions c) seat))
+    (view_of sessions (run_from c (stores_from seat place cell 0 row)))
+stores_claim sessions seat place cell row c sound may words =
+    let x = c.seats seat in
+    let w = claim_at x.current place in
+    let d = run_from c (stores_from seat place cell 0 row) in
+    let size = ((sound.own seat).written.rows x.current w (current_stands x) (stands_in x.current place may.claimed)).size in
+    let all : words_set 0 row w.row ≡ row = words_set_all 0 row w.row (omega (arith, size, words)) in
+    let stored = subst (λ (r : List ℕ). RowStored seat place r c x d) all (whole_row seat place cell row c may words) in
+    let y : Part = record x { task = task.Rest; current = with_claim place stored.new x.current } in
+    let stored_in : Work → Work = λ u. with_claims (set u.claims place (record (written_of w) { row = row; is_set = true })) u in
+    let work : work_of y.current ≡ stored_in (work_of x.current) =
+    ap (λ (ws : List VersionWritten). with_claims ws (work_of x.current))
+    (map-set written_of x.current.writes place stored.new ∙ ap (λ (v : VersionWritten). set (map written_of x.current.writes) place v) stored.has.has)
+    in
+    let now : work_at (view_of sessions c) seat ≡ work_of x.current = work_active x.place x.task x.current may.active (starts_new x.task x.current may.starts) in
+    subst (λ (u : Work). Works (view_of sessions c) seat (stored_in u) (view_of sessions d)) (sym now)
+    (alone_shows sessions seat c y d (working x (stored_in (work_of x.current))) stored.alone (λ _. pin_same x.place x.current y.current refl)
+    (shows_work x (stored_in (work_of x.current)) y refl may.active refl work).shows)
 
 pub writes : (sessions seat place cell : ℕ) (row : List ℕ) (c : Core) → Sound c → MayWrite (c.seats seat) place cell → length row ≡ ROW_WORDS
     → Works (view_of sessions c) seat (setting (claim_at (c.seats seat).current place).version.oid row (work_at (view_of sessions c) seat))

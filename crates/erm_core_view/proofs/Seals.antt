@@ -159,6 +159,7 @@ module _ (short : (row : List ℕ) → stored_length row ≤ length row) where
           flushed = refl;
           pinned = ap (λ (y : Part). pin_of y.place y.current) (others_sealed FLUSH_SEAT (λ same. eqb-false seat FLUSH_SEAT session (sym same)));
           given_up = refl;
+          saves = λ q other. refl;
         } in
         subst (λ (w : Work). DidSeal v seat c.shared.tail (view_of sessions (run_from c (seal_steps seat (world.size_of w) c.shared.tail)))) (sym work)
         (subst (λ (d : Core). DidSeal v seat c.shared.tail (view_of sessions d)) (sym runs) shows)

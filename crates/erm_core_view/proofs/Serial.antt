@@ -1,5 +1,5 @@
 -- A quiet sound state's view is a world whose commits are serializable.
-use Rattle.std.proofs.Common.{◌≡◌, ℕ, false, sym, ap, ◌∙◌, subst}
+use Rattle.std.proofs.Common.{◌≡◌, ℕ, false, sym, ap, ◌∙◌, subst, arith}
 use Rattle.erm_model.specs.declared.history.VersionRead.{VersionRead}
 use Rattle.erm_model.specs.declared.history.VersionWritten.{VersionWritten}
 use Rattle.erm_model.specs.History.{History, IsCertified, IsNewestBelow, IsSnapshot}
@@ -19,10 +19,12 @@ use Rattle.erm_machine.proofs.Listed.{∈-map}
 use Rattle.erm_world.specs.Laws.{IsSerializable, SeesSnapshot}
 use Rattle.erm_world.specs.World.{Has, Work}
 use Rattle.erm_world.specs.World as world
+use Rattle.erm_world.proofs.Restored.{AreSavesOf-none}
 use Rattle.erm_core_view.specs.Views.{IsQuiet, view_of, work_of}
 use Rattle.erm_core_view.proofs.Claimed.{claims_apart}
 use Rattle.erm_core_view.proofs.Lives.{begins_within, session_numbered, stamp_within, stamped_lawful, stamps_differ}
 use Rattle.erm_core_view.proofs.Made.{made_new, made_once}
+use Rattle.erm_core_view.proofs.Onces.{works_once}
 use Rattle.erm_core_view.proofs.Parts.{has_attempt}
 
 -- what transactions of a sound state have read and claimed
@@ -75,6 +77,9 @@ serializable law sessions c under quiet same certified snapshots saw =
       differ = λ p q w u stamp of_p of_q has also. stamps_differ sessions c sound quiet p q w u stamp of_p of_q has also;
       numbered = λ seat is_session. session_numbered sessions c sound quiet seat is_session;
       apart = λ p q d e of_p of_q other m n. claims_apart sessions c sound quiet p q d e of_p of_q other m n;
+      once = λ seat _. works_once sessions c sound seat;
+      saves = λ seat w _ _. AreSavesOf-none w;
+      few_saves = λ seat _ _. omega arith;
       opening_meets = under.lawful.opening;
       opening_reach = λ x above. under.lawful.below x above;
       lawful = λ seat w stamp is_session has. stamped_lawful sessions c sound quiet law under.lawful seat w stamp is_session has;

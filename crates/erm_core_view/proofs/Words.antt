@@ -25,7 +25,8 @@ use Rattle.erm_machine.proofs.Guards.{if_then, when_then}
 use Rattle.erm_machine.proofs.Holders.{stands_in}
 use Rattle.erm_machine.proofs.QuietKinds.{moves}
 use Rattle.erm_world.specs.World.{Work}
-use Rattle.erm_core_view.specs.Steps.{IsWriting, undone, with_word}
+use Rattle.erm_world.specs.Saves.{undone}
+use Rattle.erm_core_view.specs.Steps.{IsWriting, with_word}
 use Rattle.erm_core_view.specs.Views.{session_of, work_of}
 use Rattle.erm_core_view.proofs.Calm.{Same, claim_same, plain_if, plainly}
 use Rattle.erm_core_view.proofs.Moved.{own_after}

@@ -80,10 +80,6 @@ pub record RestsAt (seat : ℕ) (there : Place) (c : Core) : Type 0 where
 abbrev pub with_word : ℕ → ℕ → VersionWritten → VersionWritten
 with_word k value w = record w { row = slice_set w.row k value; is_set = true }
 
--- a row is again that of the version overwritten, and no write has set it
-abbrev pub undone : VersionWritten → VersionWritten
-undone w = record w { row = w.base; is_set = false }
-
 -- no row of a version overwritten is copied
 abbrev pub IsWriting : Task → Type 0
 IsWriting (task.Copies word) = ⊥

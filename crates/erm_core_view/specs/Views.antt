@@ -58,7 +58,8 @@ abbrev pub pin_of : Place → Attempt → Option ℕ
 pin_of (Active tail) t = Some t.begin
 pin_of p t = None
 
--- the state as a world of so many sessions, of which none meets another's claim between two calls, so that none given up shows
+-- the state as a world of so many sessions, of which none meets another's claim between two calls, so that none given up shows. Savepoints are
+-- no part of the state, and are told beside it.
 abbrev pub view_of : ℕ → Core → View
 view_of sessions c = record {
   opening = record {
@@ -75,6 +76,7 @@ view_of sessions c = record {
   flushed = c.shared.flushed;
   pinned = pin_of (c.seats FLUSH_SEAT).place (c.seats FLUSH_SEAT).current;
   given_up = λ q. [];
+  saves = λ q. [];
 }
 
 -- a snapshot between two calls: it is to look at a session, or it is safe and has read nothing yet, or has found a version

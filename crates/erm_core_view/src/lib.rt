@@ -25,10 +25,11 @@ ghost use Rattle.erm_machine.specs.Words.{begin_of, is_flusher};
 ghost use Rattle.erm_world.specs.declared.stops.BeginStop.TheVariants as stop;
 ghost use Rattle.erm_world.specs.Calls.{DidBegin, DidSeal, IsDone, MayNotBegin, Works};
 ghost use Rattle.erm_world.specs.Laws.{IsSerializable};
+ghost use Rattle.erm_world.specs.Saves.{undone};
 ghost use Rattle.erm_world.specs.Works.{claiming, making, reading, setting};
 ghost use Rattle.erm_world.specs.World.{work_at};
 ghost use Rattle.erm_world.specs.World as world;
-ghost use Rattle.erm_core_view.specs.Steps.{ChangesOne, IsCalm, IsEnding, IsWriting, MayWrite, MeetsOne, RestsAt, begin_steps, end_steps, seal_steps, snapshot_session, stores_from, undone, with_word};
+ghost use Rattle.erm_core_view.specs.Steps.{ChangesOne, IsCalm, IsEnding, IsWriting, MayWrite, MeetsOne, RestsAt, begin_steps, end_steps, seal_steps, snapshot_session, stores_from, with_word};
 ghost use Rattle.erm_core_view.specs.Views.{IsQuiet, session_of, view_of, work_of};
 
 use erm_model::RowLaw;

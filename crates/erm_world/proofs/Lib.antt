@@ -1,5 +1,6 @@
 pub mod Blocks
 pub mod Commits
+pub mod Halfway
 pub mod Lists
 pub mod Restored
 pub mod Saves

@@ -5,7 +5,7 @@ use Rattle.erm_model.specs.declared.outcome.Phase.TheVariants.{Active, Idle}
 use Rattle.erm_world.specs.Calls.{Becomes, KeepsOwnSaves, KeepsSaves, Works}
 use Rattle.erm_world.specs.Saves.{holding}
 use Rattle.erm_world.specs.Snapshots.{snapshot_not_active}
-use Rattle.erm_world.specs.World.{Session, Stand, View, Work, phase_at, phase_of}
+use Rattle.erm_world.specs.World.{Finished, Session, Stand, View, Work, phase_at, phase_of}
 use Rattle.erm_world.specs.World as world
 
 -- THE OWN ONES. They stay where a transaction in progress goes on.
@@ -73,6 +73,39 @@ keeps_then v seat s u r t so first second = record {
       subst (λ (x : Session). KeepsOwnSaves r.stand x.stand (t.saves seat) (u.saves seat)) first.own second.saves.own
       in then_by r.stand s.stand (v.session seat).stand (t.saves seat) (u.saves seat) (v.saves seat) so first.saves.own next;
   others = λ q another. second.saves.others q another ∙ first.saves.others q another;
+}
+
+pub becomes_then : (v : View) (seat : ℕ) (s : Session) (u : View) (r : Session) (t : View) → (phase_of r.stand ≡ Active → phase_of s.stand ≡ Active)
+    → Becomes v seat s u → Becomes u seat r t → Becomes v seat r t
+becomes_then v seat s u r t so first second = record {
+  own = second.own;
+  others = λ q another. second.others q another ∙ first.others q another;
+  opening = second.opening ∙ first.opening;
+  tail = second.tail ∙ first.tail;
+  flushed = second.flushed ∙ first.flushed;
+  pinned = second.pinned ∙ first.pinned;
+  given_up = second.given_up ∙ first.given_up;
+  saves = keeps_then v seat s u r t so first second;
+}
+
+-- a transaction that goes on twice
+pub works_then : (v u t : View) (seat : ℕ) (w x : Work) → Works v seat w u → Works u seat x t → Works v seat x t
+works_then v u t seat w x first second =
+    let over : (u.session seat).over ≡ (v.session seat).over = ap (λ (s : Session). s.over) first.own in
+    becomes_then v seat (record { over = (v.session seat).over; stand = world.active w }) u (record { over = (v.session seat).over; stand = world.active x }) t (λ active. refl) first
+    (subst (λ (fs : List Finished). Becomes u seat (record { over = fs; stand = world.active x }) t) over second)
+
+-- one that goes nowhere
+pub works_nowhere : (v : View) (seat : ℕ) (w : Work) → (v.session seat).stand ≡ world.active w → Works v seat w v
+works_nowhere v seat w is = record {
+  own = ap (λ (stand : Stand). record { over = (v.session seat).over; stand = stand }) is;
+  others = λ q another. refl;
+  opening = refl;
+  tail = refl;
+  flushed = refl;
+  pinned = refl;
+  given_up = refl;
+  saves = record { own = same_by (world.active w) (v.session seat).stand (v.saves seat) (λ active. ap phase_of is); others = λ q another. refl };
 }
 
 -- HOLDING. The savepoints that the session holds, and those of the others.
