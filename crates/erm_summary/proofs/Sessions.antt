@@ -15,16 +15,16 @@ use Rattle.erm_script.specs.declared.script.Command.{Command}
 use Rattle.erm_script.specs.declared.script.Command.TheVariants as command
 use Rattle.erm_script.specs.declared.script.ScriptLine.{ScriptLine}
 use Rattle.erm_good_report.specs.Phases.{asks_safe}
-use Rattle.erm_good_report.specs.Transactions.{Exchange, Ending, Commits, Excludes, Aborts, Snapshot, Transaction, Progress, heard, ended, ended_as, goes_on, looks_of, next_number, own_snapshot, placed_at, rank_stamp, snapshot_after, with_end, with_line, with_look, with_ending, with_seal, committed_as, committed_of, history_of, step_of, steps_of, reply_in, table_of, op_of}
+use Rattle.erm_good_report.specs.Transactions.{Exchange, Ending, Commits, Excludes, Aborts, Snapshot, Transaction, Progress, heard, ended, ended_as, goes_on, looks_of, next_number, own_snapshot, placed_at, rank_stamp, snapshot_after, with_end, with_line, with_look, with_ending, with_seal, committed_as, committed_of, history_of, step_of, steps_of, reply_in, op_of, exchange_of}
 use Rattle.erm_summary.specs.declared.hearing.Begun.{Begun}
 use Rattle.erm_summary.specs.declared.hearing.Session.{Session}
 use Rattle.erm_summary.specs.declared.hearing.Watched.{Watched}
 use Rattle.erm_summary.specs.declared.told.ToldCommit.{ToldCommit}
-use Rattle.erm_summary.specs.Told.{Follows, GotLine, GotLook, IsBegun, IsCurrent, IsAskedAt, IsWatched, IsWatching, given_up, committed_as_told, history_told, step_at, steps_at, told_safe}
+use Rattle.erm_summary.specs.Told.{Follows, GotLine, GotLook, IsBegun, IsCurrent, IsAskedAt, IsReply, IsWatched, IsWatching, given_up, committed_as_told, history_told, step_at, steps_at, told_safe}
 
 -- the lines that an answer adds to its transaction
 abbrev added : Option Command → Answer → List Exchange
-added asked a = option_to_list (option_and_then (λ c. option_map (λ table. record { asked = c; answer = a }) (table_of c)) asked)
+added asked a = option_to_list (exchange_of asked a)
 
 -- the step of an operation with its reply
 abbrev op_step : Option Op → Option Reply → Option Step
@@ -35,13 +35,29 @@ quiet_op : (o : Option Op) (r : Option Reply) → r ≡ None → op_step o r ≡
 quiet_op None r quiet = refl
 quiet_op (Some op) r quiet = ap (λ o. op_step (Some op) o) quiet
 
-quiet_table : (o : Option ℕ) (c : Command) (a : Answer) → reply_in a ≡ None → filter_map step_of (option_to_list (option_map (λ table. record { asked = c; answer = a }) o)) ≡ []
-quiet_table None c a quiet = refl
-quiet_table (Some table) c a quiet = ap (λ o. cons_option o []) (quiet_op (op_of c) (reply_in a) quiet)
+-- the step of the line that an answer adds
+added_step : (c : Command) (a : Answer) → filter_map step_of (added (Some c) a) ≡ cons_option (step_of (record { asked = c; answer = a })) []
+added_step command.Begin a = refl
+added_step command.Safe a = refl
+added_step (command.Get x y) a = refl
+added_step (command.Put x y z) a = refl
+added_step (command.Del x y) a = refl
+added_step (command.Next x y) a = refl
+added_step (command.Scan x y z) a = refl
+added_step (command.Tidy x y) a = refl
+added_step command.Save a = refl
+added_step (command.Back n) a = refl
+added_step command.Seal a = refl
+added_step command.Settle a = refl
+added_step command.Commit a = refl
+added_step command.Abort a = refl
+added_step command.Durable a = refl
+added_step command.Flush a = refl
+added_step command.Checkpoint a = refl
 
 quiet_added : (asked : Option Command) (a : Answer) → reply_in a ≡ None → filter_map step_of (added asked a) ≡ []
 quiet_added None a quiet = refl
-quiet_added (Some c) a quiet = quiet_table (table_of c) c a quiet
+quiet_added (Some c) a quiet = added_step c a ∙ ap (λ o. cons_option o []) (quiet_op (op_of c) (reply_in a) quiet)
 
 quiet_line : (asked : Option Command) (a : Answer) (t : Transaction) → reply_in a ≡ None → steps_of (with_line asked a t) ≡ steps_of t
 quiet_line asked a t quiet =
@@ -57,23 +73,19 @@ waits_on x y None p asks = refl
 waits_on x y (Some command.Safe) p asks = absurd (cc)
 waits_on x y (Some c) p asks = refl
 
--- of a reply they are its step
-replied_added : (c : Command) (r : Reply) → filter_map step_of (added (Some c) (answer.Replied r)) ≡ option_to_list (step_of (record { asked = c; answer = answer.Replied r }))
-replied_added command.Begin r = refl
-replied_added command.Safe r = refl
-replied_added (command.Get x y) r = refl
-replied_added (command.Put x y z) r = refl
-replied_added (command.Del x y) r = refl
-replied_added (command.Next x y) r = refl
-replied_added (command.Scan x y z) r = refl
-replied_added (command.Tidy x y) r = refl
-replied_added command.Seal r = refl
-replied_added command.Settle r = refl
-replied_added command.Commit r = refl
-replied_added command.Abort r = refl
-replied_added command.Durable r = refl
-replied_added command.Flush r = refl
-replied_added command.Checkpoint r = refl
+-- a reply leaves the snapshot as it is, but for its line
+replied_on : (asked : Option Command) (a : Answer) (p : Progress) → IsReply a → snapshot_after a asked p ≡ option_map (with_look asked a) p.snapshot
+replied_on asked (answer.Replied r) p is = refl
+replied_on asked (answer.Saved held) p is = refl
+replied_on asked (answer.Back n) p is = refl
+replied_on asked a p is = absurd is
+
+-- and goes on
+pub replied_heard : (seat : ℕ) (asked : Option Command) (a : Answer) (p : Progress) → IsReply a → heard seat asked a p ≡ goes_on asked a p
+replied_heard seat asked (answer.Replied r) p is = refl
+replied_heard seat asked (answer.Saved held) p is = refl
+replied_heard seat asked (answer.Back n) p is = refl
+replied_heard seat asked a p is = absurd is
 
 module _ (script : List ScriptLine) (answers : List Answer) where
   quiet_current : (seat : ℕ) (asked : Option Command) (a : Answer) (o : Option Transaction) (b : Option Begun) → reply_in a ≡ None → IsCurrent script answers seat o b →
@@ -180,42 +192,46 @@ module _ (script : List ScriptLine) (answers : List Answer) where
   -- a session goes on as before by an answer that ends nothing, begins nothing and is no reply
   pub heard_quietly : (a : Answer) (asked : Option Command) (p : Progress) (s : Session) → ((x : ℕ) → a ≡ answer.Began x → ⊥) → ((x : Reply) → a ≡ answer.Replied x → ⊥) → ((x y z : ℕ) → a ≡ answer.Committed x y z → ⊥) → ((x y z : ℕ) → a ≡ answer.Excluded x y z → ⊥) →
       (a ≡ answer.Aborted → ⊥) → ((x y : ℕ) → a ≡ answer.Owned x y → ⊥) → ((x : ℕ) → a ≡ answer.Newer x → ⊥) → ((x y : ℕ) → a ≡ answer.ExcludedEarly x y → ⊥) →
-      ((x : ℕ) → a ≡ answer.Safe x → ⊥) → ((x y : ℕ) → a ≡ answer.WaitSeat x y → ⊥) → ((x y : ℕ) → a ≡ answer.Unsafe x y → ⊥) → (a ≡ answer.Ended → ⊥) → Follows script answers p s → Follows script answers (heard s.seat asked a p) s
-  heard_quietly (answer.Began x) asked p s begins replies commits excludes aborts owned newer early safe waits unsafe ends f = absurd (begins x refl)
-  heard_quietly (answer.Safe x) asked p s begins replies commits excludes aborts owned newer early safe waits unsafe ends f = absurd (safe x refl)
-  heard_quietly (answer.Replied x) asked p s begins replies commits excludes aborts owned newer early safe waits unsafe ends f = absurd (replies x refl)
-  heard_quietly (answer.Sealed x) asked p s begins replies commits excludes aborts owned newer early safe waits unsafe ends f = seals x p s f
-  heard_quietly (answer.Committed x y z) asked p s begins replies commits excludes aborts owned newer early safe waits unsafe ends f = absurd (commits x y z refl)
-  heard_quietly (answer.Excluded x y z) asked p s begins replies commits excludes aborts owned newer early safe waits unsafe ends f = absurd (excludes x y z refl)
-  heard_quietly answer.Aborted asked p s begins replies commits excludes aborts owned newer early safe waits unsafe ends f = absurd (aborts refl)
-  heard_quietly answer.Ended asked p s begins replies commits excludes aborts owned newer early safe waits unsafe ends f = absurd (ends refl)
-  heard_quietly answer.NotIdle asked p s begins replies commits excludes aborts owned newer early safe waits unsafe ends f = f
-  heard_quietly answer.NoTransaction asked p s begins replies commits excludes aborts owned newer early safe waits unsafe ends f = f
-  heard_quietly answer.IsSealed asked p s begins replies commits excludes aborts owned newer early safe waits unsafe ends f = f
-  heard_quietly answer.NotSealed asked p s begins replies commits excludes aborts owned newer early safe waits unsafe ends f = f
-  heard_quietly answer.ReadOnly asked p s begins replies commits excludes aborts owned newer early safe waits unsafe ends f = f
-  heard_quietly answer.NotSafe asked p s begins replies commits excludes aborts owned newer early safe waits unsafe ends f = f
-  heard_quietly (answer.WaitSeat x y) asked p s begins replies commits excludes aborts owned newer early safe waits unsafe ends f = absurd (waits x y refl)
-  heard_quietly (answer.Unsafe x y) asked p s begins replies commits excludes aborts owned newer early safe waits unsafe ends f = absurd (unsafe x y refl)
-  heard_quietly (answer.Owned x y) asked p s begins replies commits excludes aborts owned newer early safe waits unsafe ends f = absurd (owned x y refl)
-  heard_quietly (answer.Newer x) asked p s begins replies commits excludes aborts owned newer early safe waits unsafe ends f = absurd (newer x refl)
-  heard_quietly (answer.ExcludedEarly x y) asked p s begins replies commits excludes aborts owned newer early safe waits unsafe ends f = absurd (early x y refl)
-  heard_quietly (answer.Cut x) asked p s begins replies commits excludes aborts owned newer early safe waits unsafe ends f = goes_on_quietly asked (answer.Cut x) p s refl refl f
-  heard_quietly (answer.Durable x) asked p s begins replies commits excludes aborts owned newer early safe waits unsafe ends f = goes_on_quietly asked (answer.Durable x) p s refl refl f
-  heard_quietly (answer.Flushed x) asked p s begins replies commits excludes aborts owned newer early safe waits unsafe ends f = goes_on_quietly asked (answer.Flushed x) p s refl refl f
-  heard_quietly (answer.Empty x) asked p s begins replies commits excludes aborts owned newer early safe waits unsafe ends f = goes_on_quietly asked (answer.Empty x) p s refl refl f
-  heard_quietly (answer.Checkpointed x) asked p s begins replies commits excludes aborts owned newer early safe waits unsafe ends f = goes_on_quietly asked (answer.Checkpointed x) p s refl refl f
-  heard_quietly (answer.LogEnd x) asked p s begins replies commits excludes aborts owned newer early safe waits unsafe ends f = goes_on_quietly asked (answer.LogEnd x) p s refl refl f
-  heard_quietly answer.NumbersEnd asked p s begins replies commits excludes aborts owned newer early safe waits unsafe ends f = goes_on_quietly asked answer.NumbersEnd p s refl refl f
-  heard_quietly (answer.WaitRing x) asked p s begins replies commits excludes aborts owned newer early safe waits unsafe ends f = goes_on_quietly asked (answer.WaitRing x) p s refl refl f
-  heard_quietly answer.ReadsFull asked p s begins replies commits excludes aborts owned newer early safe waits unsafe ends f = goes_on_quietly asked answer.ReadsFull p s refl refl f
-  heard_quietly answer.WritesFull asked p s begins replies commits excludes aborts owned newer early safe waits unsafe ends f = goes_on_quietly asked answer.WritesFull p s refl refl f
-  heard_quietly (answer.CellsFull x) asked p s begins replies commits excludes aborts owned newer early safe waits unsafe ends f = goes_on_quietly asked (answer.CellsFull x) p s refl refl f
-  heard_quietly (answer.OidsFull x) asked p s begins replies commits excludes aborts owned newer early safe waits unsafe ends f = goes_on_quietly asked (answer.OidsFull x) p s refl refl f
-  heard_quietly (answer.NotFlushed x) asked p s begins replies commits excludes aborts owned newer early safe waits unsafe ends f = goes_on_quietly asked (answer.NotFlushed x) p s refl refl f
-  heard_quietly answer.NoReceipt asked p s begins replies commits excludes aborts owned newer early safe waits unsafe ends f = goes_on_quietly asked answer.NoReceipt p s refl refl f
-  heard_quietly (answer.Unfilled x) asked p s begins replies commits excludes aborts owned newer early safe waits unsafe ends f = goes_on_quietly asked (answer.Unfilled x) p s refl refl f
-  heard_quietly answer.DiskFault asked p s begins replies commits excludes aborts owned newer early safe waits unsafe ends f = goes_on_quietly asked answer.DiskFault p s refl refl f
+      ((x : ℕ) → a ≡ answer.Safe x → ⊥) → ((x y : ℕ) → a ≡ answer.WaitSeat x y → ⊥) → ((x y : ℕ) → a ≡ answer.Unsafe x y → ⊥) → (a ≡ answer.Ended → ⊥) → ((x : ℕ) → a ≡ answer.Saved x → ⊥) → ((x : ℕ) → a ≡ answer.Back x → ⊥) → Follows script answers p s → Follows script answers (heard s.seat asked a p) s
+  heard_quietly (answer.Began x) asked p s begins replies commits excludes aborts owned newer early safe waits unsafe ends saved back f = absurd (begins x refl)
+  heard_quietly (answer.Safe x) asked p s begins replies commits excludes aborts owned newer early safe waits unsafe ends saved back f = absurd (safe x refl)
+  heard_quietly (answer.Replied x) asked p s begins replies commits excludes aborts owned newer early safe waits unsafe ends saved back f = absurd (replies x refl)
+  heard_quietly (answer.Sealed x) asked p s begins replies commits excludes aborts owned newer early safe waits unsafe ends saved back f = seals x p s f
+  heard_quietly (answer.Committed x y z) asked p s begins replies commits excludes aborts owned newer early safe waits unsafe ends saved back f = absurd (commits x y z refl)
+  heard_quietly (answer.Excluded x y z) asked p s begins replies commits excludes aborts owned newer early safe waits unsafe ends saved back f = absurd (excludes x y z refl)
+  heard_quietly answer.Aborted asked p s begins replies commits excludes aborts owned newer early safe waits unsafe ends saved back f = absurd (aborts refl)
+  heard_quietly answer.Ended asked p s begins replies commits excludes aborts owned newer early safe waits unsafe ends saved back f = absurd (ends refl)
+  heard_quietly answer.NotIdle asked p s begins replies commits excludes aborts owned newer early safe waits unsafe ends saved back f = f
+  heard_quietly answer.NoTransaction asked p s begins replies commits excludes aborts owned newer early safe waits unsafe ends saved back f = f
+  heard_quietly answer.IsSealed asked p s begins replies commits excludes aborts owned newer early safe waits unsafe ends saved back f = f
+  heard_quietly answer.NotSealed asked p s begins replies commits excludes aborts owned newer early safe waits unsafe ends saved back f = f
+  heard_quietly answer.ReadOnly asked p s begins replies commits excludes aborts owned newer early safe waits unsafe ends saved back f = f
+  heard_quietly answer.NotSafe asked p s begins replies commits excludes aborts owned newer early safe waits unsafe ends saved back f = f
+  heard_quietly (answer.WaitSeat x y) asked p s begins replies commits excludes aborts owned newer early safe waits unsafe ends saved back f = absurd (waits x y refl)
+  heard_quietly (answer.Unsafe x y) asked p s begins replies commits excludes aborts owned newer early safe waits unsafe ends saved back f = absurd (unsafe x y refl)
+  heard_quietly (answer.Owned x y) asked p s begins replies commits excludes aborts owned newer early safe waits unsafe ends saved back f = absurd (owned x y refl)
+  heard_quietly (answer.Newer x) asked p s begins replies commits excludes aborts owned newer early safe waits unsafe ends saved back f = absurd (newer x refl)
+  heard_quietly (answer.ExcludedEarly x y) asked p s begins replies commits excludes aborts owned newer early safe waits unsafe ends saved back f = absurd (early x y refl)
+  heard_quietly (answer.Cut x) asked p s begins replies commits excludes aborts owned newer early safe waits unsafe ends saved back f = goes_on_quietly asked (answer.Cut x) p s refl refl f
+  heard_quietly (answer.Saved x) asked p s begins replies commits excludes aborts owned newer early safe waits unsafe ends saved back f = absurd (saved x refl)
+  heard_quietly (answer.Back x) asked p s begins replies commits excludes aborts owned newer early safe waits unsafe ends saved back f = absurd (back x refl)
+  heard_quietly (answer.Durable x) asked p s begins replies commits excludes aborts owned newer early safe waits unsafe ends saved back f = goes_on_quietly asked (answer.Durable x) p s refl refl f
+  heard_quietly (answer.Flushed x) asked p s begins replies commits excludes aborts owned newer early safe waits unsafe ends saved back f = goes_on_quietly asked (answer.Flushed x) p s refl refl f
+  heard_quietly (answer.Empty x) asked p s begins replies commits excludes aborts owned newer early safe waits unsafe ends saved back f = goes_on_quietly asked (answer.Empty x) p s refl refl f
+  heard_quietly (answer.Checkpointed x) asked p s begins replies commits excludes aborts owned newer early safe waits unsafe ends saved back f = goes_on_quietly asked (answer.Checkpointed x) p s refl refl f
+  heard_quietly (answer.LogEnd x) asked p s begins replies commits excludes aborts owned newer early safe waits unsafe ends saved back f = goes_on_quietly asked (answer.LogEnd x) p s refl refl f
+  heard_quietly answer.NumbersEnd asked p s begins replies commits excludes aborts owned newer early safe waits unsafe ends saved back f = goes_on_quietly asked answer.NumbersEnd p s refl refl f
+  heard_quietly (answer.WaitRing x) asked p s begins replies commits excludes aborts owned newer early safe waits unsafe ends saved back f = goes_on_quietly asked (answer.WaitRing x) p s refl refl f
+  heard_quietly answer.ReadsFull asked p s begins replies commits excludes aborts owned newer early safe waits unsafe ends saved back f = goes_on_quietly asked answer.ReadsFull p s refl refl f
+  heard_quietly answer.WritesFull asked p s begins replies commits excludes aborts owned newer early safe waits unsafe ends saved back f = goes_on_quietly asked answer.WritesFull p s refl refl f
+  heard_quietly (answer.CellsFull x) asked p s begins replies commits excludes aborts owned newer early safe waits unsafe ends saved back f = goes_on_quietly asked (answer.CellsFull x) p s refl refl f
+  heard_quietly (answer.OidsFull x) asked p s begins replies commits excludes aborts owned newer early safe waits unsafe ends saved back f = goes_on_quietly asked (answer.OidsFull x) p s refl refl f
+  heard_quietly answer.SavesFull asked p s begins replies commits excludes aborts owned newer early safe waits unsafe ends saved back f = goes_on_quietly asked answer.SavesFull p s refl refl f
+  heard_quietly (answer.NoSave x) asked p s begins replies commits excludes aborts owned newer early safe waits unsafe ends saved back f = goes_on_quietly asked (answer.NoSave x) p s refl refl f
+  heard_quietly (answer.NotFlushed x) asked p s begins replies commits excludes aborts owned newer early safe waits unsafe ends saved back f = goes_on_quietly asked (answer.NotFlushed x) p s refl refl f
+  heard_quietly answer.NoReceipt asked p s begins replies commits excludes aborts owned newer early safe waits unsafe ends saved back f = goes_on_quietly asked answer.NoReceipt p s refl refl f
+  heard_quietly (answer.Unfilled x) asked p s begins replies commits excludes aborts owned newer early safe waits unsafe ends saved back f = goes_on_quietly asked (answer.Unfilled x) p s refl refl f
+  heard_quietly answer.DiskFault asked p s begins replies commits excludes aborts owned newer early safe waits unsafe ends saved back f = goes_on_quietly asked answer.DiskFault p s refl refl f
 
   -- it gives its transaction up by each other answer that ends it, but for a commit
   abbrev pub EndsAside : Answer → Type 0
@@ -235,19 +251,13 @@ module _ (script : List ScriptLine) (answers : List Answer) where
       ends_aside (Excludes None x y) (goes_on asked (answer.ExcludedEarly x y) p) s (λ t. refl) (goes_on_quietly asked (answer.ExcludedEarly x y) p s refl refl f)
   heard_aside a asked p s aside f = absurd aside
 
-  -- a reply to the line at a place is its step
-  replied_line : (place : Option ℕ) (asked : Option Command) (r : Reply) → IsAskedAt script answers place asked (answer.Replied r) →
-      filter_map step_of (added asked (answer.Replied r)) ≡ steps_at script answers (option_to_list place)
-  replied_line None asked r is = ap (λ o. filter_map step_of (added o (answer.Replied r))) is
-  replied_line (Some place) asked r (l, at, answered, same) =
-      ap (λ o. filter_map step_of (added o (answer.Replied r))) same ∙ replied_added l.command r
-      ∙ ap option_to_list (sym (ap (λ o. option_and_then (λ l. option_and_then (λ a. step_of (record { asked = l.command; answer = a })) (slice_get answers place)) o) at
+  -- an answer to the line at a place is its step
+  line_step : (place : Option ℕ) (asked : Option Command) (a : Answer) → IsAskedAt script answers place asked a → filter_map step_of (added asked a) ≡ steps_at script answers (option_to_list place)
+  line_step None asked a is = ap (λ o. filter_map step_of (added o a)) is
+  line_step (Some place) asked a (l, at, answered, same) =
+      ap (λ o. filter_map step_of (added o a)) same ∙ added_step l.command a
+      ∙ ap (λ o. cons_option o []) (sym (ap (λ o. option_and_then (λ l. option_and_then (λ a. step_of (record { asked = l.command; answer = a })) (slice_get answers place)) o) at
       ∙ ap (λ o. option_and_then (λ a. step_of (record { asked = l.command; answer = a })) o) answered))
-      ∙ one_step (step_at script answers place)
-    where
-      one_step : (o : Option Step) → option_to_list o ≡ cons_option o []
-      one_step None = refl
-      one_step (Some s) = refl
 
   -- the transaction that has not ended, and the snapshot
   current_of : (seat : ℕ) (o : Option Transaction) (b : Begun) → IsCurrent script answers seat o (Some b) → (t : Transaction) × (o ≡ Some t) × IsBegun script answers seat t b
@@ -267,40 +277,40 @@ module _ (script : List ScriptLine) (answers : List Answer) where
   no_watched (Some x) h = absurd h
 
   -- each goes on by one more line that got a reply
-  more_steps : (place : Option ℕ) (asked : Option Command) (r : Reply) (lines : List Exchange) (places now : List ℕ) → IsAskedAt script answers place asked (answer.Replied r) →
-      filter_map step_of lines ≡ steps_at script answers places → now ≡ places ++ option_to_list place → filter_map step_of (lines ++ added asked (answer.Replied r)) ≡ steps_at script answers now
-  more_steps place asked r lines places now is steps longer =
-      filter_map-append step_of lines (added asked (answer.Replied r))
-      ∙ ap (λ more. filter_map step_of lines ++ more) (replied_line place asked r is)
+  more_steps : (place : Option ℕ) (asked : Option Command) (a : Answer) (lines : List Exchange) (places now : List ℕ) → IsAskedAt script answers place asked a →
+      filter_map step_of lines ≡ steps_at script answers places → now ≡ places ++ option_to_list place → filter_map step_of (lines ++ added asked a) ≡ steps_at script answers now
+  more_steps place asked a lines places now is steps longer =
+      filter_map-append step_of lines (added asked a)
+      ∙ ap (λ more. filter_map step_of lines ++ more) (line_step place asked a is)
       ∙ ap (λ first. first ++ steps_at script answers (option_to_list place)) steps
       ∙ sym (ap (steps_at script answers) longer ∙ filter_map-append (step_at script answers) places (option_to_list place))
 
-  replied_current : (seat : ℕ) (place : Option ℕ) (asked : Option Command) (r : Reply) (o : Option Transaction) (b now : Option Begun) → IsAskedAt script answers place asked (answer.Replied r) →
-      GotLine place b now → IsCurrent script answers seat o b → IsCurrent script answers seat (option_map (with_line asked (answer.Replied r)) o) now
-  replied_current seat place asked r None None now is got h = subst (λ (v : Option Begun). IsCurrent script answers seat None v) (sym got) tt
-  replied_current seat place asked r None (Some b) now is got h = absurd h
-  replied_current seat place asked r (Some t) None now is got h = absurd h
-  replied_current seat place asked r (Some t) (Some b) now is got h =
-      subst (λ (v : Option Begun). IsCurrent script answers seat (Some (with_line asked (answer.Replied r) t)) v) (sym got.1)
+  replied_current : (seat : ℕ) (place : Option ℕ) (asked : Option Command) (a : Answer) (o : Option Transaction) (b now : Option Begun) → IsAskedAt script answers place asked a →
+      GotLine place b now → IsCurrent script answers seat o b → IsCurrent script answers seat (option_map (with_line asked a) o) now
+  replied_current seat place asked a None None now is got h = subst (λ (v : Option Begun). IsCurrent script answers seat None v) (sym got) tt
+  replied_current seat place asked a None (Some b) now is got h = absurd h
+  replied_current seat place asked a (Some t) None now is got h = absurd h
+  replied_current seat place asked a (Some t) (Some b) now is got h =
+      subst (λ (v : Option Begun). IsCurrent script answers seat (Some (with_line asked a t)) v) (sym got.1)
       (record {
         session = h.session;
         number = h.number ∙ sym got.2;
         begin = h.begin ∙ sym got.3;
         ending = h.ending;
-        steps = more_steps place asked r t.lines b.lines.items got.0.lines.items is h.steps got.4;
+        steps = more_steps place asked a t.lines b.lines.items got.0.lines.items is h.steps got.4;
       })
 
-  replied_watched : (place : Option ℕ) (asked : Option Command) (r : Reply) (o : Option Snapshot) (w now : Option Watched) → IsAskedAt script answers place asked (answer.Replied r) →
-      GotLook place w now → IsWatching script answers o w → IsWatching script answers (option_map (with_look asked (answer.Replied r)) o) now
-  replied_watched place asked r None None now is got h = subst (λ (v : Option Watched). IsWatching script answers None v) (sym got) tt
-  replied_watched place asked r None (Some w) now is got h = absurd h
-  replied_watched place asked r (Some x) None now is got h = absurd h
-  replied_watched place asked r (Some x) (Some w) now is got h =
-      subst (λ (v : Option Watched). IsWatching script answers (Some (with_look asked (answer.Replied r) x)) v) (sym got.1)
+  replied_watched : (place : Option ℕ) (asked : Option Command) (a : Answer) (o : Option Snapshot) (w now : Option Watched) → IsAskedAt script answers place asked a →
+      GotLook place w now → IsWatching script answers o w → IsWatching script answers (option_map (with_look asked a) o) now
+  replied_watched place asked a None None now is got h = subst (λ (v : Option Watched). IsWatching script answers None v) (sym got) tt
+  replied_watched place asked a None (Some w) now is got h = absurd h
+  replied_watched place asked a (Some x) None now is got h = absurd h
+  replied_watched place asked a (Some x) (Some w) now is got h =
+      subst (λ (v : Option Watched). IsWatching script answers (Some (with_look asked a x)) v) (sym got.1)
       (record {
         number = h.number ∙ sym got.2;
         begin = h.begin ∙ sym got.3;
-        steps = more_steps place asked r x.lines w.lines.items got.0.lines.items is h.steps got.4;
+        steps = more_steps place asked a x.lines w.lines.items got.0.lines.items is h.steps got.4;
         placed = h.placed;
       })
 
@@ -312,19 +322,19 @@ module _ (script : List ScriptLine) (answers : List Answer) where
   none_looked None = refl
   none_looked (Some w) = (w, refl, refl, refl, sym (append-nil w.lines.items))
 
-  pub follows_reply : (place : Option ℕ) (asked : Option Command) (r : Reply) (p : Progress) (s : Session) (current : Option Begun) (watched : Option Watched) → IsAskedAt script answers place asked (answer.Replied r) →
+  pub follows_reply : (place : Option ℕ) (asked : Option Command) (a : Answer) (p : Progress) (s : Session) (current : Option Begun) (watched : Option Watched) → IsReply a → IsAskedAt script answers place asked a →
       GotLine place s.current current → GotLook place s.watched watched → Follows script answers p s →
-      Follows script answers (goes_on asked (answer.Replied r) p) (record s { current = current; watched = watched })
-  follows_reply place asked r p s current watched is line look f = record {
+      Follows script answers (goes_on asked a p) (record s { current = current; watched = watched })
+  follows_reply place asked a p s current watched reply is line look f = record {
     over = f.over;
     commits = f.commits;
-    current = replied_current s.seat place asked r p.current s.current current is line f.current;
+    current = replied_current s.seat place asked a p.current s.current current is line f.current;
     ended = f.ended;
-    watched = replied_watched place asked r p.snapshot s.watched watched is look f.watched;
+    watched = subst (λ (o : Option Snapshot). IsWatching script answers o watched) (sym (replied_on asked a p reply)) (replied_watched place asked a p.snapshot s.watched watched is look f.watched);
   }
 
-  pub follows_none : (asked : Option Command) (r : Reply) (p : Progress) (s : Session) → IsAskedAt script answers None asked (answer.Replied r) → Follows script answers p s → Follows script answers (goes_on asked (answer.Replied r) p) s
-  follows_none asked r p s is f = follows_reply None asked r p s s.current s.watched is (none_got s.current) (none_looked s.watched) f
+  pub follows_none : (asked : Option Command) (a : Answer) (p : Progress) (s : Session) → IsReply a → IsAskedAt script answers None asked a → Follows script answers p s → Follows script answers (goes_on asked a p) s
+  follows_none asked a p s reply is f = follows_reply None asked a p s s.current s.watched reply is (none_got s.current) (none_looked s.watched) f
 
   -- ---- a snapshot begins, or goes on, and is safe where a begin stamp is told
   begun_watched : (p : Progress) (s : Session) (w : Watched) → s.watched ≡ None → w.number ≡ s.over + 1 → w.begin ≡ None → w.lines.items ≡ [] → Follows script answers p s → IsWatched script answers (own_snapshot p) w

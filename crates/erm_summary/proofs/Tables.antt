@@ -18,7 +18,8 @@ use Rattle.erm_model.specs.declared.operation.Reply.{Reply}
 use Rattle.erm_model.specs.Committed.{Committed, state_after}
 use Rattle.erm_model.specs.Database.{Database, at, entries_of, key_cmp, value_at}
 use Rattle.erm_model.specs.Member.{◌∈◌}
-use Rattle.erm_model.specs.Run.{Step, after, after_all, ops_of}
+use Rattle.erm_model.specs.Run.{Saving, Step, after, after_all, after_from, begins, change, ops_of}
+use Rattle.erm_model.proofs.Savings.{AreAll, all_after, all_begins}
 use Rattle.erm_model.proofs.Keys.{get_key, keys_total, value_at-insert, value_at-remove}
 use Rattle.erm_report.specs.declared.answer.Answer.{Answer}
 use Rattle.erm_report.specs.declared.answer.Answer.TheVariants as answer
@@ -33,7 +34,7 @@ use Rattle.erm_good_report.specs.GoodReport.{Report, answer_lines, close_line, l
 use Rattle.erm_good_report.specs.Opening.{Opening}
 use Rattle.erm_good_report.proofs.Determining.{after_answers, report_lines_by_parts}
 use Rattle.erm_good_report.specs.Phases.{Closed}
-use Rattle.erm_good_report.specs.Transactions.{Exchange, Ending, Commits, Excludes, Aborts, Progress, Said, Snapshot, Transaction, committed_as, committed_of, ended, ended_as, ended_of, exchange_of, goes_on, heard, history_of, next_number, nothing, own_snapshot, placed_at, progress_of, reply_in, said_of, snapshot_after, step_of, table_of, transactions_of, with_end, with_ending, with_line, with_look, with_seal}
+use Rattle.erm_good_report.specs.Transactions.{Exchange, Ending, Commits, Excludes, Aborts, Progress, Said, Snapshot, Transaction, committed_as, committed_of, ended, ended_as, ended_of, exchange_of, goes_on, heard, history_of, next_number, nothing, own_snapshot, placed_at, progress_of, reply_in, said_of, snapshot_after, step_of, transactions_of, with_end, with_ending, with_line, with_look, with_seal, works_on_map}
 use Rattle.erm_summary.specs.Summary.{Summarizes}
 use Rattle.erm_summary.specs.Tables.{KeysAreInTables}
 
@@ -79,13 +80,13 @@ record IsRanged (p : Progress) : Type 0 where
   snapshots : AllByRecursion LooksInRange p.snapshots
   snapshot : IfSome p.snapshot LooksInRange
 
-one_line : (c : Command) (a : Answer) (table : Option ℕ) → IsInRange c → AllByRecursion {X = Exchange} (λ e. IsInRange e.asked) (option_to_list (option_map (λ t. record { asked = c; answer = a }) table))
-one_line c a None range = tt
-one_line c a (Some t) range = (range, tt)
+one_line : (c : Command) (a : Answer) (works : Bool) → IsInRange c → AllByRecursion {X = Exchange} (λ e. IsInRange e.asked) (option_to_list (cond works (Some (record { asked = c; answer = a })) None))
+one_line c a false range = tt
+one_line c a true range = (range, tt)
 
 its_lines : (asked : Option Command) (a : Answer) → IfSome asked IsInRange → AllByRecursion {X = Exchange} (λ e. IsInRange e.asked) (option_to_list (exchange_of asked a))
 its_lines None a range = tt
-its_lines (Some c) a range = one_line c a (table_of c) range
+its_lines (Some c) a range = one_line c a (works_on_map c) range
 
 more_lines : (asked : Option Command) (a : Answer) (o : Option Transaction) → IfSome asked IsInRange → IfSome o AsksInRange → IfSome (option_map (with_line asked a) o) AsksInRange
 more_lines asked a None range fine = tt
@@ -213,6 +214,8 @@ one_step (command.Put table key value) a range = replied (op.Put table key value
 one_step (command.Del table key) a range = replied (op.Del table key) (reply_in a) tt
 one_step (command.Next table from) a range = replied (op.Next table from) (reply_in a) tt
 one_step (command.Scan table low high) a range = replied (op.Scan table low high) (reply_in a) tt
+one_step command.Save a range = replied op.Save (reply_in a) tt
+one_step (command.Back n) a range = replied (op.Back n) (reply_in a) tt
 one_step c a range = tt
 
 one_commit : (ending : Ending) (t : Transaction) → AsksInRange t → IfSome (committed_as ending t) (λ c. StepsInTables c.steps)
@@ -237,17 +240,24 @@ without : (b : Bool) (o : Option (List ℕ)) → o ≡ None → cond b None o �
 without true o none = refl
 without false o none = none
 
-after_op : (o : Op) (m : Database) → PutsInTables o → KeysAreInTables m → KeysAreInTables (after o m)
+after_op : (o : Op) (m : Database) → PutsInTables o → KeysAreInTables m → KeysAreInTables (change o m)
 after_op (op.Get table key) m is keys = keys
 after_op (op.Put table key value) m is keys = λ t k above.
     value_at-insert m table key value t k ∙ ap (λ b. cond (b && (k == key)) (Some value) (value_at m t k)) (ne_eqb t table (λ same. omega (arith, is, above, same))) ∙ keys t k above
 after_op (op.Del table key) m is keys = λ t k above. value_at-remove m table key t k ∙ without ((t == table) && (k == key)) (value_at m t k) (keys t k above)
 after_op (op.Next table from) m is keys = keys
 after_op (op.Scan table low high) m is keys = keys
+after_op op.Save m is keys = keys
+after_op (op.Back n) m is keys = keys
+
+-- and those that were saved
+all_steps : (steps : List Step) (s : Saving Database) → StepsInTables steps → AreAll KeysAreInTables s → AreAll KeysAreInTables (after_from (ops_of steps) s)
+all_steps [] s is keys = keys
+all_steps (step ∷ steps) s is keys =
+    all_steps steps (after step.op s) is.1 (all_after KeysAreInTables change step.op s (λ on now. after_op step.op s.now is.0 now) keys)
 
 after_steps : (steps : List Step) (m : Database) → StepsInTables steps → KeysAreInTables m → KeysAreInTables (after_all (ops_of steps) m)
-after_steps [] m is keys = keys
-after_steps (s ∷ steps) m is keys = after_steps steps (after s.op m) is.1 (after_op s.op m is.0 keys)
+after_steps steps m is keys = (all_steps steps (begins m) is (all_begins KeysAreInTables m keys)).now
 
 after_commits : (order : List Committed) (m : Database) → AllByRecursion (λ c. StepsInTables c.steps) order → KeysAreInTables m → KeysAreInTables (state_after order m)
 after_commits [] m is keys = keys

@@ -1,10 +1,12 @@
 -- What is kept of the sessions of a report, and the transactions and snapshots that it stands for.
 use Rattle.std.specs.Prelude.{◌≡◌, ℕ, ◌+◌, ◌<◌, ◌^◌, false, List, [], ◌∷◌, ◌++◌, length, map, Option, Some, None}
 use Rattle.std.specs.List.{filter_map, slice_get}
-use Rattle.std.specs.Option.{option_and_then, option_to_list}
+use Rattle.std.specs.Option.{option_and_then, option_map, option_to_list}
 use Rattle.erm_model.specs.Committed.{Committed}
+use Rattle.erm_model.specs.declared.operation.Op.{Op}
 use Rattle.erm_model.specs.Run.{Step}
 use Rattle.erm_report.specs.declared.answer.Answer.{Answer}
+use Rattle.erm_report.specs.declared.answer.Answer.TheVariants as answer
 use Rattle.erm_script.specs.declared.script.Command.{Command}
 use Rattle.erm_script.specs.declared.script.ScriptLine.{ScriptLine}
 use Rattle.erm_good_report.specs.Phases.{Closed}
@@ -18,6 +20,10 @@ use Rattle.erm_summary.specs.declared.told.ToldCommit.{ToldCommit}
 -- the step at a place of a script: its operation with the reply, where it got one
 abbrev pub step_at : List ScriptLine → List Answer → ℕ → Option Step
 step_at script answers place = option_and_then (λ l. option_and_then (λ a. step_of (record { asked = l.command; answer = a })) (slice_get answers place)) (slice_get script place)
+
+-- and its operation
+abbrev pub op_at : List ScriptLine → List Answer → ℕ → Option Op
+op_at script answers place = option_map (λ s. s.op) (step_at script answers place)
 
 -- the steps at some places
 abbrev pub steps_at : List ScriptLine → List Answer → List ℕ → List Step
@@ -51,6 +57,13 @@ closes_of closed = map (λ c. record { session = c.session; asked = None; answer
 abbrev pub IsAskedAt : List ScriptLine → List Answer → Option ℕ → Option Command → Answer → Type 0
 IsAskedAt script answers None asked a = asked ≡ None
 IsAskedAt script answers (Some place) asked a = (l : ScriptLine) × (slice_get script place ≡ Some l) × (slice_get answers place ≡ Some a) × (asked ≡ Some l.command)
+
+-- an answer is the reply to an operation
+abbrev pub IsReply : Answer → Type 0
+IsReply (answer.Replied r) = Unit {0}
+IsReply (answer.Saved held) = Unit {0}
+IsReply (answer.Back n) = Unit {0}
+IsReply a = ⊥
 
 -- what is kept of a transaction that has not ended
 pub record IsBegun (script : List ScriptLine) (answers : List Answer) (seat : ℕ) (t : Transaction) (b : Begun) : Type 0 where

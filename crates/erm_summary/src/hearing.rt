@@ -5,10 +5,8 @@ ghost use Rattle.erm_script.specs.declared.script.Command.{Command};
 ghost use Rattle.erm_script.specs.declared.script.ScriptLine.{ScriptLine};
 ghost use Rattle.erm_good_report.specs.Phases.{asks_safe};
 ghost use Rattle.erm_good_report.specs.Transactions.{Aborts, Progress, Commits, ended, goes_on, heard, own_snapshot, rank_stamp, with_end};
-ghost use Rattle.erm_report.specs.declared.answer.Answer.TheVariants as answer;
-ghost use Rattle.erm_model.specs.declared.operation.Reply.{Reply as ReplyTo};
 ghost use Rattle.std.specs.Option.{option_map};
-ghost use Rattle.erm_summary.specs.Told.{Follows, GotLine, GotLook, IsAskedAt, given_up, taken_in, told_safe};
+ghost use Rattle.erm_summary.specs.Told.{Follows, GotLine, GotLook, IsAskedAt, IsReply, given_up, taken_in, told_safe};
 
 use crate::ToldCommit;
 use erm_model::{Seat, Stamp};
@@ -89,7 +87,7 @@ impl Session {
                 Ok(())
             }
             Answer::Ended => self.end_watch(),
-            Answer::Replied(_) => self.reply(place),
+            Answer::Replied(_) | Answer::Saved { .. } | Answer::Back { .. } => self.reply(place),
             Answer::Committed { stamp, succ, pred } => self.commit(*stamp, *succ, *pred),
             Answer::Excluded { .. }
             | Answer::ExcludedEarly { .. }
@@ -127,9 +125,9 @@ impl Session {
 
     // A line got a reply: it is one of the transaction's, and of the snapshot's.
     fn reply(&mut self, place: Option<usize>) -> Result<(), AllocError>
-        ensures follows { OnOk result ((script : List ScriptLine) (answers : List Answered) (asked : Option Command) (r : ReplyTo) (p : Progress)
-            → IsAskedAt script answers place asked (answer.Replied r) → Follows script answers p self.old
-            → Follows script answers (goes_on asked (answer.Replied r) p) self.new) }
+        ensures follows { OnOk result ((script : List ScriptLine) (answers : List Answered) (asked : Option Command) (a : Answered) (p : Progress)
+            → IsReply a → IsAskedAt script answers place asked a → Follows script answers p self.old
+            → Follows script answers (goes_on asked a p) self.new) }
         ensures seat { OnOk result (self.new.seat ≡ self.old.seat) }
         ensures counts { OnOk result (taken_in self.new ≡ taken_in self.old) }
     {

@@ -1,22 +1,22 @@
 use Rattle.std.proofs.Common.{◌∙◌, subst, sym, arith, Some}
 use Rattle.std.proofs.lemmas.Result.{on_ok_weaker}
-use Rattle.erm_good_report.specs.Transactions.{Aborts, ended, heard, own_snapshot}
-use Rattle.erm_report.specs.declared.answer.Answer.TheVariants as answer
-use Rattle.erm_summary.specs.Told.{Follows, IsAskedAt}
-use Rattle.erm_summary.proofs.Sessions.{heard_quietly, heard_aside, heard_unsafe, heard_waits, EndsAside}
+use Rattle.erm_good_report.specs.Transactions.{Aborts, Progress, ended, heard, own_snapshot}
+use Rattle.erm_summary.specs.Told.{Follows, IsReply}
+use Rattle.erm_summary.proofs.Sessions.{heard_quietly, heard_aside, heard_unsafe, heard_waits, replied_heard, EndsAside}
 use Rattle.erm_summary.proofs.hearing.Session.hear.Goals as goal
 
 pub returns-in_default-clause-follows : goal.returns-in_default-clause-follows
 returns-in_default-clause-follows c script answers asked p is asks f =
     let d = c.in_default in
     heard_quietly script answers c.args.answer.now asked p c.args.self.now d.not-Began d.not-Replied d.not-Committed d.not-Excluded d.not-Aborted d.not-Owned d.not-Newer d.not-ExcludedEarly
-    d.not-Safe d.not-WaitSeat d.not-Unsafe d.not-Ended f
+    d.not-Safe d.not-WaitSeat d.not-Unsafe d.not-Ended d.not-Saved d.not-Back f
 
 pub returns-in-Replied-clause-follows : goal.returns-in-Replied-clause-follows
 returns-in-Replied-clause-follows c =
+    let reply : IsReply c.args.answer.now = let h = c.in-Replied.is in grind arith in
     on_ok_weaker c.reply.result (λ told script answers asked p is asks f.
-    subst (λ a. Follows script answers (heard c.args.self.now.seat asked a p) c.reply.new.self) (sym c.in-Replied.is)
-    (told script answers asked c.in-Replied.field-0 p (subst (IsAskedAt script answers c.args.place asked) c.in-Replied.is is) f)) c.reply.ensures.follows
+    subst (λ (q : Progress). Follows script answers q c.reply.new.self) (sym (replied_heard c.args.self.now.seat asked c.args.answer.now p reply))
+    (told script answers asked c.args.answer.now p reply is f)) c.reply.ensures.follows
 
 pub returns-in-Excluded-clause-follows : goal.returns-in-Excluded-clause-follows
 returns-in-Excluded-clause-follows c script answers asked p is asks f =
