@@ -1,6 +1,6 @@
 -- A transaction that went back to a savepoint: it may have begun on rows on which it may have begun before, and with the claims that it had at the
 -- savepoint; it sees what it saw there; and it has claimed what it had.
-use Rattle.std.proofs.Common.{◌≡◌, ℕ, ◌==◌, Bool, ◌||◌, List, [], ◌∷◌, ◌++◌, Some, append-nil, map, refl, sym, ap, ◌∙◌, subst}
+use Rattle.std.proofs.Common.{◌≡◌, ℕ, ◌==◌, Bool, ◌||◌, List, [], ◌∷◌, Some, append-nil, map, refl, sym, ap, ◌∙◌, subst}
 use Rattle.std.specs.List.{list_any, slice_get}
 use Rattle.erm_model.specs.declared.history.VersionWritten.{VersionWritten}
 use Rattle.erm_model.specs.Rows.{Rows}
