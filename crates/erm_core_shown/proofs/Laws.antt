@@ -12,7 +12,7 @@ use Rattle.erm_machine.specs.declared.attempt.Attempt.{Attempt}
 use Rattle.erm_machine.specs.declared.attempt.Claim.{Claim}
 use Rattle.erm_machine.specs.declared.limits.TheConstants.{FLUSH_SEAT}
 use Rattle.erm_machine.specs.declared.place.Place.{Place}
-use Rattle.erm_machine.specs.declared.place.Place.TheVariants.{Active, Decided, Leaving}
+use Rattle.erm_machine.specs.declared.place.Place.TheVariants.{Active, Decided, Drawn, Leaving, Sealed, Sealing}
 use Rattle.erm_machine.specs.declared.task.Task.{Task}
 use Rattle.erm_machine.specs.declared.task.Task.TheVariants as task
 use Rattle.erm_machine.specs.Core.{Core, blank}
@@ -27,13 +27,16 @@ use Rattle.erm_machine.proofs.Holders.{held_once, holds_from, stands_at}
 use Rattle.erm_machine.proofs.Listed.{∈-map}
 use Rattle.erm_sound.specs.Kept.{SoundUnder}
 use Rattle.erm_world.specs.Laws.{IsLawfulWork, IsNumbered, IsSerializable, SeesSnapshot}
+use Rattle.erm_world.specs.Saves.{OnceOf}
 use Rattle.erm_world.specs.World.{Finished, Has, HasStamp, IsSession, Work, work_at}
 use Rattle.erm_world.specs.World as world
+use Rattle.erm_world.proofs.Restored.{AreSavesOf-none}
 use Rattle.erm_core_view.specs.Views.{fate_of, finished_of, work_of}
 use Rattle.erm_core_view.proofs.Lives.{lawful_work, one_attempt}
+use Rattle.erm_core_view.proofs.Onces as onces
 use Rattle.erm_core_view.proofs.Serial.{SawSnapshots}
 use Rattle.erm_core_view.proofs.Snapshots.{snapshots_new}
-use Rattle.erm_core_shown.specs.Shown.{HasOnly, ended_as, over_now, shown_of, shown_session}
+use Rattle.erm_core_shown.specs.Shown.{HasOnly, ended_as, over_now, shown_of, shown_session, shown_stand}
 use Rattle.erm_core_shown.proofs.Made.{shown_new, shown_once}
 use Rattle.erm_core_shown.proofs.Parts.{claim_of, current_shown, has_shown, has_stamp, none_over}
 
@@ -189,6 +192,18 @@ module _ (sessions : ℕ) (c : Core) (sound : Sound c) (only : HasOnly sessions 
 plain_seat : (sessions : ℕ) (c : Core) (seat : ℕ) → HasOnly sessions c → IsSession (shown_of sessions c) seat → is_flusher seat ≡ false
 plain_seat sessions c seat only is_session = let few = only.few in let within = is_session.1 in ne_eqb seat FLUSH_SEAT (λ (at : seat ≡ FLUSH_SEAT). omega (arith, at, few, within))
 
+-- its transaction in progress has claimed each object once
+stand_once : (pl : Place) (u : Task) (t : Attempt) → OnceOf (map written_of t.writes) → OnceOf (world.work_of (shown_stand pl u t)).claims
+stand_once (Active tail) (task.Ends raised ended step cleared) t once = λ i j c d at. absurd (cc)
+stand_once (Active tail) u t once = onces.shown_once u t once
+stand_once (Sealing tail) u t once = once
+stand_once (Drawn tail stamp) u t once = once
+stand_once (Sealed tail stamp) u t once = once
+stand_once _ u t once = λ i j c d at. absurd (cc)
+
+pub works_shown_once : (sessions : ℕ) (c : Core) → Sound c → (seat : ℕ) → OnceOf (work_at (shown_of sessions c) seat).claims
+works_shown_once sessions c sound seat = stand_once (c.seats seat).place (c.seats seat).task (c.seats seat).current (onces.claims_once c sound seat)
+
 -- every law of a world, of what a sound state shows
 pub serializable_shown : (law : Law) (sessions : ℕ) (c : Core) → SoundUnder law c → HasOnly sessions c
     → world.history_of (shown_of sessions c) ≡ machine.history_of c.seats → IsCertified (machine.history_of c.seats)
@@ -210,6 +225,9 @@ serializable_shown law sessions c under only same certified snapshots saw =
       differ = λ p q w u stamp _ _ has also. differ_shown sessions c sound only p q w u stamp has also;
       numbered = λ seat is_session. numbered_shown sessions c sound only seat (plain_seat sessions c seat only is_session);
       apart = λ p q d e _ _ other m n. apart_shown sessions c sound only p q d e other m n;
+      once = λ seat _. works_shown_once sessions c sound seat;
+      saves = λ seat w _ _. AreSavesOf-none w;
+      few_saves = λ seat _ _. omega arith;
       opening_meets = under.lawful.opening;
       opening_reach = λ x above. under.lawful.below x above;
       lawful = λ seat w stamp _ has. lawful_shown sessions c sound only law under.lawful seat w stamp has;

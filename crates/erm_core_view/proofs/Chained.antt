@@ -16,7 +16,7 @@ use Rattle.erm_machine.specs.Lawful.{opening_rows}
 use Rattle.erm_machine.specs.Step.{after_event, core_step, is_known, moved, part_after, run_from, shared_after, step_to, told}
 use Rattle.erm_machine.specs.Words.{put}
 use Rattle.erm_machine.proofs.Frames.{put_other, put_same}
-use Rattle.erm_world.specs.Calls.{Becomes}
+use Rattle.erm_world.specs.Calls.{Becomes, KeepsSaves}
 use Rattle.erm_world.specs.World.{GivenUp, Opening, Session, View, phase_of}
 use Rattle.erm_world.proofs.Saves.{becomes_then, without}
 use Rattle.erm_core_view.specs.Steps.{MeetsOne}
@@ -73,6 +73,10 @@ alone_pins sessions seat c y d alone pin =
     (λ (other : seat ≡ FLUSH_SEAT → ⊥). ap (λ (x : Part). pin_of x.place x.current) (alone.others FLUSH_SEAT (λ same. other (sym same))))
     (cases_eq seat FLUSH_SEAT)
 
+-- the view of a state tells no savepoints
+pub unsaved : (sessions seat : ℕ) (c d : Core) (s : Session) → KeepsSaves (view_of sessions c) seat s (view_of sessions d)
+unsaved sessions seat c d s = record { own = without s.stand (session_of (c.seats seat)).stand; others = λ q other. refl }
+
 pub alone_shows : (sessions seat : ℕ) (c : Core) (y : Part) (d : Core) (s : Session) → Alone seat c y d
     → (seat ≡ FLUSH_SEAT → pin_of y.place y.current ≡ pin_of (c.seats seat).place (c.seats seat).current) → session_of y ≡ s → Becomes (view_of sessions c) seat s (view_of sessions d)
 alone_shows sessions seat c y d s alone pin is = record {
@@ -83,7 +87,7 @@ alone_shows sessions seat c y d s alone pin is = record {
   flushed = ap (λ (shared : Shared). shared.flushed) alone.shared;
   pinned = alone_pins sessions seat c y d alone pin;
   given_up = refl;
-  saves = record { own = without s.stand (session_of (c.seats seat)).stand; others = λ q other. refl };
+  saves = unsaved sessions seat c d s;
 }
   where
     opening_from : ℕ → Shared → Opening

@@ -28,10 +28,9 @@ use Rattle.erm_machine.specs.Words.{is_flusher, put}
 use Rattle.erm_machine.proofs.Frames.{put_same}
 use Rattle.erm_machine.proofs.Objects.{extends}
 use Rattle.erm_world.specs.Calls.{Becomes}
-use Rattle.erm_world.proofs.Saves.{without}
 use Rattle.erm_core_view.specs.Steps.{IsEnding, clear_steps, release_steps}
 use Rattle.erm_core_view.specs.Views.{session_of, view_of}
-use Rattle.erm_core_view.proofs.Chained.{becomes_same, goes, taken}
+use Rattle.erm_core_view.proofs.Chained.{becomes_same, goes, taken, unsaved}
 use Rattle.erm_core_view.proofs.Moved.{calm_shows, end_shows, one_becomes}
 use Rattle.erm_core_view.proofs.Parts.{current_stands}
 use Rattle.erm_core_view.proofs.Snapshots.{IsNewSnapshot, reads_plain, snapshots_new, writes_plain}
@@ -121,7 +120,7 @@ module _ (sessions seat : ℕ) (c : Core) (sound : Sound c) (session : is_flushe
 
   pub nothing_ended : end_of (c.seats seat).task ≡ Some (0, 0, 0, 0) → Ending 0 0 c
   nothing_ended may = record {
-    shows = record { own = refl; others = λ q other. refl; opening = refl; tail = refl; flushed = refl; pinned = refl; given_up = refl; saves = record { own = without (session_of (c.seats seat)).stand (session_of (c.seats seat)).stand; others = λ q other. refl } };
+    shows = record { own = refl; others = λ q other. refl; opening = refl; tail = refl; flushed = refl; pinned = refl; given_up = refl; saves = unsaved sessions seat c c (session_of (c.seats seat)) };
     place = refl;
     task = may;
     new = snapshots_new c seat sound;

@@ -20,10 +20,10 @@ use Rattle.erm_machine.proofs.QuietKinds.{Moves, moves}
 use Rattle.erm_machine.proofs.QuietKinds as quiet
 use Rattle.erm_world.specs.Calls.{Becomes}
 use Rattle.erm_world.specs.World.{Session}
-use Rattle.erm_world.proofs.Saves.{without}
 use Rattle.erm_core_view.specs.Steps.{ChangesOne, IsCalm, IsEnding, MeetsOne, drawn_by, flushed_by}
 use Rattle.erm_core_view.specs.Views.{pin_of, session_of, view_of}
 use Rattle.erm_core_view.proofs.Calm.{calm_kind, install_same}
+use Rattle.erm_core_view.proofs.Chained.{unsaved}
 
 -- kinds that meet one word
 pub meets_one : (k : Kind) → MeetsOne k → quiet.MeetsOne k
@@ -135,5 +135,5 @@ one_becomes sessions p c d k s plain has one none still e shows =
       flushed = changes.flushed ∙ still;
       pinned = changes.pinned (eqb-false p FLUSH_SEAT plain);
       given_up = refl;
-      saves = record { own = without s.stand (session_of (c.seats p)).stand; others = λ q other. refl };
+      saves = unsaved sessions p c d s;
     }

@@ -50,7 +50,7 @@ apart_once ws apart i j c d at_i at_j same =
     (cases_eq i j)
 
 -- what a seat shows
-shown_once : (u : Task) (t : Attempt) → OnceOf (map written_of t.writes) → OnceOf (world.work_of (shown_by u t)).claims
+pub shown_once : (u : Task) (t : Attempt) → OnceOf (map written_of t.writes) → OnceOf (world.work_of (shown_by u t)).claims
 shown_once u t once =
     either_way (λ (stand : Stand). OnceOf (world.work_of stand).claims) (is_snapshot u) _ _ (λ _ i j c d at. absurd (cc)) (λ _. once)
 
@@ -59,7 +59,10 @@ stand_once (Active tail) u t once = shown_once u t once
 stand_once (Sealed tail stamp) u t once = once
 stand_once _ u t once = λ i j c d at. absurd (cc)
 
+pub claims_once : (c : Core) → Sound c → (seat : ℕ) → OnceOf (map written_of (c.seats seat).current.writes)
+claims_once c sound seat = apart_once (c.seats seat).current.writes (sound.own seat).claims.once
+
 pub works_once : (sessions : ℕ) (c : Core) → Sound c → (seat : ℕ) → OnceOf (work_at (view_of sessions c) seat).claims
 works_once sessions c sound seat =
     let x = c.seats seat in
-    stand_once x.place x.task x.current (apart_once x.current.writes (sound.own seat).claims.once)
+    stand_once x.place x.task x.current (claims_once c sound seat)
