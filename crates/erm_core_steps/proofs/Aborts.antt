@@ -215,6 +215,7 @@ abort_shows sessions seat claims reads c d sound at e =
       flushed = change.flushed;
       pinned = change.pinned (no_flusher seat at.session);
       given_up = refl;
+      saves = record { own = tt; others = λ q other. refl };
     }
 
 -- the end of an active transaction that may start a call

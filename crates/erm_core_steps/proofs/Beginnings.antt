@@ -23,6 +23,7 @@ use Rattle.erm_machine.specs.Step.{after_event}
 use Rattle.erm_machine.specs.Words.{is_flusher, is_session, refuses}
 use Rattle.erm_core_calls.proofs.Moving.{met, stepped, taken}
 use Rattle.erm_core_view.specs.Views.{IsBetween, IsQuiet, finished_of, session_of, stand_of, view_of, work_of}
+use Rattle.erm_core_view.proofs.Chained.{unsaved}
 use Rattle.erm_core_view.proofs.Moved.{changes_one}
 use Rattle.erm_core_view.proofs.Snapshots.{shown_not_idle}
 use Rattle.erm_world.specs.Calls.{DidBegin}
@@ -236,6 +237,7 @@ begin_done sessions seat b c d e sound_b sound_c sound_d quiet session at less l
           flushed = flushed;
           pinned = (let other = no_flusher seat at.session in three.pinned other ∙ two.pinned other ∙ one.pinned other);
           given_up = refl;
+          saves = unsaved sessions seat b e (made (map finished_of (b.seats seat).over) (length (map finished_of (b.seats seat).over) + 1));
         },
       ),
     )

@@ -24,10 +24,11 @@ use Rattle.erm_machine.specs.Sound.{Sound}
 use Rattle.erm_machine.proofs.Holders.{holds_from, stands_at}
 use Rattle.erm_machine.proofs.Listed.{∈-filter, ∈-map, ∈-map_from}
 use Rattle.erm_model.proofs.Members.{∈-behind}
-use Rattle.erm_world.specs.Calls.{DidAbort, IsAhead, IsClearOf, IsDone, IsShut, Works}
+use Rattle.erm_world.specs.Calls.{Becomes, DidAbort, IsAhead, IsClearOf, IsDone, IsShut, Works}
 use Rattle.erm_world.specs.World.{Finished, IsSession, Opening, Session, View, Work, history_of, history_upto, work_at}
 use Rattle.erm_world.specs.World as world
 use Rattle.erm_world.specs.Works.{is_claimed}
+use Rattle.erm_world.proofs.Saves.{becomes_then}
 use Rattle.erm_core_view.specs.Views.{IsBetween, IsQuiet, stand_of, view_of, work_of}
 use Rattle.erm_core_view.proofs.Commits.{has_the_history}
 use Rattle.erm_core_view.proofs.Shown.{work_active}
@@ -256,15 +257,9 @@ pub done_before : (v t u : View) (seat : ℕ) (w : Work) → Works v seat w t �
 done_before v t u seat w works done =
     let over : (t.session seat).over ≡ (v.session seat).over = ap (λ (s : Session). s.over) works.own in
     let ended : List Finished → Work → Session = λ fs x. record { over = fs ++ record { work = x; fate = world.aborts } ∷ []; stand = world.idle } in
-    record {
-      own = done.own ∙ ap (λ (fs : List Finished). ended fs (work_at t seat)) over ∙ ap (λ (x : Work). ended (v.session seat).over x) (works_work v t seat w works);
-      others = λ q other. done.others q other ∙ works.others q other;
-      opening = done.opening ∙ works.opening;
-      tail = done.tail ∙ works.tail;
-      flushed = done.flushed ∙ works.flushed;
-      pinned = done.pinned ∙ works.pinned;
-      given_up = done.given_up ∙ works.given_up;
-    }
+    becomes_then v seat (record { over = (v.session seat).over; stand = world.active w }) t (ended (v.session seat).over w) u (λ active. absurd (cc active)) works
+    (subst (λ (s : Session). Becomes t seat s u)
+    (ap (λ (fs : List Finished). ended fs (work_at t seat)) over ∙ ap (λ (x : Work). ended (v.session seat).over x) (works_work v t seat w works)) done)
 
 pub works_phase : (v t : View) (seat : ℕ) (w : Work) → Works v seat w t → (t.session seat).stand ≡ world.active w
 works_phase v t seat w works = ap (λ (s : Session). s.stand) works.own

@@ -31,6 +31,7 @@ use Rattle.erm_world.specs.Snapshots.{snapshot_not_active}
 use Rattle.erm_world.specs.World.{Finished, IsSession, Session, Stand, View, Work, phase_of, work_at}
 use Rattle.erm_world.specs.World as world
 use Rattle.erm_world.specs.Works.{claiming}
+use Rattle.erm_world.proofs.Saves.{works_keeps, works_then}
 use Rattle.erm_core_calls.proofs.Moving.{met, stepped, taken}
 use Rattle.erm_core_view.specs.Views.{IsQuiet, finished_of, view_of, work_of}
 use Rattle.erm_core_view.proofs.Moved.{one_becomes}
@@ -272,6 +273,11 @@ dropped_same v between t seat c active works dropped =
     (λ (there : q ≡ seat → ⊥). dropped.others q there ∙ works.others q there)
     (cases_eq q seat)))
     (dropped.tail ∙ works.tail) (dropped.flushed ∙ works.flushed) (dropped.pinned ∙ works.pinned) (dropped.given_up ∙ works.given_up)
+    (fun_ext (λ q.
+    ⊎_elim
+    (λ (here : q ≡ seat). subst (λ n. t.saves n ≡ v.saves n) (sym here) (works_keeps v t seat _ active (works_then v between t seat _ _ works dropped)))
+    (λ (there : q ≡ seat → ⊥). dropped.saves.others q there ∙ works.saves.others q there)
+    (cases_eq q seat)))
 
 -- AFTER a claim the session is between calls.
 pub quiet_claimed : (sessions seat oid : ℕ) (b c d : Core) → IsQuiet sessions b → IsSession (view_of sessions b) seat → HasExchanged sessions seat oid b c

@@ -39,6 +39,7 @@ use Rattle.erm_core_calls.proofs.GoesClaims.{g_copies, g_draws, g_fetched, g_poo
 use Rattle.erm_core_calls.proofs.Moving.{below_way, branch}
 use Rattle.erm_core_view.specs.Steps.{IsCalm, MeetsOne, drawn_by, flushed_by}
 use Rattle.erm_core_view.specs.Views.{session_of, view_of, work_of}
+use Rattle.erm_core_view.proofs.Chained.{unsaved}
 use Rattle.erm_core_view.proofs.Moved.{calm_shows, changes_one}
 use Rattle.erm_core_view.proofs.Shown.{shows_work, work_active}
 use Rattle.erm_core_view.proofs.Words.{copy_shows}
@@ -369,6 +370,7 @@ drop_shows sessions seat oid head b c d sound goes refused e =
       flushed = change.flushed;
       pinned = change.pinned (no_flusher seat goes.at.session);
       given_up = refl;
+      saves = unsaved sessions seat c d (record { over = (session_of x).over; stand = world.active (without_last (work_at (view_of sessions c) seat)) });
     }
     in
     record {

@@ -1,4 +1,5 @@
 pub mod Aborts
+pub mod Backs
 pub mod Beginnings
 pub mod Deciding
 pub mod Early

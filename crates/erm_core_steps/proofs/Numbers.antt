@@ -17,6 +17,7 @@ use Rattle.erm_machine.specs.Step.{after_event}
 use Rattle.erm_machine.proofs.Guards.{either_way}
 use Rattle.erm_core_calls.proofs.Moving.{met, stepped, taken}
 use Rattle.erm_core_view.specs.Views.{IsQuiet, session_of, stand_of, view_of, work_of}
+use Rattle.erm_core_view.proofs.Chained.{unsaved}
 use Rattle.erm_core_view.proofs.Moved.{calm_shows, changes_one}
 use Rattle.erm_core_view.proofs.Shown.{work_active}
 use Rattle.erm_core_view.proofs.Snapshots.{starts_new}
@@ -128,6 +129,7 @@ number_made sessions seat b c d sound session at less e shows =
       flushed = change.flushed;
       pinned = change.pinned (no_flusher seat at.active.session);
       given_up = refl;
+      saves = unsaved sessions seat c d (made b.shared.objects_drawn (world.work_of (stand_of (c.seats seat).place (c.seats seat).task (c.seats seat).current)));
     } in (
       quiet_after sessions seat c d at.quiet session (others_stay c d seat k tt e) opening (active_between (d.seats seat).place (d.seats seat).task active starts)
           (λ some. absurd (omega (arith, some, stamp))) (omega (arith, opening, flushed, low), omega (arith, tail, flushed, high)),

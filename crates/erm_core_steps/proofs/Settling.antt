@@ -299,6 +299,7 @@ module _ (sessions seat : ℕ) (a : Core) (m : MaySettle sessions seat a) where
         flushed = left.only.flushed ∙ decided.only.flushed;
         pinned = ap (λ (z : Part). pin_of z.place z.current) (others FLUSH_SEAT (λ same. no_flusher seat is_one (sym same)));
         given_up = refl;
+        saves = record { own = tt; others = λ q other. refl };
       }
 
       undecided_not : (opened : Bool) → ltb t.pred t.succ ≡ opened → u.decision ≢ Undecided

@@ -183,6 +183,7 @@ seal_done sessions seat size b c d e sound_b sound_c sound_d quiet session activ
         flushed = flushed;
         pinned = (let other = no_flusher seat active.session in three.pinned other ∙ two.pinned other ∙ one.pinned other);
         given_up = refl;
+        saves = λ q other. refl;
       },
     )
   where

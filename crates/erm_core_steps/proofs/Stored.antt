@@ -24,6 +24,7 @@ use Rattle.erm_world.specs.Calls.{DidClaim, Works, before, now}
 use Rattle.erm_world.specs.World.{Finished, IsSession, Session, View, Work, phase_at, work_at}
 use Rattle.erm_world.specs.World as world
 use Rattle.erm_world.specs.Works.{claiming, is_claimed, setting}
+use Rattle.erm_world.proofs.Saves.{works_then}
 use Rattle.erm_core_calls.specs.Going.{own_at}
 use Rattle.erm_core_calls.proofs.GoesClaims.{claim_cell}
 use Rattle.erm_core_view.specs.Steps.{MayWrite, stores_from}
@@ -157,16 +158,7 @@ claim_claims v t seat oid (now stamp base none few free current works) =
 pub claim_then_set : (v between t : View) (seat oid : ℕ) (w : Work) → DidClaim v seat oid between → Works between seat w t → Works v seat w t
 claim_then_set v between t seat oid w (before same claimed) set_it = subst (λ (u : View). Works u seat w t) same set_it
 claim_then_set v between t seat oid w (now stamp base none few free current works) set_it =
-    let over : (between.session seat).over ≡ (v.session seat).over = ap (λ (s : Session). s.over) works.own in
-    record {
-      own = set_it.own ∙ ap (λ (fs : List Finished). let s : Session = record { over = fs; stand = world.active w } in s) over;
-      others = λ q other. set_it.others q other ∙ works.others q other;
-      opening = set_it.opening ∙ works.opening;
-      tail = set_it.tail ∙ works.tail;
-      flushed = set_it.flushed ∙ works.flushed;
-      pinned = set_it.pinned ∙ works.pinned;
-      given_up = set_it.given_up ∙ works.given_up;
-    }
+    works_then v between t seat (claiming (record { oid = oid; stamp = stamp; base = base; row = base; is_set = false }) (work_at v seat)) w works set_it
 
 -- AFTER ALL WORDS the session is between calls.
 pub quiet_stored : (sessions seat place cell : ℕ) (row : List ℕ) (b d : Core) → Sound b → Sound d → IsQuiet sessions b → IsSession (view_of sessions b) seat

@@ -3,6 +3,7 @@ use Rattle.std.proofs.Common.{◌≡◌, ◌≢◌, ℕ, ⊎_elim, List, Option,
 use Rattle.std.proofs.Math.Path.{fun_ext}
 use Rattle.std.proofs.lemmas.Bool.{cases_eq}
 use Rattle.std.specs.Prelude.{if◌then◌else◌}
+use Rattle.erm_model.specs.declared.history.VersionWritten.{VersionWritten}
 use Rattle.erm_machine.specs.declared.attempt.Attempt.{Attempt}
 use Rattle.erm_machine.specs.declared.event.Kind.{Kind}
 use Rattle.erm_machine.specs.declared.limits.TheConstants.{FLUSH_SEAT}
@@ -30,12 +31,14 @@ others_stay c d seat k one e q other =
     let m = moves c seat k d (meets_one k one) e in
     ap (λ (to : Core). to.seats q) m.is ∙ put_other c.seats seat m.part q other
 
-pub same_view : (u v : View) → v.opening ≡ u.opening → v.session ≡ u.session → v.tail ≡ u.tail → v.flushed ≡ u.flushed → v.pinned ≡ u.pinned → v.given_up ≡ u.given_up → v ≡ u
-same_view u v opening session tail flushed pinned given =
-    let made : Opening → (ℕ → Session) → ℕ → ℕ → Option ℕ → View = λ o s t f p. record { opening = o; session = s; tail = t; flushed = f; pinned = p; given_up = v.given_up } in
+pub same_view : (u v : View) → v.opening ≡ u.opening → v.session ≡ u.session → v.tail ≡ u.tail → v.flushed ≡ u.flushed → v.pinned ≡ u.pinned → v.given_up ≡ u.given_up
+    → v.saves ≡ u.saves → v ≡ u
+same_view u v opening session tail flushed pinned given saves =
+    let made : Opening → (ℕ → Session) → ℕ → ℕ → Option ℕ → View = λ o s t f p. record { opening = o; session = s; tail = t; flushed = f; pinned = p; given_up = v.given_up; saves = v.saves } in
     ap (λ (o : Opening). made o v.session v.tail v.flushed v.pinned) opening ∙ ap (λ (s : ℕ → Session). made u.opening s v.tail v.flushed v.pinned) session
     ∙ ap (λ (t : ℕ). made u.opening u.session t v.flushed v.pinned) tail ∙ ap (λ (f : ℕ). made u.opening u.session u.tail f v.pinned) flushed
-    ∙ ap (λ (p : Option ℕ). made u.opening u.session u.tail u.flushed p) pinned ∙ ap (λ (g : ℕ → List GivenUp). let w : View = record u { given_up = g } in w) given
+    ∙ ap (λ (p : Option ℕ). made u.opening u.session u.tail u.flushed p) pinned ∙ ap (λ (g : ℕ → List GivenUp). let w : View = record u { given_up = g; saves = v.saves } in w) given
+    ∙ ap (λ (held : ℕ → List (List VersionWritten)). let w : View = record u { saves = held } in w) saves
 
 -- a seat's pin is told by what its session shows
 abbrev pin_from : Stand → Option ℕ
@@ -72,7 +75,7 @@ unseen_step sessions seat c d k sound one none same e own =
     let pinned : (view_of sessions d).pinned ≡ (view_of sessions c).pinned =
     pin (d.seats FLUSH_SEAT) ∙ ap (λ (f : ℕ → Session). pin_from (f FLUSH_SEAT).stand) session ∙ sym (pin (c.seats FLUSH_SEAT))
     in
-    record { others = others; view = same_view (view_of sessions c) (view_of sessions d) opening session tail flushed pinned refl }
+    record { others = others; view = same_view (view_of sessions c) (view_of sessions d) opening session tail flushed pinned refl refl }
 
 pub unseen_none : (sessions seat : ℕ) (c : Core) → IsUnseen sessions seat c c
 unseen_none sessions seat c = record { others = λ q other. refl; view = refl }
