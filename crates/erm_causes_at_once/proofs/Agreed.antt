@@ -259,7 +259,7 @@ module _ (runs : NoneRuns) (stay : (w u : Work) (steps : List Step) → Extends 
       let says = said_lines script answers in
       let there : HasSnapshot (said_in moves) session s = subst (λ (list : List Said). HasSnapshot list session s) (sym says) has in
       let kept = kept_by f runs stay session moves v parts.0 parts.1 first begin s there is in
-      let tells = (knows_own runs stay f session moves nothing Idle v parts.0 parts.1 first).tells in
+      let tells = (knows_own runs stay f session moves nothing Idle v parts.0 parts.1 first).told.tells in
       let above = begin_above runs stay f parts.0 (run.own session own).last session run.ends.serializable (still_session v f session run.opening own) (map close_of closed) parts.2 (run.own session own).ends
       (progress_of session (said_in moves)) tells s begin there is in
       subst (λ (o : world.Opening). IsRepliedSafely (history_of (transactions_of o.sessions (places_of script answers closed))) opening.map s begin) run.opening

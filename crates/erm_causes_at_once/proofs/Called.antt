@@ -12,6 +12,7 @@ use Rattle.erm_report.specs.declared.answer.Answer.TheVariants as answer
 use Rattle.erm_script.specs.declared.script.Command.{Command}
 use Rattle.erm_world.specs.Calls.{IsDone, IsShut}
 use Rattle.erm_world.specs.Going.{Extends}
+use Rattle.erm_world.specs.Onward.{extends_then}
 use Rattle.erm_world.specs.Works.{claiming, reading}
 use Rattle.erm_world.specs.World.{Finished, Session, View, Work, made_in, phase_at, phase_of, work_at, work_of}
 use Rattle.erm_world.specs.World as world
@@ -21,6 +22,7 @@ use Rattle.erm_beside.specs.Calls.{After, Passes, RefusedBeside}
 use Rattle.erm_beside.specs.Ends.{Aborted, MetBeside}
 use Rattle.erm_beside.proofs.Txns.{stopped_after}
 use Rattle.erm_lines_at_once.specs.Operations.{Beside, DidOnce, DidOperationBeside, WasTried, WereCutBeside, told_at_once}
+use Rattle.erm_told.proofs.Going.{extends_itself}
 use Rattle.erm_causes.proofs.Answered.{last_made}
 use Rattle.erm_causes.proofs.Made.{made_over}
 use Rattle.erm_causes.proofs.Operated.{EndsBy, GoesOnBy, Last, ShutAs, claimed, read, same_work}
@@ -41,29 +43,31 @@ gone_beside seat events v t active beside =
     subst (λ (s : Session). Gone events s (t.session seat)) beside.starts (subst (λ (s : Session). Gone events (beside.from.session seat) s) (sym beside.stops) first)
 
 -- it is active, its transaction the same, and has made what it had
-pub record Kept (s t : Session) : Type 0 where
+pub record KeptOn (s t : Session) : Type 0 where
   pub phase : phase_of t.stand ≡ Active
   pub over : t.over ≡ s.over
   pub number : (work_of t.stand).number ≡ (work_of s.stand).number
   pub begin : (work_of t.stand).begin ≡ (work_of s.stand).begin
+  pub more : Extends (work_of s.stand) (work_of t.stand)
   pub made : (x : ℕ) → times_made (work_of s.stand).made x ≤ times_made (work_of t.stand).made x
 
-pub kept_gone : (events : List Event) (s t : Session) → Gone events s t → Kept s t
-kept_gone events s t gone = record { phase = ap phase_of gone.stand; over = gone.over; number = gone.more.number; begin = gone.begin; made = λ x. omega (arith, gone.moves.made x) }
+pub kept_gone : (events : List Event) (s t : Session) → Gone events s t → KeptOn s t
+kept_gone events s t gone = record { phase = ap phase_of gone.stand; over = gone.over; number = gone.more.number; begin = gone.begin; more = gone.more; made = λ x. omega (arith, gone.moves.made x) }
 
-pub kept_same : (s t : Session) → phase_of s.stand ≡ Active → t ≡ s → Kept s t
-kept_same s t active is = subst (λ (r : Session). Kept s r) (sym is) (record { phase = active; over = refl; number = refl; begin = refl; made = λ x. omega arith })
+pub kept_same : (s t : Session) → phase_of s.stand ≡ Active → t ≡ s → KeptOn s t
+kept_same s t active is = subst (λ (r : Session). KeptOn s r) (sym is) (record { phase = active; over = refl; number = refl; begin = refl; more = extends_itself (work_of s.stand); made = λ x. omega arith })
 
-pub kept_then : (s r t : Session) → Kept s r → Kept r t → Kept s t
+pub kept_then : (s r t : Session) → KeptOn s r → KeptOn r t → KeptOn s t
 kept_then s r t first second = record {
   phase = second.phase;
   over = second.over ∙ first.over;
   number = second.number ∙ first.number;
   begin = second.begin ∙ first.begin;
+  more = extends_then (work_of s.stand) (work_of r.stand) (work_of t.stand) first.more second.more;
   made = λ x. le_trans (first.made x) (second.made x);
 }
 
-pub kept_made : (s t : Session) → Kept s t → (x : ℕ) → made_in s x ≤ made_in t x
+pub kept_made : (s t : Session) → KeptOn s t → (x : ℕ) → made_in s x ≤ made_in t x
 kept_made s t kept x =
     omega (arith, kept.made x, ap (λ (gs : List Finished). sum_by (λ (g : Finished). times_made g.work.made x) gs) kept.over)
 
@@ -75,10 +79,10 @@ module _ (f : View) (seat : ℕ) (c : Command) (why : RowStop) (v t : View) (act
   pub cut_stays : ends why ≡ false → t.session seat ≡ cut.at.session seat
   cut_stays stays = (stopped_after seat cut.asked why cut.at t (ap phase_of cut_gone.stand) cut.refused).stays stays
 
-  pub cut_kept : ends why ≡ false → Kept (v.session seat) (t.session seat)
-  cut_kept stays = subst (λ (s : Session). Kept (v.session seat) s) (sym (cut_stays stays)) (kept_gone cut.events (v.session seat) (cut.at.session seat) cut_gone)
+  pub cut_kept : ends why ≡ false → KeptOn (v.session seat) (t.session seat)
+  cut_kept stays = subst (λ (s : Session). KeptOn (v.session seat) s) (sym (cut_stays stays)) (kept_gone cut.events (v.session seat) (cut.at.session seat) cut_gone)
 
-pub tried_kept : (f : View) (seat : ℕ) (c : Command) (n : ℕ) (v t : View) → phase_at v seat ≡ Active → WasTried f seat c n v t → Kept (v.session seat) (t.session seat)
+pub tried_kept : (f : View) (seat : ℕ) (c : Command) (n : ℕ) (v t : View) → phase_at v seat ≡ Active → WasTried f seat c n v t → KeptOn (v.session seat) (t.session seat)
 tried_kept f seat c zero v t active passes = kept_same (v.session seat) (t.session seat) active passes.own
 tried_kept f seat c (suc n) v t active (u, (other, seen, cut), rest) =
     let first = cut_kept f seat c (stop.NotYet other seen) v u active cut refl in
@@ -174,9 +178,9 @@ module _ (f : View) (seat : ℕ) (c : Command) (v t : View) where
   once_of a did = as_once a (cut_as a did)
 
 -- the calls of an operation that was answered
-pub calls_gone : (seat : ℕ) (c : Command) (a : Answer) (steps : List Step) (v t : View) → phase_at v seat ≡ Active → (beside : Beside seat (λ u w. DidCalls u seat steps (WholeOf c a) w) v t)
-    → Gone beside.did.events (v.session seat) (t.session seat)
-calls_gone seat c a steps v t active beside = gone_beside seat beside.did.events v t active (record {
+pub ran_beside : (seat : ℕ) (c : Command) (a : Answer) (steps : List Step) (v t : View) (beside : Beside seat (λ u w. DidCalls u seat steps (WholeOf c a) w) v t)
+    → Beside seat (λ u w. Ran u seat beside.did.events w) v t
+ran_beside seat c a steps v t beside = record {
   from = beside.from;
   to = beside.to;
   starts = beside.starts;
@@ -188,12 +192,16 @@ calls_gone seat c a steps v t active beside = gone_beside seat beside.did.events
   tail = beside.tail;
   flushed = beside.flushed;
   given_up = beside.given_up;
-})
+}
+
+pub calls_gone : (seat : ℕ) (c : Command) (a : Answer) (steps : List Step) (v t : View) → phase_at v seat ≡ Active → (beside : Beside seat (λ u w. DidCalls u seat steps (WholeOf c a) w) v t)
+    → Gone beside.did.events (v.session seat) (t.session seat)
+calls_gone seat c a steps v t active beside = gone_beside seat beside.did.events v t active (ran_beside seat c a steps v t beside)
 
 -- WHAT IS MADE. No less than before.
 module _ (f : View) (seat : ℕ) (c : Command) (a : Answer) (v t : View) (active : phase_at v seat ≡ Active) where
   -- of a session that ended
-  out_made : (asked : Asked) (s : Session) (w : Work) → Kept (v.session seat) s → Last asked (work_of s.stand) w → IsOut s w (t.session seat) → (x : ℕ) → made_in (t.session seat) x ≡ made_in s x
+  out_made : (asked : Asked) (s : Session) (w : Work) → KeptOn (v.session seat) s → Last asked (work_of s.stand) w → IsOut s w (t.session seat) → (x : ℕ) → made_in (t.session seat) x ≡ made_in s x
   out_made asked s w kept last is x =
       let same : times_made w.made x ≡ times_made (work_of s.stand).made x = ap (λ (os : List ℕ). times_made os x) (last_made asked (work_of s.stand) w last) in
       omega (arith, ap (λ (r : Session). made_in r x) is, made_over s.over w world.aborts x, same)

@@ -11,6 +11,7 @@ use Rattle.erm_world.specs.World as world
 use Rattle.erm_world.specs.Snapshots.{snapshot_not_active}
 use Rattle.erm_maps.specs.Runs.{IsRunOf, Kept}
 use Rattle.erm_good_report.specs.Transactions.{Ending, Excludes, Progress, Transaction, ended, heard, with_ending, with_line}
+use Rattle.erm_world.specs.Calls.{KeepsOwnSaves}
 use Rattle.erm_causes.specs.Touched.{IsClosedBy, Together, Touches}
 use Rattle.erm_causes.proofs.Begun.{KeepBelow}
 use Rattle.erm_causes.proofs.Coloured.{KeepsTables}
@@ -94,8 +95,15 @@ module _ (table : ℕ → ℕ) (f : View) where
   now_rests (Some t) held other (world.sealed w stamp) rests now = now
   now_rests (Some t) held other (world.snapshot x) rests now = absurd now
 
-  pub rests_free : (p : Progress) (held other : List (List VersionWritten)) (s : Session) → (phase_of s.stand ≡ Active → ⊥) → IsFree p held s → IsFree p other s
-  rests_free p held other s rests free = record { over = free.over; now = now_rests p.current held other s.stand rests free.now }
+  -- a session that goes on as it was
+  kept_now : (current : Option Transaction) (held other : List (List VersionWritten)) (stand : Stand) → KeepsOwnSaves stand stand other held → FreeNow current held stand → FreeNow current other stand
+  kept_now current held other world.idle keeps now = now_rests current held other world.idle (λ active. cc) now
+  kept_now current held other (world.active w) keeps now = subst (λ (saves : List (List VersionWritten)). FreeNow current saves (world.active w)) (sym keeps) now
+  kept_now current held other (world.sealed w stamp) keeps now = now_rests current held other (world.sealed w stamp) (λ active. cc) now
+  kept_now current held other (world.snapshot x) keeps now = now_rests current held other (world.snapshot x) (λ active. snapshot_not_active x active) now
+
+  pub kept_free : (p : Progress) (held other : List (List VersionWritten)) (s : Session) → KeepsOwnSaves s.stand s.stand other held → IsFree p held s → IsFree p other s
+  kept_free p held other s keeps free = record { over = free.over; now = kept_now p.current held other s.stand keeps free.now }
 
   -- the transaction in progress, sealed or not
   pub record HasFree (current : Option Transaction) (w : Work) : Type 0 where

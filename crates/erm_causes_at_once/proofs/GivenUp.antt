@@ -160,6 +160,16 @@ module _ (f : View) (seat : ℕ) where
         let (u, passes, began) = did.began in
         asked_same a did.between t did.asked ∙ at_seat seat u did.between began.2.given_up ∙ passes.given_up
 
+    saved_same : (a : Answer) → DidCommandBeside f seat command.Save a v t → SameGiven seat v t
+    saved_same (answer.Saved held) (u, passes, did) = at_seat seat u t (ap (λ (x : View). x.given_up) did.saved) ∙ passes.given_up
+    saved_same answer.SavesFull (u, passes, did) = at_view seat u t did.0 ∙ passes.given_up
+    saved_same a (u, passes, did) = absurd did
+
+    back_same : (n : ℕ) (a : Answer) → DidCommandBeside f seat (command.Back n) a v t → SameGiven seat v t
+    back_same n (answer.Back m) (u, passes, did) = at_seat seat u t (ap (λ (x : View). x.given_up) did.1.saves ∙ did.1.claims.given_up) ∙ passes.given_up
+    back_same n (answer.NoSave held) (u, passes, did) = at_view seat u t did.0 ∙ passes.given_up
+    back_same n a (u, passes, did) = absurd did
+
     commanded : (c : Command) (a : Answer) → refusal_of (phase_at v seat) c ≡ None → HasNoSnapshot (phase_at v seat) → DidCommandBeside f seat c a v t → LeavesGiven f seat (Some c) a v t
     commanded command.Begin a free plain did = leaves (begun_same a did)
     commanded command.Safe a free plain did = leaves (safe_same a did)
@@ -168,6 +178,8 @@ module _ (f : View) (seat : ℕ) where
     commanded command.Commit a free plain did = leaves (commit_same a did)
     commanded command.Abort a free plain did = leaves (aborted_same a did)
     commanded command.Durable a free plain did = leaves (durable_same a did)
+    commanded command.Save a free plain did = leaves (saved_same a did)
+    commanded (command.Back n) a free plain did = leaves (back_same n a did)
     commanded command.Flush a free plain did = absurd did
     commanded command.Checkpoint a free plain did = absurd did
     commanded (command.Get k key) a free plain did = named_given (command.Get k key) a k refl (named_active (phase_at v seat) (command.Get k key) k refl plain free) did

@@ -3,6 +3,7 @@ pub mod Called
 pub mod Drawn
 pub mod Free
 pub mod GivenUp
+pub mod Held
 pub mod Line
 pub mod Numbers
 pub mod Operation

@@ -1,6 +1,6 @@
 -- A line of a session that names a table leaves its transaction so that it touches objects of its lines' tables alone.
-use Rattle.std.proofs.Common.{◌≡◌, ℕ, zero, suc, ◌+◌, ◌<◌, ◌≤◌, false, cond, eqb, List, [], ◌∷◌, ◌++◌, Option, Some, sum_by, inl, inr, refl, sym, ap, subst, arith, le_trans, slice_get}
-use Rattle.std.specs.Option.{option_map, option_to_list}
+use Rattle.std.proofs.Common.{◌≡◌, ℕ, zero, suc, ◌+◌, ◌<◌, ◌≤◌, Bool, false, cond, eqb, List, [], ◌∷◌, ◌++◌, Option, Some, None, sum_by, inl, inr, refl, sym, ap, subst, arith, le_trans, slice_get}
+use Rattle.std.specs.Option.{option_to_list}
 use Rattle.std.proofs.lemmas.List.Sums.{sum_by-append, sum_by-cons}
 use Rattle.erm_model.specs.declared.outcome.Phase.TheVariants.{Active}
 use Rattle.erm_model.specs.declared.row_stop.RowStop.{RowStop}
@@ -20,18 +20,19 @@ use Rattle.erm_world.specs.Laws.{IsSerializable}
 use Rattle.erm_world.specs.World.{Finished, Has, IsCurrent, IsSession, Session, Stand, View, Work, history_of, made_in, phase_at, phase_of, work_at, work_of}
 use Rattle.erm_world.specs.World as world
 use Rattle.erm_world.proofs.Lists.{∈-last}
-use Rattle.erm_maps.specs.Runs.{IsRunOf}
+use Rattle.erm_maps.specs.Runs.{IsRunOf, Kept, kept_at}
 use Rattle.erm_maps.proofs.Extended.{fitted_before}
 use Rattle.erm_good_report.specs.Transactions.{Exchange, Transaction, table_of, with_line}
 use Rattle.erm_lines.specs.Operations.{AsksOf, FrontOf, WholeOf, DidCalls}
 use Rattle.erm_lines.specs.Told.{Continues, IsLater}
 use Rattle.erm_lines_at_once.specs.Operations.{Beside, WasTried, WereCutBeside}
+use Rattle.erm_lines_at_once.proofs.Saved.{passed_kept}
 use Rattle.erm_causes.specs.Touched.{AreOfTables, Touches}
 use Rattle.erm_causes.proofs.Answered.{last_fitted, last_made}
 use Rattle.erm_causes.proofs.Begun.{BeganOn, KeepBelow, began_below}
 use Rattle.erm_causes.proofs.Coloured.{KeepsTables}
 use Rattle.erm_causes.proofs.Fine.{touches_more}
-use Rattle.erm_causes.proofs.Lines.{CutFine, cut_work, line_in, whole_work}
+use Rattle.erm_causes.proofs.Lines.{CutFine, cut_work, line_in, named_works, whole_work}
 use Rattle.erm_causes.proofs.Made.{made_within}
 use Rattle.erm_causes.proofs.Operated.{Last, claimed, read, same_work}
 use Rattle.erm_causes.proofs.Own.{TreeLaws}
@@ -39,13 +40,13 @@ use Rattle.erm_told_limits.proofs.Ran.{MovesAll}
 use Rattle.erm_told_limits.proofs.Given.{HistoryLaws}
 use Rattle.erm_causes_at_once.proofs.Called.{IsOut, calls_gone, cut_gone, cut_kept, cut_stays}
 
--- what is so of the line's own work up to a call, with the line counted already
-pub record Behind (table : ℕ → ℕ) (t : Transaction) (first w : Work) : Type 0 where
-  pub touches : Touches table t w
-  pub keeps : KeepsTables table w
-  pub low : (x : ℕ) → times_made first.made x ≤ times_made w.made x
+-- what is so of the line's own work, with its savepoints, up to a call, with the line counted already
+pub record Behind (table : ℕ → ℕ) (t : Transaction) (first : Work) (k : Kept) : Type 0 where
+  pub touches : Touches table t k.work
+  pub keeps : KeepsTables table k.work
+  pub low : (x : ℕ) → times_made first.made x ≤ times_made k.work.made x
   pub steps : List Step
-  pub run : IsRunOf w steps
+  pub run : IsRunOf k steps
 
 -- and of a work that the line goes on to: rows on which it began, and that what is made since the line is of the line's table
 pub record Ahead (table : ℕ → ℕ) (k : ℕ) (first w : Work) : Type 0 where
@@ -83,7 +84,7 @@ module _ (table : ℕ → ℕ) (c : Command) (a : Answer) (k : ℕ) (named : tab
   counted : (e : Exchange) → e ∈ (with_line (Some c) a with_it).lines → e ∈ with_it.lines
   counted e m =
       let it : Exchange = record { asked = c; answer = a } in
-      let both : e ∈ (with_it.lines ++ it ∷ []) = subst (λ (r : Option ℕ). e ∈ (with_it.lines ++ option_to_list (option_map (λ (table : ℕ). record { asked = c; answer = a }) r))) named m in
+      let both : e ∈ (with_it.lines ++ it ∷ []) = subst (λ (b : Bool). e ∈ (with_it.lines ++ option_to_list (cond b (Some it) None))) (named_works c k named) m in
       elim (∈-push with_it.lines it e both) as (λ _. e ∈ with_it.lines) [
         | inl before ↦ before
         | inr last ↦ subst (λ (d : Exchange). d ∈ with_it.lines) (sym last) (line_in c a told k named)
@@ -97,15 +98,15 @@ module _ (tree : TreeLaws) (table : ℕ → ℕ) (f : View) (seat : ℕ) (c : Co
   abbrev t : Transaction
   t = with_line (Some c) a told
 
-  made_here : (w u : Work) (events : List Event) → MovesAll sound_law w events u → Behind table t first w → Ahead table k first u → (x : ℕ) → 0 < made_by_all events x → table x ≡ k
+  made_here : (w : Kept) (u : Work) (events : List Event) → MovesAll sound_law w.work events u → Behind table t first w → Ahead table k first u → (x : ℕ) → 0 < made_by_all events x → table x ≡ k
   made_here w u events moves behind ahead x some = ahead.right x (omega (arith, behind.low x, moves.made x, some))
 
   pub cut_on : (why : RowStop) (v u : View) (active : phase_at v seat ≡ Active) (cut : WereCutBeside f seat (FrontOf c) (AsksOf c) why v u)
-      → Behind table t first (work_at v seat) → Ahead table k first (work_at cut.at seat) → CutFine table k c t (work_at cut.at seat) cut.asked
+      → Behind table t first (kept_at v seat) → Ahead table k first (work_at cut.at seat) → CutFine table k c t (work_at cut.at seat) cut.asked
   cut_on why v u active cut behind ahead =
       let gone = cut_gone f seat c why v u active cut in
       let fine = cut_work tree table (work_at v seat) (work_at cut.at seat) cut.events gone.moves ahead.once c a k named range
-      (made_here (work_at v seat) (work_at cut.at seat) cut.events gone.moves behind ahead) t behind.touches behind.keeps behind.run.lawful ahead.began cut.asked cut.none cut.of cut.asks_so in record {
+      (made_here (kept_at v seat) (work_at cut.at seat) cut.events gone.moves behind ahead) t behind.touches behind.keeps behind.run.lawful ahead.began cut.asked cut.none cut.of cut.asks_so in record {
         touches = once_counted table c a k named told (work_at cut.at seat) fine.touches;
         keeps = fine.keeps;
         asked_is = fine.asked_is;
@@ -114,7 +115,7 @@ module _ (tree : TreeLaws) (table : ℕ → ℕ) (f : View) (seat : ℕ) (c : Co
 
   -- one that goes on
   pub stays_on : (why : RowStop) (v u : View) (active : phase_at v seat ≡ Active) (cut : WereCutBeside f seat (FrontOf c) (AsksOf c) why v u) → ends why ≡ false
-      → Behind table t first (work_at v seat) → Ahead table k first (work_at u seat) → Behind table t first (work_at u seat)
+      → Behind table t first (kept_at v seat) → Ahead table k first (work_at u seat) → Behind table t first (kept_at u seat)
   stays_on why v u active cut stays behind ahead =
       let same : u.session seat ≡ cut.at.session seat = cut_stays f seat c why v u active cut stays in
       let gone = cut_gone f seat c why v u active cut in
@@ -136,12 +137,12 @@ module _ (tree : TreeLaws) (table : ℕ → ℕ) (f : View) (seat : ℕ) (c : Co
   -- its tries
   pub record TriedOn (v u : View) : Type 0 where
     pub ahead : Ahead table k first (work_at v seat)
-    pub behind : Behind table t first (work_at v seat) → Behind table t first (work_at u seat)
+    pub behind : Behind table t first (kept_at v seat) → Behind table t first (kept_at u seat)
 
   pub tried_on : (n : ℕ) (v u : View) → phase_at v seat ≡ Active → WasTried f seat c n v u → Ahead table k first (work_at u seat) → TriedOn v u
   tried_on zero v u active passes ahead = record {
     ahead = subst (λ (s : Session). Ahead table k first (work_of s.stand)) passes.own ahead;
-    behind = λ behind. subst (λ (s : Session). Behind table t first (work_of s.stand)) (sym passes.own) behind;
+    behind = λ behind. subst (λ (w : Kept). Behind table t first w) (sym (passed_kept seat v u passes)) behind;
   }
   tried_on (suc n) v u active (x, (other, seen, cut), rest) ahead =
       let kept = cut_kept f seat c (stop.NotYet other seen) v x active cut refl in
@@ -152,12 +153,12 @@ module _ (tree : TreeLaws) (table : ℕ → ℕ) (f : View) (seat : ℕ) (c : Co
 
   -- the last one, answered whole
   pub whole_on : (steps : List Step) (v u : View) (active : phase_at v seat ≡ Active) → (beside : Beside seat (λ x y. DidCalls x seat steps (WholeOf c a) y) v u)
-      → Behind table t first (work_at v seat) → Ahead table k first (work_at u seat) → Touches table t (work_at u seat) × KeepsTables table (work_at u seat)
+      → Behind table t first (kept_at v seat) → Ahead table k first (work_at u seat) → Touches table t (work_at u seat) × KeepsTables table (work_at u seat)
   whole_on steps v u active beside behind ahead =
       let events = beside.did.events in
       let gone = calls_gone seat c a steps v u active beside in
       let fine = whole_work tree table (work_at v seat) (work_at u seat) events gone.moves ahead.once c a k named range
-      (made_here (work_at v seat) (work_at u seat) events gone.moves behind ahead) t behind.touches behind.keeps behind.run.lawful ahead.began beside.did.of in
+      (made_here (kept_at v seat) (work_at u seat) events gone.moves behind ahead) t behind.touches behind.keeps behind.run.lawful ahead.began beside.did.of in
       (once_counted table c a k named told (work_at u seat) fine.0, fine.1)
 
 -- THE WORLD in which all end: a work of the session goes on to one of it.

@@ -66,7 +66,7 @@ module _ (f : View) (whole script : List ScriptLine) (answers : List Answer) (fe
 
   -- the session's transactions and snapshots that are over are those told, also after others went on
   told_over : (u : View) → Passes l.session there.before u → TellsOver l.session p.over p.snapshots (u.session l.session).over
-  told_over u passes = subst (λ (s : Session). TellsOver l.session p.over p.snapshots s.over) (sym passes.own) there.knows.tells.over
+  told_over u passes = subst (λ (s : Session). TellsOver l.session p.over p.snapshots s.over) (sym passes.own) there.knows.told.tells.over
 
   last_is : (u : View) → Passes l.session there.before u → (stamp end : ℕ) → IsLastCommit (u.session l.session).over stamp end → last_commit m ≡ Some stamp
   last_is u passes stamp end is =

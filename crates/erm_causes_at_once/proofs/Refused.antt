@@ -18,7 +18,7 @@ use Rattle.erm_world.specs.Going.{Extends}
 use Rattle.erm_world.specs.World.{Finished, IsCurrent, IsSession, Stand, View, Work, history_of, phase_at, phase_of, work_at}
 use Rattle.erm_world.specs.World as world
 use Rattle.erm_world.specs.Works.{is_claimed}
-use Rattle.erm_maps.specs.Runs.{IsAnswered}
+use Rattle.erm_maps.specs.Runs.{IsAnswered, kept_at}
 use Rattle.erm_good_report.specs.Causes.{CommitsBeside, HasWindow, OverwritesBeside, WritesTable}
 use Rattle.erm_good_report.specs.GoodReport.{places_of}
 use Rattle.erm_good_report.specs.Opening.{AtOnce, InTurn, Mode, Opening}
@@ -408,7 +408,7 @@ module _ (tree : TreeLaws) (laws : HistoryLaws) (begun : NoneRuns)
       here : Stopped f l.session l.command a there.before there.after
       here = stopped f l a there.before there.after stopping there.did
 
-      abbrev its : ActiveFree colour f p.current (work_at there.before l.session)
+      abbrev its : ActiveFree colour f p.current (kept_at there.before l.session)
       its = now tree laws colour f l.session session run.ends.serializable opened_there l.command a here.table here.names (run.ranges l (i, at)) there.before there.after here.active here.did there.goes
           (there.right here.table here.names) p there.free
 
@@ -419,7 +419,7 @@ module _ (tree : TreeLaws) (laws : HistoryLaws) (begun : NoneRuns)
       t_is u (x, current, is) = is ∙ ap (λ (y : Transaction). with_line (Some l.command) a y) (the_told p.current x its.told current its.is)
 
       begin_is : its.told.begin ≡ (work_at there.before l.session).begin
-      begin_is = (told_work l.session p.current (there.before.session l.session).stand its.told knows.tells.now here.active its.is).begin
+      begin_is = (told_work l.session p.current (there.before.session l.session).stand its.told knows.told.tells.now here.active its.is).begin
 
       cut_so : (why : RowStop) → stop_in a ≡ Some why → WereCutBeside f l.session (FrontOf l.command) (AsksOf l.command) why here.did.at there.after
       cut_so why is = cut_by f l.session l.command a why here.did.at there.after is (once_cut f l.session l.command a here.did.at there.after stopping here.did.once)

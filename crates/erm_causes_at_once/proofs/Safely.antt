@@ -256,7 +256,7 @@ module _ (f : View) where
         (at_seat seat l.session (Some l.command) a p
         (λ is. subst (λ (q : ℕ). Keeps (heard q (Some l.command) a p)) is
         (own_line u w l a p (subst (λ (b : Bool). DidOwn b f seat (line l a) u w) (eq-eqb l.session seat is) did).1
-        (subst (λ (q : ℕ). Tells q p (u.session q)) (sym is) (passed p v u passes.own knows.tells)) keeps)) keeps)
+        (subst (λ (q : ℕ). Tells q p (u.session q)) (sym is) (passed p v u passes.own knows.told.tells)) keeps)) keeps)
     keeps_all (log l a ∷ moves) p ph v t (u, w, passes, did, rest) knows keeps =
         let s : Said = record { session = l.session; asked = Some l.command; answer = a } in
         keeps_all moves (hears seat p s) (turns seat ph s) w t rest (knows_own runs stay f seat (log l a ∷ []) p ph v w (u, w, passes, did, passes_itself seat w) knows)

@@ -1,6 +1,7 @@
 -- The transactions of an execution at once touch objects of their lines' tables alone, and so what is told of them shows the causes of their ends.
 use Rattle.std.proofs.Common.{◌≡◌, ℕ, zero, suc, List, [], ◌∷◌, map, slice_get, Option, Some, None, inl, inr, ⊎_elim, refl, sym, ap, subst, arith}
 use Rattle.erm_model.specs.declared.history.TransactionRecord.{TransactionRecord}
+use Rattle.erm_model.specs.declared.history.VersionWritten.{VersionWritten}
 use Rattle.erm_model.specs.Member.{◌∈◌}
 use Rattle.erm_model.specs.Run.{Step}
 use Rattle.erm_model.proofs.Members.{none_in_nil, ∈-behind}
@@ -82,8 +83,8 @@ module _ (tree : TreeLaws) (laws : HistoryLaws) (begun : NoneRuns)
   first_stands : (seat : ℕ) → IsSession f seat → Stands table f seat nothing v
   first_stands seat session =
       let first = session_first seat session in record {
-        free = subst (λ (s : Session). IsFree table f nothing s) (sym (run.opened.idle seat first)) (record { over = refl; now = tt });
-        tells = (at_first begun stay v f whole script answers closed run seat first).tells;
+        free = subst (λ (s : Session). IsFree table f nothing (v.saves seat) s) (sym (run.opened.idle seat first)) (record { over = refl; now = tt });
+        told = (at_first begun stay v f whole script answers closed run seat first).told;
         given = λ x m. absurd (none_in_nil x (subst (λ (xs : List GivenUp). x ∈ xs) (run.opened.given_up seat) m));
       }
 
@@ -96,8 +97,12 @@ module _ (tree : TreeLaws) (laws : HistoryLaws) (begun : NoneRuns)
       (run_stands tree laws begun stay table f seat session holds tabled.opened (all_moves script answers closed) nothing v part.last part.run range part.right
       (goes_last seat session) (first_stands seat session))
 
-  free : (seat : ℕ) → IsSession f seat → IsFree table f (progress_of seat said) (f.session seat)
-  free seat session = subst (λ (s : Session). IsFree table f (progress_of seat said) s) (part_of seat session).ends (stands seat session).free
+  -- with the savepoints that it held in the end
+  held : (seat : ℕ) → IsSession f seat → List (List VersionWritten)
+  held seat session = (part_of seat session).last.saves seat
+
+  free : (seat : ℕ) (session : IsSession f seat) → IsFree table f (progress_of seat said) (held seat session) (f.session seat)
+  free seat session = subst (λ (s : Session). IsFree table f (progress_of seat said) (held seat session) s) (part_of seat session).ends (stands seat session).free
 
   -- so all commits keep to their tables, the earlier ones first
   pub keep_all : (bound : ℕ) → KeepBelow table f bound
@@ -142,15 +147,15 @@ module _ (tree : TreeLaws) (laws : HistoryLaws) (begun : NoneRuns)
   )
   touches_over seat session ts (g ∷ gs) all (inr (aborts, rest)) = inr (aborts, touches_over seat session ts gs (λ h m. all h (∈-behind g gs h m)) rest)
 
-  touches_now : (current : Option Transaction) (stand : Stand) → FreeNow table f current stand → TouchesNow table current stand
-  touches_now None world.idle now = tt
-  touches_now None (world.active w) now = absurd now
-  touches_now None (world.sealed w stamp) now = absurd now
-  touches_now (Some t) world.idle now = absurd now
-  touches_now (Some t) (world.active w) now = (now.0 (keep_all w.begin)).0
-  touches_now (Some t) (world.sealed w stamp) now = (now (keep_all w.begin)).0
-  touches_now None (world.snapshot s) now = tt
-  touches_now (Some t) (world.snapshot s) now = absurd now
+  touches_now : (current : Option Transaction) (saves : List (List VersionWritten)) (stand : Stand) → FreeNow table f current saves stand → TouchesNow table current stand
+  touches_now None saves world.idle now = tt
+  touches_now None saves (world.active w) now = absurd now
+  touches_now None saves (world.sealed w stamp) now = absurd now
+  touches_now (Some t) saves world.idle now = absurd now
+  touches_now (Some t) saves (world.active w) now = (now.fine (keep_all w.begin)).touches
+  touches_now (Some t) saves (world.sealed w stamp) now = (now (keep_all w.begin)).0
+  touches_now None saves (world.snapshot s) now = tt
+  touches_now (Some t) saves (world.snapshot s) now = absurd now
 
   pub told_there : (seat : ℕ) → IsSession f seat → Tells seat (progress_of seat said) (f.session seat)
   told_there seat session = tells begun stay v f whole script answers closed run seat (session_first seat session)
@@ -160,7 +165,7 @@ module _ (tree : TreeLaws) (laws : HistoryLaws) (begun : NoneRuns)
     over = touches_over seat session (progress_of seat said).over (f.session seat).over (λ g m. m)
         (together_told seat (FreeOne table f) (progress_of seat said).over (progress_of seat said).snapshots (f.session seat).over 1 (told_there seat session).over (free seat session).over
         (holds.numbered seat session).over);
-    now = touches_now (progress_of seat said).current (f.session seat).stand (free seat session).now;
+    now = touches_now (progress_of seat said).current (held seat session) (f.session seat).stand (free seat session).now;
   }
 
   -- the claims that it gave up are told

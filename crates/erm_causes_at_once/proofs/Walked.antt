@@ -3,6 +3,7 @@
 use Rattle.std.proofs.Common.{◌≡◌, ◌≢◌, ℕ, zero, suc, ◌<◌, ◌≤◌, ◌⊎◌, ◌==◌, Bool, cond, List, [], ◌∷◌, ◌++◌, take, fold, slice_get, Option, Some, None, inl, inr, refl, sym, ap, ◌∙◌, subst, eq-eqb, ne_eqb, arith}
 use Rattle.std.specs.Option.{option_map}
 use Rattle.std.proofs.lemmas.Bool.{cases_eq}
+use Rattle.erm_model.specs.declared.history.VersionWritten.{VersionWritten}
 use Rattle.erm_model.specs.declared.outcome.Phase.TheVariants.{Active}
 use Rattle.erm_model.specs.declared.row_stop.RowStop.TheVariants as stop
 use Rattle.erm_model.specs.Member.{◌∈◌}
@@ -16,32 +17,37 @@ use Rattle.erm_world.specs.Going.{Extends}
 use Rattle.erm_world.specs.Laws.{IsSerializable}
 use Rattle.erm_world.specs.World.{GivenUp, IsSession, Session, Stand, View, Work, made_in, phase_at, phase_of, work_at, work_of}
 use Rattle.erm_world.specs.World as world
-use Rattle.erm_maps.specs.Runs.{IsAnswered}
+use Rattle.erm_maps.specs.Runs.{IsAnswered, IsRunOf, kept_at}
 use Rattle.erm_good_report.specs.Causes.{WritesTable}
 use Rattle.erm_good_report.specs.Transactions.{Progress, Transaction, heard, said_of, table_of, with_line}
 use Rattle.erm_lines.specs.Executions.{Move, close, flush, line, line_moves, log, move_of, said_in}
-use Rattle.erm_lines.specs.Told.{Continues, Tells, TellsNow, TellsWork}
+use Rattle.erm_lines.specs.Told.{Continues, TellsNow, TellsWork}
 use Rattle.erm_lines.proofs.Keeping.{NoneRuns}
+use Rattle.erm_lines.proofs.Saved.{IsRunAt, back_extends, back_runs, save_runs}
+use Rattle.erm_maps.proofs.Kept.{back_step, save_step}
 use Rattle.erm_beside.specs.Calls.{Passes}
 use Rattle.erm_lines_at_once.specs.Answers.{DidLineBeside}
 use Rattle.erm_lines_at_once.specs.Executions.{DidOwn, IsOwnRun, is_own}
 use Rattle.erm_lines_at_once.specs.Operations.{DidOperationBeside}
-use Rattle.erm_told.proofs.Executed.{hears}
+use Rattle.erm_told.proofs.Executed.{hears, told_same}
 use Rattle.erm_told.proofs.Going.{continues_then}
 use Rattle.erm_told.proofs.Sessions.{sealed_untold}
+use Rattle.erm_told.proofs.Turns.{TellsAt}
 use Rattle.erm_told_at_once.proofs.Lines.{turns_end, turns_line}
 use Rattle.erm_told_at_once.proofs.Runs.{other_line, own_goes, own_line}
 use Rattle.erm_causes.specs.Touched.{AreOfTables}
 use Rattle.erm_causes.proofs.Begun.{KeepBelow}
-use Rattle.erm_causes.proofs.Fine.{writes_more}
+use Rattle.erm_causes.proofs.Fine.{touches_more, writes_more}
+use Rattle.erm_causes.proofs.Lines.{lines_before}
 use Rattle.erm_causes.proofs.Moves.{move_table, table_in}
 use Rattle.erm_causes.proofs.Own.{TreeLaws}
+use Rattle.erm_causes.proofs.Saved.{AtSavepoint, at_fine, back, refused, saved, saves_made, saves_of}
 use Rattle.erm_causes.proofs.Tables.{AreMovesInRange}
 use Rattle.erm_causes_at_once.proofs.Called.{operation_made}
-use Rattle.erm_causes_at_once.proofs.Free.{IsFree, none_now, sealed_free}
+use Rattle.erm_causes_at_once.proofs.Free.{Going, IsFree, active_free, none_now, sealed_free, went_free}
 use Rattle.erm_causes_at_once.proofs.GivenUp.{GaveUp, LeavesGiven, close_given, given_by, gives, leaves, line_given, tried_given}
 use Rattle.erm_causes_at_once.proofs.Operation.{claim_writes, kept_cut, now, operation_free}
-use Rattle.erm_causes_at_once.proofs.Quieted.{Lined, began_idle, closed_quiet, lined, named, quiet, quieted_free, quieted_made, sealed_first}
+use Rattle.erm_causes_at_once.proofs.Quieted.{Lined, at_savepoint, began_idle, closed_keeps, closed_quiet, lined, named, quiet, quieted_free, quieted_made, rests_keep, sealed_first}
 use Rattle.erm_causes_at_once.proofs.Still.{IsToldIn, StillTold, heard_still}
 use Rattle.erm_told_limits.proofs.Given.{HistoryLaws}
 use Rattle.erm_told_limits.proofs.Ran.{active_with}
@@ -74,15 +80,17 @@ pub close_did : (f : View) (seat at : ℕ) (a : Answer) (v t : View) → DidOwn 
 close_did f seat at a v t did = elim (cases_eq at seat) as (λ _. OwnDid f seat at None a v t) [
   | inl is ↦
       let own = subst (λ (b : Bool). DidOwn b f seat (close at a) v t) (eq-eqb at seat is) did in
-      inl (is, subst (λ (q : ℕ). Lined f q None a v t) is (quiet (closed_quiet f at a v t own.1)))
+      inl (is, subst (λ (q : ℕ). Lined f q None a v t) is (quiet (closed_quiet f at a v t own.1) (closed_keeps f at a v t own.1)))
   | inr another ↦ inr (another, subst (λ (b : Bool). DidOwn b f seat (close at a) v t) (ne_eqb at seat another) did)
 ]
 
 -- WHAT IS MADE. No less than before.
 lined_made : (f : View) (seat : ℕ) (asked : Option Command) (a : Answer) (v t : View) → Lined f seat asked a v t → (x : ℕ) → made_in (v.session seat) x ≤ made_in (t.session seat) x
-lined_made f seat asked a v t (quiet did) x = omega (arith, quieted_made asked a (v.session seat) (t.session seat) did x)
-lined_made f seat asked a v t (sealed_first stamp between active is did) x =
+lined_made f seat asked a v t (quiet did keeps) x = omega (arith, quieted_made asked a (v.session seat) (t.session seat) did x)
+lined_made f seat asked a v t (sealed_first stamp between active is did rests) x =
     omega (arith, quieted_made asked a between (t.session seat) did x, ap (λ (s : Session). made_in s x) is)
+lined_made f seat asked a v t (at_savepoint c u is none active passes did hears) x =
+    omega (arith, saves_made u t seat x did, ap (λ (s : Session). made_in s x) passes.own)
 lined_made f seat asked a v t (named c k is names active did) x = operation_made f seat c a v t active did x
 
 own_made : (f : View) (seat at : ℕ) (asked : Option Command) (a : Answer) (v t : View) → OwnDid f seat at asked a v t → (x : ℕ) → made_in (v.session seat) x ≤ made_in (t.session seat) x
@@ -128,13 +136,13 @@ pub record TellsGiven (table : ℕ → ℕ) (f : View) (seat : ℕ) (p : Progres
 
 -- a session's part, where these answers were told: its transactions, the objects that they touch, and the claims that they gave up
 pub record Stands (table : ℕ → ℕ) (f : View) (seat : ℕ) (p : Progress) (v : View) : Type 0 where
-  pub free : IsFree table f p (v.session seat)
-  pub tells : Tells seat p (v.session seat)
+  pub free : IsFree table f p (v.saves seat) (v.session seat)
+  pub told : TellsAt seat p v
   pub given : (x : GivenUp) → x ∈ v.given_up seat → TellsGiven table f seat p x
 
 -- what a move of the session tells, and leaves of the claims that it gave up
 record Moved (f : View) (seat : ℕ) (asked : Option Command) (a : Answer) (v t : View) : Type 0 where
-  tells : (p : Progress) → Tells seat p (v.session seat) → Tells seat (heard seat asked a p) (t.session seat)
+  tells : (p : Progress) → TellsAt seat p v → TellsAt seat (heard seat asked a p) t
   given : LeavesGiven f seat asked a v t
 
 -- the transaction in progress is told as its work
@@ -145,18 +153,59 @@ told_work seat (Some u) (world.active w) t tells active is = let same : u ≡ t 
 told_work seat (Some u) (world.sealed w stamp) t tells active is = cc
 told_work seat (Some u) (world.snapshot s) t tells active is = absurd tells
 
+-- SAVEPOINTS. A line of theirs leaves the transaction the run of some operations, begun as it was.
+saved_run : (v t : View) (seat : ℕ) → IsRunAt v seat → AtSavepoint v seat t → IsRunAt t seat
+saved_run v t seat run (refused is) = subst (λ (u : View). IsRunAt u seat) (sym is) run
+saved_run v t seat run (saved held did) = (run.0 ++ save_step ∷ [], save_runs v t seat held run.0 run.1 did)
+saved_run v t seat run (back n did) = (run.0 ++ back_step n ∷ [], back_runs v t seat n run.0 run.1 did)
+
+saved_begin : (v t : View) (seat : ℕ) → IsRunAt v seat → AtSavepoint v seat t → (work_at t seat).begin ≡ (work_at v seat).begin
+saved_begin v t seat run (refused is) = ap (λ (u : View). (work_at u seat).begin) is
+saved_begin v t seat run (saved held did) = ap (λ (u : View). (work_at u seat).begin) did.saved
+saved_begin v t seat run (back n did) = (back_extends v t seat n run did).begin
+
 module _ (tree : TreeLaws) (laws : HistoryLaws) (begun : NoneRuns)
     (stay : (w u : Work) (steps : List Step) → Extends w u → IsAnswered w steps → IsAnswered u steps) (table : ℕ → ℕ) (f : View) (seat : ℕ) (session : IsSession f seat)
     (holds : IsSerializable sound_law f) (opened : AreOfTables table f.opening.rows) where
+  -- with the line it is fine too
+  saved_going : (c : Command) (a : Answer) (u t : View) (told : Transaction) → AtSavepoint u seat t → Going table f told (kept_at u seat) → Going table f (with_line (Some c) a told) (kept_at t seat)
+  saved_going c a u t told did going =
+      let at : IsRunAt u seat = (going.steps, going.run) in
+      let steps = saved_run u t seat at did in record {
+        fine = λ keep.
+        let before = going.fine (subst (λ (n : ℕ). KeepBelow table f n) (saved_begin u t seat at did) keep) in
+        at_fine table u t seat (with_line (Some c) a told) did (record {
+          touches = touches_more table told (with_line (Some c) a told) (work_at u seat) (lines_before c a told) before.touches;
+          keeps = before.keeps;
+          saved = before.saved;
+          steps = before.steps;
+          run = before.run;
+        });
+        steps = steps.0;
+        run = steps.1;
+      }
+
   lined_free : (asked : Option Command) (a : Answer) (v t : View) (p : Progress) → TellsNow seat p.current (v.session seat).stand → Lined f seat asked a v t → IsAskedInRange asked
       → ((k : ℕ) → table_asked asked ≡ Some k → (x : ℕ) → made_in (v.session seat) x < made_in (t.session seat) x → table x ≡ k) → Continues (t.session seat) (f.session seat)
-      → IsFree table f p (v.session seat) → IsFree table f (heard seat asked a p) (t.session seat)
-  lined_free asked a v t p tells (quiet did) range right goes free = quieted_free begun table f seat asked a p (v.session seat) (t.session seat) tells did free
-  lined_free asked a v t p tells (sealed_first stamp between active is did) range right goes free =
+      → IsFree table f p (v.saves seat) (v.session seat) → IsFree table f (heard seat asked a p) (t.saves seat) (t.session seat)
+  lined_free asked a v t p tells (quiet did keeps) range right goes free =
+      quieted_free begun table f seat asked a p (v.saves seat) (t.saves seat) (v.session seat) (t.session seat) tells keeps did free
+  lined_free asked a v t p tells (sealed_first stamp between active is did rests) range right goes free =
       let stand = active_with (v.session seat).stand active in
       let sealed = sealed_untold seat stamp p.current (work_at v seat) (subst (λ (at : Stand). TellsNow seat p.current at) stand tells) in
-      quieted_free begun table f seat asked a p between (t.session seat) (subst (λ (s : Session). TellsNow seat p.current s.stand) (sym is) sealed) did
-      (subst (λ (s : Session). IsFree table f p s) (sym is) (sealed_free table f p (v.session seat) stamp active free))
+      quieted_free begun table f seat asked a p (t.saves seat) (t.saves seat) between (t.session seat) (subst (λ (s : Session). TellsNow seat p.current s.stand) (sym is) sealed)
+      (rests_keep (t.session seat).stand between.stand (t.saves seat) (t.saves seat) rests) did
+      (subst (λ (s : Session). IsFree table f p (t.saves seat) s) (sym is) (sealed_free table f p (v.saves seat) (t.saves seat) (v.session seat) stamp active free))
+  lined_free asked a v t p tells (at_savepoint c u is none active passes did hears) range right goes free =
+      let own : v.session seat ≡ u.session seat = sym passes.own in
+      let here : IsFree table f p (u.saves seat) (u.session seat) =
+      subst (λ (held : List (List VersionWritten)). IsFree table f p held (u.session seat)) (sym passes.saves) (subst (λ (s : Session). IsFree table f p (v.saves seat) s) own free) in
+      let there : phase_at u seat ≡ Active = ap (λ (s : Session). phase_of s.stand) passes.own ∙ active in
+      let now = active_free table f p.current (u.saves seat) (u.session seat).stand here.now there in
+      let on = saves_of u t seat did in
+      let stand = active_with (t.session seat).stand (on.active there) in
+      subst (λ (b : Option Command). IsFree table f (heard seat b a p) (t.saves seat) (t.session seat)) (sym is)
+      (went_free table f seat c a p (u.saves seat) (t.saves seat) (u.session seat) (t.session seat) now.told hears now.is on.over stand (saved_going c a u t now.told did now.going) here)
   lined_free asked a v t p tells (named c k is names active did) range right goes free =
       subst (λ (b : Option Command). IsFree table f (heard seat b a p) (t.session seat)) (sym is)
       (operation_free tree laws table f seat session holds opened c a k names (subst IsAskedInRange is range) v t active did goes (right k (ap table_asked is ∙ names)) p free tells)
@@ -175,7 +224,7 @@ module _ (tree : TreeLaws) (laws : HistoryLaws) (begun : NoneRuns)
       → TellsGiven table f seat (heard seat asked a p) x
   heard_given asked a v t p did stands x tells =
       given_later p (heard seat asked a p) x
-      (heard_still seat asked a p (λ begin is. none_now table f p.current (v.session seat).stand stands.free.now
+      (heard_still seat asked a p (λ begin is. none_now table f p.current (v.saves seat) (v.session seat).stand stands.free.now
       (began_idle f seat asked begin v t (subst (λ (b : Answer). Lined f seat asked b v t) is did)))) tells
 
   -- the claim that a line gave up is of its table
@@ -184,7 +233,7 @@ module _ (tree : TreeLaws) (laws : HistoryLaws) (begun : NoneRuns)
       → (gave : GaveUp f seat c a did.at t) → TellsGiven table f seat (heard seat (Some c) a p) (given_by gave.oid (gave.cut.at.session seat))
   gave_now c a k names range v t active did goes right p stands gave =
       let its = now tree laws table f seat session holds opened c a k names range v t active did goes right p stands.free in
-      let tells = told_work seat p.current (v.session seat).stand its.told stands.tells.now active its.is in
+      let tells = told_work seat p.current (v.session seat).stand its.told stands.told.tells.now active its.is in
       let kept = kept_cut tree laws table f seat session holds opened c a k names range v t active did goes right p stands.free (stop.CellsFull gave.drawn) gave.cut in record {
         told = with_line (Some c) a its.told;
         is = subst (λ (q : Progress). IsToldIn q (with_line (Some c) a its.told)) (sym (gave.hears seat (Some c) p))
@@ -214,8 +263,8 @@ module _ (tree : TreeLaws) (laws : HistoryLaws) (begun : NoneRuns)
       → Stands table f seat p v → Stands table f seat (cond (at == seat) (heard seat asked a p) p) t
   own_stands at asked a v t p (inl (is, did)) moved range right goes stands =
       subst (λ (b : Bool). Stands table f seat (cond b (heard seat asked a p) p) t) (sym (eq-eqb at seat is)) (record {
-        free = lined_free asked a v t p stands.tells.now did range right goes stands.free;
-        tells = (moved is).tells p stands.tells;
+        free = lined_free asked a v t p stands.told.tells.now did range right goes stands.free;
+        told = (moved is).tells p stands.told;
         given = lined_given asked a v t p did (moved is).given range right goes stands;
       })
   own_stands at asked a v t p (inr (another, is)) moved range right goes stands =
@@ -223,8 +272,9 @@ module _ (tree : TreeLaws) (laws : HistoryLaws) (begun : NoneRuns)
 
   passed : (p : Progress) (v u : View) → Passes seat v u → Stands table f seat p v → Stands table f seat p u
   passed p v u passes stands = record {
-    free = subst (λ (s : Session). IsFree table f p s) (sym passes.own) stands.free;
-    tells = subst (λ (s : Session). Tells seat p s) (sym passes.own) stands.tells;
+    free = subst (λ (held : List (List VersionWritten)). IsFree table f p held (u.session seat)) (sym passes.saves)
+        (subst (λ (s : Session). IsFree table f p (v.saves seat) s) (sym passes.own) stands.free);
+    told = told_same seat p v u passes.own passes.saves stands.told;
     given = λ x m. stands.given x (subst (λ (xs : List GivenUp). x ∈ xs) passes.given_up m);
   }
 
@@ -268,7 +318,7 @@ module _ (tree : TreeLaws) (laws : HistoryLaws) (begun : NoneRuns)
     pub after : View
     pub start : IsOwnRun f seat v (line_moves (take i script) (take i answers)) before
     pub did : DidLineBeside f l a before after
-    pub free : IsFree table f (fold (hears seat) p (take i (said_of script answers))) (before.session seat)
+    pub free : IsFree table f (fold (hears seat) p (take i (said_of script answers))) (before.saves seat) (before.session seat)
     pub right : (k : ℕ) → table_of l.command ≡ Some k → (x : ℕ) → made_in (before.session seat) x < made_in (after.session seat) x → table x ≡ k
     pub goes : Continues (after.session seat) (f.session seat)
 

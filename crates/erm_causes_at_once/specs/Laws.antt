@@ -6,8 +6,8 @@ use Rattle.erm_report.specs.declared.answer.Answer.{Answer}
 use Rattle.erm_script.specs.declared.script.ScriptLine.{ScriptLine}
 use Rattle.erm_good_report.specs.Causes.{HasCauseOf}
 use Rattle.erm_good_report.specs.Opening.{AtOnce, Opening}
-use Rattle.erm_good_report.specs.Refusals.{HasLogCause, HasRefusalCause, HasUnfilledCause, IsInReach, IsOwn, moment_at}
-use Rattle.erm_good_report.specs.Transactions.{Transaction}
+use Rattle.erm_good_report.specs.Refusals.{HasLogCause, HasRefusalCause, HasSaveCause, HasUnfilledCause, IsInReach, IsOwn, current_of, moment_at}
+use Rattle.erm_good_report.specs.Transactions.{Transaction, held_of}
 use Rattle.erm_causes.specs.Laws.{IsForOthers}
 use Rattle.erm_good_at_once.specs.CutReports.{moment_in}
 use Rattle.erm_lines_at_once.specs.Laws.{OfRunsAtOnce}
@@ -20,6 +20,14 @@ TellsLog opening script answers told = (i : ℕ) (l : ScriptLine) (a : Answer) �
 
 abbrev pub RunsAtOnceTellLog : Type 0
 RunsAtOnceTellLog = OfRunsAtOnce (λ opening script answers closed told. TellsLog opening script answers told)
+
+-- each answer to a line of savepoints has its cause in the lines of its transaction
+abbrev pub TellsSaves : Opening → List ScriptLine → List Answer → List Transaction → Type 0
+TellsSaves opening script answers told = (i : ℕ) (l : ScriptLine) (a : Answer) → slice_get script i ≡ Some l → slice_get answers i ≡ Some a
+    → (t : Transaction) → current_of (moment_at AtOnce opening script answers told i l) l.session ≡ Some t → HasSaveCause (held_of t) l.command a
+
+abbrev pub RunsAtOnceTellSaves : Type 0
+RunsAtOnceTellSaves = OfRunsAtOnce (λ opening script answers closed told. TellsSaves opening script answers told)
 
 -- no begin that a line tells, and no stamp that it draws, is further on than the script's lines may have moved the log
 abbrev pub RunsAtOnceAreInReach : Type 0
@@ -46,6 +54,13 @@ TellsLogIn opening whole part answers told = (i : ℕ) (l : ScriptLine) (a : Ans
 -- these causes ask for no transactions, whichever are told
 abbrev pub RunsInPartTellLog : Type 0
 RunsInPartTellLog = OfRunsInPart (λ opening whole part answers told. (all : List Transaction) → TellsLogIn opening whole part answers all)
+
+abbrev pub TellsSavesIn : Opening → (whole part : List ScriptLine) → List Answer → List Transaction → Type 0
+TellsSavesIn opening whole part answers told = (i : ℕ) (l : ScriptLine) (a : Answer) → slice_get part i ≡ Some l → slice_get answers i ≡ Some a
+    → (t : Transaction) → current_of (moment_in opening whole part answers told i l) l.session ≡ Some t → HasSaveCause (held_of t) l.command a
+
+abbrev pub RunsInPartTellSaves : Type 0
+RunsInPartTellSaves = OfRunsInPart (λ opening whole part answers told. (all : List Transaction) → TellsSavesIn opening whole part answers all)
 
 abbrev pub RunsInPartAreInReach : Type 0
 RunsInPartAreInReach = OfRunsInPart (λ opening whole part answers told. (i : ℕ) (l : ScriptLine) (a : Answer) → slice_get part i ≡ Some l → slice_get answers i ≡ Some a

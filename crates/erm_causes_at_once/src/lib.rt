@@ -2,14 +2,15 @@
 //! contract of a function that does nothing.
 #![tactic(auto)]
 
-ghost use Rattle.erm_causes_at_once.specs.Laws.{RunsAtOnceAreInReach, RunsAtOnceHaveCauses, RunsAtOnceRefuseForOthers, RunsAtOnceTellLog, RunsInPartAreInReach, RunsInPartHaveCauses, RunsInPartRefuseForOthers, RunsInPartTellLog};
+ghost use Rattle.erm_causes_at_once.specs.Laws.{RunsAtOnceAreInReach, RunsAtOnceHaveCauses, RunsAtOnceRefuseForOthers, RunsAtOnceTellLog, RunsAtOnceTellSaves, RunsInPartAreInReach, RunsInPartHaveCauses, RunsInPartRefuseForOthers, RunsInPartTellLog, RunsInPartTellSaves};
 ghost use Rattle.erm_lines_at_once.specs.Laws.{RunsAtOnceAreSerialWithSnapshots, RunsAtOnceHaveSafeSnapshots};
 ghost use Rattle.erm_lines_at_once.specs.Parts.{RunsInPartAreSerialWithSnapshots, RunsInPartHaveSafeSnapshots};
 
-/// Of an execution that is told in part: each answer that needs no transaction has its cause, and no begin and no stamp is further on than
-/// the whole script's lines may have moved the log.
+/// Of an execution that is told in part: each answer that needs no transaction has its cause, and so has each one to a line of savepoints, in the
+/// lines of its transaction; and no begin and no stamp is further on than the whole script's lines may have moved the log.
 pub fn runs_in_part_tell_log()
     ensures log { RunsInPartTellLog }
+    ensures saves { RunsInPartTellSaves }
     ensures reach { RunsInPartAreInReach }
 {
     erm_maps::begun_transactions_are_runs();
@@ -53,6 +54,14 @@ pub fn runs_in_part_have_safe_snapshots()
 /// flushed yet, that a session's numbers are at their end, or where the log is flushed.
 pub fn runs_at_once_tell_log()
     ensures { RunsAtOnceTellLog }
+{
+    runs_in_part_tell_log();
+}
+
+/// Each answer to a line that makes a savepoint, or goes back to one, has its cause in the lines of its transaction: how many savepoints it holds is
+/// told by them.
+pub fn runs_at_once_tell_saves()
+    ensures { RunsAtOnceTellSaves }
 {
     runs_in_part_tell_log();
 }

@@ -151,6 +151,7 @@ module _ (f : View) (seat : ℕ) (front : Rows → List Event → Type 0) (asks 
 pub record Holds (seat : ℕ) (v t : View) : Type 0 where
   pub phase : phase_at t seat ≡ phase_at v seat
   pub goes : Continues (v.session seat) (t.session seat)
+  pub saves : t.saves seat ≡ v.saves seat
   pub tells : (p : Progress) → TellsAt seat p v → TellsAt seat p t
   pub onward : Onward v t
 
@@ -170,6 +171,7 @@ pub holds_passes : (seat : ℕ) (v t : View) → Passes seat v t → Holds seat 
 holds_passes seat v t passes = record {
   phase = ap (λ (s : Session). phase_of s.stand) passes.own;
   goes = continues_itself (v.session seat) (t.session seat) passes.own;
+  saves = passes.saves;
   tells = λ p told. told_same seat p v t passes.own passes.saves told;
   onward = onward_passes seat v t passes;
 }
@@ -178,6 +180,7 @@ pub holds_then : (seat : ℕ) (v u t : View) → Holds seat v u → Holds seat u
 holds_then seat v u t first second = record {
   phase = second.phase ∙ first.phase;
   goes = continues_then (v.session seat) (u.session seat) (t.session seat) first.goes second.goes;
+  saves = second.saves ∙ first.saves;
   tells = λ p told. second.tells p (first.tells p told);
   onward = onward_then v u t first.onward second.onward;
 }
@@ -188,6 +191,7 @@ holds_cut f seat front asks why v t active cut stays =
     let (u, stand, more, over) = cut_goes f seat front asks why v t active cut stays in record {
       phase = ap phase_of stand ∙ sym active;
       goes = went_from (v.session seat) (t.session seat) active (u, stand, more, over);
+      saves = cut_saves f seat front asks why v t active cut stays;
       tells = λ p told. record {
         tells = record {
           over = subst (λ (fs : List Finished). TellsOver seat p.over p.snapshots fs) (sym over) told.tells.over;
