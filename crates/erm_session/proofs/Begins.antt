@@ -23,8 +23,11 @@ use Rattle.erm_session.specs.declared.room.Room.{Room}
 use Rattle.erm_session.specs.declared.session.Session.{Session}
 use Rattle.erm_session.specs.declared.session.Stage.{Stage}
 use Rattle.erm_session.specs.declared.session.Stage.TheVariants as stage
+use Rattle.erm_savepoints.specs.Saves.{no_saves, KeptSaves}
+use Rattle.erm_session.specs.Saves.{AreSaves}
 use Rattle.erm_session.specs.Session.{phase_of, HasRoom, IsSession, StageIs}
 use Rattle.erm_session.proofs.Goes.{open_idle}
+use Rattle.erm_session.proofs.Saved.{has_idle, new_saves}
 
 -- an idle session's seat is idle
 idle_by : (s : Stage) (x : Part) → StageIs s x → phase_of s ≡ phase.Idle → x.place ≡ place.Idle
@@ -98,20 +101,21 @@ module _ (s : Session) (v : View) (is : IsSession s (part_of v s.seat)) (idle : 
         rows_read = is.rows_read;
         rows_claimed = is.rows_claimed;
         window = open_idle s.stage (saw tail x) idle;
+        saves = has_idle s.stage s.saves (saw tail x) idle;
       })
 
   -- one that began, and keeps this transaction
-  module _ (t : Active) (room : Option Room) (rows_read rows_claimed : Vec (List ℕ) Global) (begin : ℕ) (w : View) (did : DidBegin v s.seat begin w) where
+  module _ (t : Active) (room : Option Room) (rows_read rows_claimed : Vec (List ℕ) Global) (saves : KeptSaves) (begin : ℕ) (w : View) (did : DidBegin v s.seat begin w) where
     abbrev y : Part
     y = begun_part s.seat did.announced begin x
 
     abbrev n : Session
-    n = record s { number = s.number + 1; stage = stage.Active t; room = room; rows_read = rows_read; rows_claimed = rows_claimed }
+    n = record s { number = s.number + 1; stage = stage.Active t; room = room; rows_read = rows_read; rows_claimed = rows_claimed; saves = saves }
 
     pub begun_session : t.begin ≡ begin → t.number ≡ s.number + 1 → t.reads.value.items ≡ [] → t.claims.value.items ≡ [] → t.succ ≡ 0 → t.pred ≡ 0
         → rows_read.items ≡ [] → vec_capacity rows_read ≡ vec_capacity s.rows_read → rows_claimed.items ≡ [] → vec_capacity rows_claimed ≡ vec_capacity s.rows_claimed
-        → IsSession n (part_of w s.seat)
-    begun_session begin_is number_is reads claims succ pred no_read room_read no_claimed room_claimed =
+        → saves ≡ no_saves → IsSession n (part_of w s.seat)
+    begun_session begin_is number_is reads claims succ pred no_read room_read no_claimed room_claimed no_saved =
         subst (λ (z : Part). IsSession n z) (sym (part_of-changed v s.seat w y x there did.view_is))
         (record {
           kept = record {
@@ -129,4 +133,5 @@ module _ (s : Session) (v : View) (is : IsSession s (part_of v s.seat)) (idle : 
           rows_read = no_read;
           rows_claimed = no_claimed;
           window = refl;
+          saves = subst (λ (m : KeptSaves). AreSaves m y) (sym no_saved) (new_saves y refl);
         })

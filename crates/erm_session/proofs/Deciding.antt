@@ -123,6 +123,7 @@ went_session s t u v w stands at went now =
       rows_read = stands.rows_read;
       rows_claimed = stands.rows_claimed;
       window = tt;
+      saves = tt;
     })
 
 -- Of a session's sealed transaction, whose settle has passed all versions.

@@ -29,6 +29,7 @@ use Rattle.erm_session.specs.declared.session.Stage.TheVariants as stage
 use Rattle.erm_session.specs.Session.{HasRoom, IsSession, StageIs, phase_of}
 use Rattle.erm_session.specs.Settle.{EndsAs}
 use Rattle.erm_session.proofs.Goes.{open_idle}
+use Rattle.erm_session.proofs.Saved.{has_idle}
 
 -- a decided seat isn't vacant, and is held
 decided_taken : (pl : Place) → is_decided pl ≡ true → is_vacant pl ≡ false
@@ -93,6 +94,7 @@ left_session s x y left session run low number idle room spare room_read room_cl
   rows_read = no_read ∙ sym (ap (λ (t : Attempt). map (λ (r : Read). r.row) t.reads) left.current);
   rows_claimed = no_claimed ∙ sym (ap (λ (t : Attempt). map (λ (w : Claim). w.row) t.writes) left.current);
   window = open_idle s.stage y idle;
+  saves = has_idle s.stage s.saves y idle;
 }
   where
     idle_stage : (st : Stage) (z : Part) → phase_of st ≡ phase.Idle → z.place ≡ Idle → StageIs st z

@@ -23,7 +23,10 @@ use Rattle.erm_session.specs.declared.session.Session.{Session}
 use Rattle.erm_session.specs.declared.session.Stage.{Stage}
 use Rattle.erm_session.specs.declared.session.Stage.TheVariants as stage
 use Rattle.erm_session.specs.Calls.{EndsWhere}
+use Rattle.erm_savepoints.specs.Saves.{KeptSaves}
+use Rattle.erm_session.specs.Saves.{HasSaves}
 use Rattle.erm_session.specs.Session.{HasRoom, IsKept, IsOpen, IsSession, StageIs, has_closed, phase_of}
+use Rattle.erm_session.proofs.Saved.{saves_on, saves_stay}
 
 -- the seat's part after a step in the course of its transaction: it may start a call again
 pub record Goes (x y : Part) : Type 0 where
@@ -132,8 +135,8 @@ open_idle (stage.Safe begin) x e = absurd (cc)
 
 -- a session with these rows
 pub with_rows : (s : Session) (x : Part) → IsKept s x → s.rows_read.items ≡ map (λ (r : Read). r.row) x.current.reads
-    → s.rows_claimed.items ≡ map (λ (w : Claim). w.row) x.current.writes → IsOpen s.stage x → IsSession s x
-with_rows s x is rows_read rows_claimed window = record { kept = is; rows_read = rows_read; rows_claimed = rows_claimed; window = window }
+    → s.rows_claimed.items ≡ map (λ (w : Claim). w.row) x.current.writes → IsOpen s.stage x → HasSaves s.stage s.saves x → IsSession s x
+with_rows s x is rows_read rows_claimed window saves = record { kept = is; rows_read = rows_read; rows_claimed = rows_claimed; window = window; saves = saves }
 
 -- a transaction is as before, but for what it gave up
 pub record SameWork (x y : Part) : Type 0 where
@@ -144,9 +147,10 @@ same_current x y e = record { same = subst (λ (t : Attempt). t ≡ record x.cur
 
 -- a session whose transaction is so
 pub same_rows : (s new : Session) (x y : Part) → IsSession s x → phase_of s.stage ≡ phase.Active → IsKept new y → SameWork x y → new.rows_read.items ≡ s.rows_read.items
-    → new.rows_claimed.items ≡ s.rows_claimed.items → IsSession new y
-same_rows s new x y is active_is kept work rows_read rows_claimed = record {
+    → new.rows_claimed.items ≡ s.rows_claimed.items → new.saves ≡ s.saves → IsSession new y
+same_rows s new x y is active_is kept work rows_read rows_claimed saves = record {
   kept = kept;
+  saves = subst (λ (n : KeptSaves). HasSaves new.stage n y) (sym saves) (saves_on s.stage new.stage s.saves s.saves x y active_is is.saves (saves_stay s.saves x y (ap (λ (n : Attempt). n.writes) work.same)));
   window = open_still s.stage new.stage x y active_is is.window (ap (λ (n : Attempt). n.succ) work.same) (ap (λ (n : Attempt). n.pred) work.same);
   rows_read = rows_read ∙ is.rows_read ∙ ap (λ (n : Attempt). map (λ (r : Read). r.row) n.reads) (sym work.same);
   rows_claimed = rows_claimed ∙ is.rows_claimed ∙ ap (λ (n : Attempt). map (λ (w : Claim). w.row) n.writes) (sym work.same);

@@ -1,11 +1,12 @@
 -- What a session keeps, where of its seat's part only the call in progress and the objects made are others.
-use Rattle.std.proofs.Common.{ℕ, List}
+use Rattle.std.proofs.Common.{ℕ, List, refl}
 use Rattle.erm_machine.specs.declared.part.Part.{Part}
 use Rattle.erm_machine.specs.declared.task.Task.{Task}
 use Rattle.erm_session.specs.declared.session.Session.{Session}
 use Rattle.erm_session.specs.declared.session.Stage.{Stage}
 use Rattle.erm_session.specs.declared.session.Stage.TheVariants as stage
 use Rattle.erm_session.specs.Session.{IsOpen, IsSession, StageIs}
+use Rattle.erm_session.proofs.Saved.{has_same}
 
 -- the part with another call in progress, and other objects made
 abbrev pub with_made : Task → List ℕ → Part → Part
@@ -37,4 +38,5 @@ made_session s t made x stands is = record {
   rows_read = is.rows_read;
   rows_claimed = is.rows_claimed;
   window = window_made s.stage t made x is.window;
+  saves = has_same s.stage s.saves x (with_made t made x) refl is.saves;
 }

@@ -14,6 +14,7 @@ pub mod Rests
 pub mod RowSet
 pub mod RowsClaimed
 pub mod RowsRead
+pub mod Saved
 pub mod Seals
 pub mod Skewing
 pub mod Snapshots

@@ -1,5 +1,5 @@
 -- A look at the place flushed: a sealed transaction may have begun its settle by it, or begun it anew.
-use Rattle.std.proofs.Common.{◌≡◌, ℕ, Bool, true, false, Option, Some, is_some, refl, sym, ap, subst}
+use Rattle.std.proofs.Common.{◌≡◌, ◌∙◌, ℕ, Bool, true, false, Option, Some, is_some, refl, sym, ap, subst}
 use Rattle.std.specs.Prelude.{if◌then◌else◌, ◌&&◌, not, IsSome}
 use Rattle.std.proofs.lemmas.Bool.{and_parts}
 use Rattle.erm_machine.specs.declared.event.Kind.TheVariants as kind
@@ -103,3 +103,12 @@ module _ (s : Session) (v : View) (is : IsSession s (part_of v s.seat)) where
         (λ (all : (is_sealed x.place && may_settle x.task && has_room found x.current) ≡ true).
         (and_parts (is_sealed x.place) (may_settle x.task) (and_parts (is_sealed x.place && may_settle x.task) (has_room found x.current) all).0).0)
         is)
+
+    settled_writes : (all : Bool) → (if all then with_task (task.Settles 0 0) x else x).current.writes ≡ x.current.writes
+    settled_writes true = refl
+    settled_writes false = refl
+
+    pub looked_writes : (part_of w s.seat).current.writes ≡ x.current.writes
+    looked_writes =
+        ap (λ (z : Part). z.current.writes) (part_of-changed v who w (load_flushed_to_settle found x) x there looked_is)
+        ∙ settled_writes (is_sealed x.place && may_settle x.task && has_room found x.current)

@@ -139,6 +139,9 @@ module _ (s : Session) (v : View) (is : IsSession s (part_of v s.seat)) (e : pha
       none_is : u ≡ with_part who (with_task task.Rest x) v
       none_is = loaded_is false (le-ltb seen OBJECT_LIMIT high)
 
+      pub writes_first : (part_of u s.seat).current.writes ≡ x.current.writes
+      writes_first = ap (λ (z : Part). z.current.writes) (part_of-changed v who u (with_task task.Rest x) x there none_is)
+
       pub session_first : IsSession s (part_of u s.seat)
       session_first =
           subst (λ (z : Part). IsSession s z) (sym (part_of-changed v who u (with_task task.Rest x) x there none_is)) (made_session s task.Rest x.current.made x (made_stage s.stage task.Rest x.current.made x e refl is.kept.stage) is)
@@ -186,6 +189,9 @@ module _ (s : Session) (v : View) (is : IsSession s (part_of v s.seat)) (e : pha
             let made = if low then x.current.made ++ found ∷ [] else x.current.made in
             subst (λ (z : Part). IsSession s z) (sym (part_of-changed v who w (raised_part found low x) x there (raised_is low at)))
             (made_session s task.Rest made x (made_stage s.stage task.Rest made x e refl is.kept.stage) is)
+
+        pub writes_then : (part_of w s.seat).current.writes ≡ x.current.writes
+        writes_then = ap (λ (z : Part). z.current.writes) (part_of-changed v who w (raised_part found (ltb found OBJECT_LIMIT) x) x there (raised_is (ltb found OBJECT_LIMIT) refl))
 
         pub session_then : IsSession s (part_of w s.seat)
         session_then = session_so (ltb found OBJECT_LIMIT) refl

@@ -21,6 +21,7 @@ use Rattle.erm_session.specs.declared.room.Room.{Room}
 use Rattle.erm_session.specs.declared.session.Session.{Session}
 use Rattle.erm_session.specs.declared.session.Stage.{Stage}
 use Rattle.erm_session.specs.declared.session.Stage.TheVariants as stage
+use Rattle.erm_session.specs.Saves.{HasSaves}
 use Rattle.erm_session.specs.Session.{HasRoom, IsKept, IsOpen, IsSession, StageIs}
 
 -- where a call may start anew an active transaction may begin to end
@@ -86,4 +87,5 @@ module _ (s : Session) (t : Active) (v : View) (kept : IsKept s (part_of v s.sea
         rows_read = no_read;
         rows_claimed = no_claimed;
         window = subst (λ (a : Stage). IsOpen a y) (sym after_is) tt;
+        saves = subst (λ (a : Stage). HasSaves a s.saves y) (sym after_is) tt;
       })

@@ -26,15 +26,23 @@ use Rattle.erm_rule.specs.Hands.{IsKnown}
 use Rattle.erm_rule.specs.Views.{part_of, with_part}
 use Rattle.erm_rule.proofs.Telling.{part_of-changed}
 use Rattle.erm_session.specs.declared.session.Stage.{Stage}
+use Rattle.erm_savepoints.specs.Saves.{KeptSaves}
 use Rattle.erm_session.specs.Calls.{SetsRow}
+use Rattle.erm_session.specs.Saves.{AreSaves}
 use Rattle.erm_session.specs.Session.{IsOpen, phase_of}
 use Rattle.erm_session.proofs.Goes.{Goes, open_still}
+use Rattle.erm_session.proofs.Saved.{ClaimsGo, go_set, saves_set}
 
 -- any row may be stored into a claim's cell where a call may start
 may_store_at : (cell : ℕ) (row : List ℕ) (x : Part) (t : Task) → starts_anew t ≡ true → Owns cell x → MayStoreRow cell row x t
 may_store_at cell row x (task.Copies word) starts owns = absurd (cc)
 may_store_at cell row x (task.Cleared oid) starts owns = absurd (cc)
 may_store_at cell row x _ starts owns = (starts, owns)
+
+-- no row is copied where a call may start
+pub starts_copy : (t : Task) → starts_anew t ≡ true → is_copying t ≡ false
+starts_copy (task.Copies word) e = absurd (cc)
+starts_copy _ e = refl
 
 -- an own cell is the same with another row
 own_same : (cell : ℕ) (row : List ℕ) (own : Option OwnCell) → is_own cell (with_own_row row own) ≡ is_own cell own
@@ -121,6 +129,19 @@ module _ (v : View) (who : ℕ) (active : is_active (part_of v who).place ≡ tr
         ∙ ap (λ (rs : List (List ℕ)). set rs place row) old_is
         ∙ sym (map-set (λ (u : Claim). u.row) x.current.writes place c)
         ∙ ap (λ (z : Part). map (λ (u : Claim). u.row) z.current.writes) (sym here)
+
+    writes_now : (part_of w who).current.writes ≡ set x.current.writes place c
+    writes_now = ap (λ (z : Part). z.current.writes) here
+
+    set_now : is_set ≡ true
+    set_now = ap (λ (b : Bool). not b) (starts_copy x.task starts)
+
+    -- what is kept of its savepoints
+    pub saves_set_row : (s : KeptSaves) → AreSaves s x → AreSaves (record s { is_set = set s.is_set place true }) (part_of w who)
+    saves_set_row s kept = saves_set s x (part_of w who) place c true writes_now refl set_now kept
+
+    pub go_set_row : ClaimsGo x.current.writes (part_of w who).current.writes
+    go_set_row = go_set x.current.writes (part_of w who).current.writes place c writes_now refl
 
     pub open_set : (g : Stage) → phase_of g ≡ phase.Active → IsOpen g x → IsOpen g (part_of w who)
     open_set g at window = subst (λ (z : Part). IsOpen g z) (sym here) (open_still g g x y at window refl refl)

@@ -24,6 +24,9 @@ use Rattle.erm_rule.specs.Hands.{IsKnown}
 use Rattle.erm_rule.specs.Views.{part_of, with_part}
 use Rattle.erm_rule.proofs.Telling.{changed_here, part_of-changed}
 use Rattle.erm_session.specs.Calls.{is_end, IsClaimedAt, IsUnclaimed, RefusesClaim}
+use Rattle.erm_savepoints.specs.Saves.{KeptSaves}
+use Rattle.erm_session.specs.Saves.{AreSaves}
+use Rattle.erm_session.proofs.Saved.{ClaimsGo, go_more, saves_more}
 use Rattle.erm_session.proofs.Goes.{ends_where, goes_same, same_current, Goes, SameWork}
 use Rattle.erm_rows.specs.declared.claiming.Claimed.{Claimed}
 
@@ -67,6 +70,19 @@ module _ (v : View) (who oid : ℕ) (active : is_active (part_of v who).place �
 
     few : length (x.current.writes ++ claim ∷ []) ≤ WRITE_LIMIT
     few = subst (λ (z : Part). length z.current.writes ≤ WRITE_LIMIT) (did.known.is_view who y (changed_here v who w y x (has v who active) did.view_is)) (did.known.sound.own who).ranges.few
+
+    pub few_claimed : length x.current.writes < WRITE_LIMIT
+    few_claimed = let more = length_push x.current.writes claim in let most = few in omega (arith, more, most)
+
+    writes_now : (part_of w who).current.writes ≡ x.current.writes ++ claim ∷ []
+    writes_now = ap (λ (z : Part). z.current.writes) here
+
+    -- what is kept of its savepoints
+    pub saves_claimed : (s : KeptSaves) → AreSaves s x → AreSaves (record s { found = s.found ++ row ∷ []; is_set = s.is_set ++ false ∷ [] }) (part_of w who)
+    saves_claimed s is = saves_more s x (part_of w who) claim row writes_now did.row_is refl is
+
+    pub go_claimed : ClaimsGo x.current.writes (part_of w who).current.writes
+    go_claimed = go_more x.current.writes (part_of w who).current.writes claim writes_now
 
     -- there is room for its row
     pub room_claimed : (rows : List (List ℕ)) (room : ℕ) → rows ≡ map (λ (c : Claim). c.row) x.current.writes → WRITE_LIMIT ≤ room → length rows < room

@@ -98,6 +98,9 @@ module _ (v : View) (who oid : ℕ) (active : is_active (part_of v who).place �
     pub rows_stay : (rows : List (List ℕ)) → rows ≡ map (λ (c : Claim). c.row) x.current.writes → rows ≡ map (λ (c : Claim). c.row) (part_of w who).current.writes
     rows_stay rows is = is ∙ ap (map (λ (c : Claim). c.row)) (sym (ap (λ (z : Part). z.current.writes) here ∙ writes_rated words so))
 
+    pub writes_read : (part_of w who).current.writes ≡ x.current.writes
+    writes_read = ap (λ (z : Part). z.current.writes) here ∙ writes_rated words so
+
     few : length (part_of w who).current.reads ≤ READ_LIMIT
     few = subst (λ (z : Part). length z.current.reads ≤ READ_LIMIT) (did.known.is_view who y (changed_here v who w y x (has v who active) did.view_is) ∙ sym here) (did.known.sound.own who).ranges.few_reads
 

@@ -74,4 +74,5 @@ module _ (s : Session) (t : Active) (v : View) (is : IsSession s (part_of v s.se
           rows_read = is.rows_read;
           rows_claimed = is.rows_claimed;
           window = tt;
+          saves = tt;
         })

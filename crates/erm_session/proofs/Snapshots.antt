@@ -33,6 +33,7 @@ use Rattle.erm_session.specs.declared.session.Session.{Session}
 use Rattle.erm_session.specs.declared.session.Stage.{Stage}
 use Rattle.erm_session.specs.declared.session.Stage.TheVariants as stage
 use Rattle.erm_session.specs.Safe.{IsSnapshotPhase, MayEndSafe}
+use Rattle.erm_session.specs.Saves.{HasSaves}
 use Rattle.erm_session.specs.Session.{phase_of, rests_safe, HasRoom, IsOpen, IsSession, StageIs}
 use Rattle.erm_session.proofs.Begins.{idle_place}
 use Rattle.erm_session.proofs.Ending.{left_session}
@@ -142,11 +143,12 @@ module _ (s : Session) (v : View) (is : IsSession s (part_of v s.seat)) (idle : 
         rows_read = no_read;
         rows_claimed = no_claimed;
         window = tt;
+        saves = tt;
       })
 
 -- THE LOOK. Another task of its seat alone is changed.
-tasked_session : (s : Session) (u : Task) (g : Stage) (a : Part) → StageIs g (with_task u a) → HasRoom g s.room → IsOpen g (with_task u a) → IsSession s a → IsSession (record s { stage = g }) (with_task u a)
-tasked_session s u g a stands room window is = record {
+tasked_session : (s : Session) (u : Task) (g : Stage) (a : Part) → StageIs g (with_task u a) → HasRoom g s.room → IsOpen g (with_task u a) → HasSaves g s.saves (with_task u a) → IsSession s a → IsSession (record s { stage = g }) (with_task u a)
+tasked_session s u g a stands room window saves is = record {
   kept = record {
     session = is.kept.session;
     run = is.kept.run;
@@ -162,6 +164,7 @@ tasked_session s u g a stands room window is = record {
   rows_read = is.rows_read;
   rows_claimed = is.rows_claimed;
   window = window;
+  saves = saves;
 }
 
 module _ (s : Session) (v : View) (is : IsSession s (part_of v s.seat)) (begin from : ℕ) (at : s.stage ≡ stage.Pending begin from) where
@@ -180,12 +183,12 @@ module _ (s : Session) (v : View) (is : IsSession s (part_of v s.seat)) (begin f
   pub safe_session : (w : View) → DidSurvey v s.seat w → IsSession (record s { stage = stage.Safe begin }) (part_of w s.seat)
   safe_session w did =
       subst (λ (z : Part). IsSession (record s { stage = stage.Safe begin }) z) (sym (part_of-changed v s.seat w (with_task task.Safe p) p held did.view_is))
-      (tasked_session s task.Safe (stage.Safe begin) p (pends.0, refl, pends.3, pends.4) (safe_has s.room begin spacious) tt is)
+      (tasked_session s task.Safe (stage.Safe begin) p (pends.0, refl, pends.3, pends.4) (safe_has s.room begin spacious) tt tt is)
 
   pub waiting_session : (seat seen : ℕ) (w : View) → WaitsFor v s.seat seat seen w → IsSession (record s { stage = stage.Pending begin seat }) (part_of w s.seat)
   waiting_session seat seen w waits =
       subst (λ (z : Part). IsSession (record s { stage = stage.Pending begin seat }) z) (sym (part_of-changed v s.seat w (with_task (task.Surveys seat) p) p held waits.view_is))
-      (tasked_session s (task.Surveys seat) (stage.Pending begin seat) p (pends.0, refl, waits.session, pends.3, pends.4) (pending_has s.room begin seat spacious) tt is)
+      (tasked_session s (task.Surveys seat) (stage.Pending begin seat) p (pends.0, refl, waits.session, pends.3, pends.4) (pending_has s.room begin seat spacious) tt tt is)
 
   pub unsafe_may_end : (seat stamp : ℕ) (w : View) → IsUnsafeBy v s.seat seat stamp w → MayEndSafe s (part_of w s.seat)
   unsafe_may_end seat stamp w unsafe =

@@ -42,7 +42,10 @@ module _ (s : Session) (v : View) (is : IsSession s (part_of v s.seat)) (t : Act
       let same = ap (λ (z : Part). z.current) y_is in
       same_rows s (record s { spare = spare }) x (part_of w s.seat) is on
       (goes_on s (record s { spare = spare }) x (part_of w s.seat) is.kept goes (stage_goes s x is.kept t at (part_of w s.seat) goes (kept_same t x (part_of w s.seat) (sym same) (kept s x is.kept t at))) on spare_is refl refl refl
-      is.kept.room_read is.kept.room_claimed refl) (same_current x (part_of w s.seat) same) refl refl
+      is.kept.room_read is.kept.room_claimed refl) (same_current x (part_of w s.seat) same) refl refl refl
+
+  pub tidied_writes : (part_of w s.seat).current.writes ≡ x.current.writes
+  tidied_writes = ap (λ (z : Part). z.current.writes) y_is
 
 -- where the object wasn't claimed it is now
 pub claims_too : (v : View) (who oid : ℕ) (w : View) → IsUnclaimed (part_of v who) oid → (r : Result ℕ RowStop) → OnOk r (ClaimsObject v who oid w) → IfOk r (λ cut. TidiesObject v who oid cut w)

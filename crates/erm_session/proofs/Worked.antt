@@ -46,4 +46,5 @@ module _ (s : Session) (old new : Pre) (v w : View) (stage_is : s.stage ≡ stag
     rows_read = is.rows_read ∙ sym (ap (λ (z : Part). map (λ (r : Read). r.row) z.current.reads) there);
     rows_claimed = is.rows_claimed ∙ sym (ap (λ (z : Part). map (λ (c : Claim). c.row) z.current.writes) there);
     window = tt;
+    saves = tt;
   }

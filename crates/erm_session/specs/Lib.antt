@@ -3,6 +3,8 @@ pub mod Lasting
 pub mod Making
 pub mod Opening
 pub mod Safe
+pub mod Saves
+pub mod Saving
 pub mod Session
 pub mod Settle
 pub mod Skew

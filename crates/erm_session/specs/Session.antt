@@ -24,6 +24,7 @@ use Rattle.erm_session.specs.declared.room.Room.{Room}
 use Rattle.erm_session.specs.declared.session.Session.{Session}
 use Rattle.erm_session.specs.declared.session.Stage.{Stage}
 use Rattle.erm_session.specs.declared.session.Stage.TheVariants as stage
+use Rattle.erm_session.specs.Saves.{HasSaves}
 
 -- the phase of a session
 abbrev pub phase_of : Stage → Phase
@@ -81,9 +82,10 @@ IsOpen (stage.Active t) x = has_closed x.current ≡ false
 IsOpen g x = Unit {0}
 
 -- What the session keeps is its seat's, and the rows kept are those that the transaction has read, and those of its claims. The exclusion
--- window known so far of an active one is open.
+-- window known so far of an active one is open, and what is kept of its savepoints is so.
 pub record IsSession (s : Session) (x : Part) : Type 0 where
   pub kept : IsKept s x
   pub rows_read : s.rows_read.items ≡ map (λ (r : Read). r.row) x.current.reads
   pub rows_claimed : s.rows_claimed.items ≡ map (λ (w : Claim). w.row) x.current.writes
   pub window : IsOpen s.stage x
+  pub saves : HasSaves s.stage s.saves x

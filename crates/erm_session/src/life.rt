@@ -1,5 +1,5 @@
 //! A transaction's begin, and its end by an abort.
-ghost use Rattle.std.specs.Prelude.{◌≡◌, ℕ, true, false, IfErr, IfOk};
+ghost use Rattle.std.specs.Prelude.{◌≡◌, ℕ, true, false, [], IfErr, IfOk};
 ghost use Rattle.erm_ends.specs.Ends.{DidAbort};
 ghost use Rattle.erm_ends.specs.Took.{TookAbort};
 ghost use Rattle.erm_model.specs.declared.outcome.Phase.TheVariants as phase;
@@ -10,6 +10,7 @@ ghost use Rattle.erm_rule.specs.Steps.{Fits};
 ghost use Rattle.erm_rule.specs.Views.{view, part_of};
 ghost use Rattle.erm_seats.specs.Calls.{DidBegin, DidStop};
 ghost use Rattle.erm_session.specs.Calls.{IsRefusedPhase, MayNotBegin, is_end};
+ghost use Rattle.erm_session.specs.Saves.{saves_of};
 ghost use Rattle.erm_session.specs.Session.{IsKept, IsSession, phase_of};
 ghost use Rattle.erm_cells.specs.Took.{IsEndStep};
 ghost use Rattle.erm_rule.specs.Went.{Went};
@@ -37,6 +38,7 @@ impl Session {
         ensures stands { IsSession self.new (part_of (view p.new) self.old.seat) }
         ensures begun { IfOk result (λ begin. DidBegin (view p.old) self.old.seat begin (view p.new)) }
         ensures active { IfOk result (λ begin. phase_of self.new.stage ≡ phase.Active) }
+        ensures unsaved { IfOk result (λ begin. saves_of self.new (part_of (view p.new) self.old.seat) ≡ []) }
         ensures refused { IfErr result (λ stop. MayNotBegin (view p.old) self.old.seat stop (view p.new)) }
         ensures idle { IfErr result (λ stop. phase_of self.new.stage ≡ phase.Idle) }
         ensures took { IfOk result (λ begin. TookBegin L.law self.old.seat begin (book p.old) (book p.new)) }
@@ -55,6 +57,7 @@ impl Session {
         self.number += 1;
         self.rows_read.clear();
         self.rows_claimed.clear();
+        self.saves.clear();
         self.stage = Stage::Active(room.begin(begin, self.number));
         Ok(begin)
     }
@@ -117,6 +120,7 @@ impl Session {
         ensures ended { is_end why ≡ true → DidAbort (view p.old) self.old.seat (view p.new) }
         ensures stays { is_end why ≡ false → view p.new ≡ view p.old }
         ensures same { is_end why ≡ false → book p.new ≡ book p.old }
+        ensures left { is_end why ≡ false → self.new ≡ self.old }
         ensures phase { IsRefusedPhase why (phase_of self.new.stage) }
         ensures ends { is_end why ≡ true → Went L.law self.old.seat IsEndStep (book p.old) (book p.new) }
         ensures took { is_end why ≡ true → TookAbort L.law self.old.seat (book p.old) (book p.new) }

@@ -7,6 +7,8 @@ ghost use Rattle.erm_rule.specs.Hands.{IsKnown};
 ghost use Rattle.erm_rule.specs.Steps.{Fits};
 ghost use Rattle.erm_rule.specs.Views.{view, part_of};
 ghost use Rattle.erm_session.specs.Making.{IsFlushedTo, LooksAtFlushed, MakesObject, RefusesObject};
+ghost use Rattle.erm_session.specs.Saves.{saves_of};
+ghost use Rattle.erm_session.specs.Saving.{StaySaved};
 ghost use Rattle.erm_session.specs.Session.{IsSession, phase_of};
 ghost use Rattle.erm_machine.specs.declared.event.Kind.TheVariants.{LoadFlushed};
 ghost use Rattle.erm_rule.specs.Went.{IsStillStep, Took, Went};
@@ -29,6 +31,7 @@ impl Session {
         ensures known { IsKnown (view p.new) }
         ensures seat { self.new.seat ≡ self.old.seat }
         ensures stands { IsSession self.new (part_of (view p.new) self.old.seat) }
+        ensures saves { StaySaved self.old (part_of (view p.old) self.old.seat) self.new (part_of (view p.new) self.old.seat) }
         ensures active { phase_of self.new.stage ≡ phase.Active }
         ensures object { IfOk result (λ oid. oid < OBJECT_LIMIT) }
         ensures made { IfOk result (λ oid. MakesObject (view p.old) self.old.seat oid (view p.new)) }
@@ -60,6 +63,7 @@ impl Session {
         ensures fits { Fits t.now.words.shared.table_id p.new }
         ensures known { IsKnown (view p.new) }
         ensures stands { IsSession self.now (part_of (view p.new) self.now.seat) }
+        ensures saves { saves_of self.now (part_of (view p.new) self.now.seat) ≡ saves_of self.now (part_of (view p.old) self.now.seat) }
         ensures looked { LooksAtFlushed (view p.old) self.now.seat (view p.new) }
         ensures synced { OnOk result (IsFlushedTo receipt.now.end (book p.new)) }
         ensures unsynced { IfErr result (λ stop. WasFlushed (book p.old) stop.flushed (book p.new) × (stop.flushed < receipt.now.end)) }

@@ -9,6 +9,7 @@ ghost use Rattle.erm_rule.specs.Hands.{IsKnown};
 ghost use Rattle.erm_rule.specs.Steps.{Fits};
 ghost use Rattle.erm_rule.specs.Views.{view, part_of};
 ghost use Rattle.erm_session.specs.Calls.{IsRefusedPhase, IsUnclaimed, IsUnread, ReadsRow, RefusesRead};
+ghost use Rattle.erm_session.specs.Saving.{StaySaved};
 ghost use Rattle.erm_session.specs.Session.{IsOpen, IsSession, StageIs, phase_of};
 ghost use Rattle.erm_rows.specs.Took.{TookNotRead, TookRead};
 ghost use Rattle.erm_rule.specs.Went.{IsStillStep, Went};
@@ -65,6 +66,7 @@ impl Session {
         ensures known { IsKnown (view p.new) }
         ensures seat { self.new.seat ≡ self.old.seat }
         ensures stands { IsSession self.new (part_of (view p.new) self.old.seat) }
+        ensures saves { StaySaved self.old (part_of (view p.old) self.old.seat) self.new (part_of (view p.new) self.old.seat) }
         ensures read { IfOk result (λ row. ReadsRow (view p.old) self.old.seat oid row (view p.new)) }
         ensures active { IfOk result (λ row. phase_of self.new.stage ≡ Active) }
         ensures refused { IfErr result (λ stop. RefusesRead (view p.old) self.old.seat oid stop (view p.new)) }

@@ -12,6 +12,7 @@ use erm_machine::{READ_LIMIT, WRITE_LIMIT};
 use erm_model::{LAST_RUN, Phase, Row, Seat, Stamp};
 use erm_precommit::Pre;
 use erm_rows::Active;
+use erm_savepoints::Saves;
 use std::alloc::{AllocError, Global};
 
 /// Where a session stands, with its transaction.
@@ -46,6 +47,8 @@ pub struct Session {
     pub(crate) rows_read: Vec<Row>,
     // The rows of the objects claimed, in order of claim.
     pub(crate) rows_claimed: Vec<Row>,
+    // What it keeps to go back to the savepoints of its transaction.
+    pub(crate) saves: Saves,
     // The block of the last transaction decided, and the words of one.
     pub(crate) decided: Box<Block>,
     pub(crate) block: Vec<u64>,
@@ -63,6 +66,7 @@ impl Session {
         let spare = Spare::new(alloc)?;
         let rows_read = Vec::with_capacity(alloc, READ_LIMIT)?;
         let rows_claimed = Vec::with_capacity(alloc, WRITE_LIMIT)?;
+        let saves = Saves::new(alloc)?;
         let decided = Box::new(alloc, empty_block())?;
         let block = vec![in alloc; 0; BLOCK_WORDS]?;
         Ok(Session {
@@ -74,6 +78,7 @@ impl Session {
             spare,
             rows_read,
             rows_claimed,
+            saves,
             decided,
             block,
         })

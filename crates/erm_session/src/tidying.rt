@@ -9,6 +9,7 @@ ghost use Rattle.erm_rule.specs.Steps.{Fits};
 ghost use Rattle.erm_rule.specs.Views.{view, part_of};
 ghost use Rattle.erm_rule.specs.Went.{IsStillStep, Went};
 ghost use Rattle.erm_session.specs.Calls.{IsRefusedPhase, RefusesClaim, TidiesObject};
+ghost use Rattle.erm_session.specs.Saving.{StaySaved};
 ghost use Rattle.erm_session.specs.Session.{IsSession, phase_of};
 ghost use Rattle.erm_session.specs.Took.{TookAnyTidy, TookClaimStop};
 
@@ -31,6 +32,7 @@ impl Session {
         ensures known { IsKnown (view p.new) }
         ensures seat { self.new.seat ≡ self.old.seat }
         ensures stands { IsSession self.new (part_of (view p.new) self.old.seat) }
+        ensures saves { StaySaved self.old (part_of (view p.old) self.old.seat) self.new (part_of (view p.new) self.old.seat) }
         ensures tidied { IfOk result (λ cut. TidiesObject (view p.old) self.old.seat oid cut (view p.new)) }
         ensures active { OnOk result (phase_of self.new.stage ≡ Active) }
         ensures refused { IfErr result (λ stop. RefusesClaim (view p.old) self.old.seat oid stop (view p.new)) }

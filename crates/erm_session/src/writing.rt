@@ -10,6 +10,7 @@ ghost use Rattle.erm_rule.specs.Hands.{IsKnown};
 ghost use Rattle.erm_rule.specs.Steps.{Fits};
 ghost use Rattle.erm_rule.specs.Views.{view, part_of};
 ghost use Rattle.erm_session.specs.Calls.{ClaimsObject, IsClaimedAt, IsRefusedPhase, IsUnclaimed, RefusesClaim, SetsRow, WritesRow};
+ghost use Rattle.erm_session.specs.Saving.{StaySaved};
 ghost use Rattle.erm_session.specs.Session.{IsOpen, IsSession, StageIs, phase_of};
 ghost use Rattle.erm_cells.specs.Placed.{place_of};
 ghost use Rattle.erm_cells.specs.Took.{TookRow};
@@ -75,6 +76,7 @@ impl Session {
         ensures known { IsKnown (view p.new) }
         ensures seat { self.new.seat ≡ self.old.seat }
         ensures stands { IsSession self.new (part_of (view p.new) self.old.seat) }
+        ensures saves { StaySaved self.old (part_of (view p.old) self.old.seat) self.new (part_of (view p.new) self.old.seat) }
         ensures claimed { OnOk result (ClaimsObject (view p.old) self.old.seat oid (view p.new)) }
         ensures place { IfOk result (λ claimed. IsClaimedAt (part_of (view p.new) self.old.seat) oid claimed.0) }
         ensures active { OnOk result (phase_of self.new.stage ≡ Active) }
@@ -95,6 +97,7 @@ impl Session {
             Ok(claimed) => {
                 let row = claimed.row;
                 self.rows_claimed.push_reserved(row);
+                self.saves.claim(row);
                 Ok((self.rows_claimed.len() - 1, claimed.cut))
             }
             Err(why) => {
@@ -118,6 +121,7 @@ impl Session {
         ensures known { IsKnown (view p.new) }
         ensures seat { self.new.seat ≡ self.old.seat }
         ensures stands { IsSession self.new (part_of (view p.new) self.old.seat) }
+        ensures saves { StaySaved self.old (part_of (view p.old) self.old.seat) self.new (part_of (view p.new) self.old.seat) }
         ensures claimed { OnOk result (ClaimsObject (view p.old) self.old.seat oid (view p.new)) }
         ensures active { OnOk result (phase_of self.new.stage ≡ Active) }
         ensures refused { IfErr result (λ stop. RefusesClaim (view p.old) self.old.seat oid stop (view p.new)) }
@@ -141,6 +145,7 @@ impl Session {
         ensures fits { Fits t.now.words.shared.table_id p.new }
         ensures seat { self.new.seat ≡ self.old.seat }
         ensures stands { IsSession self.new (part_of (view p.new) self.old.seat) }
+        ensures saves { StaySaved self.old (part_of (view p.old) self.old.seat) self.new (part_of (view p.new) self.old.seat) }
         ensures set { SetsRow (view p.old) self.old.seat place row.now (view p.new) }
         ensures active { phase_of self.new.stage ≡ Active }
         ensures stores { (cell : ℕ) × (place_of cell (part_of (view p.old) self.old.seat) ≡ place) × TookRow L.law self.old.seat cell row.now (book p.old) (book p.new) }
@@ -151,6 +156,7 @@ impl Session {
         let own = txn.claims[place].own;
         store_row(t, p, self.seat, own, row);
         self.rows_claimed[place] = *row;
+        self.saves.mark(place, true);
     }
 
     /// Sets the row of an object, and claims it where it isn't claimed yet. For a claimed object the answer is `Ok`.
@@ -170,6 +176,7 @@ impl Session {
         ensures known { IsKnown (view p.new) }
         ensures seat { self.new.seat ≡ self.old.seat }
         ensures stands { IsSession self.new (part_of (view p.new) self.old.seat) }
+        ensures saves { StaySaved self.old (part_of (view p.old) self.old.seat) self.new (part_of (view p.new) self.old.seat) }
         ensures written { OnOk result (WritesRow (view p.old) self.old.seat oid row.now (view p.new)) }
         ensures active { OnOk result (phase_of self.new.stage ≡ Active) }
         ensures refused { IfErr result (λ stop. RefusesClaim (view p.old) self.old.seat oid stop (view p.new)) }

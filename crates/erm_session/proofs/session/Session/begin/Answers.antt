@@ -11,9 +11,9 @@ returns-in-Err-clause-refused g c = c.begin_stop.ensures.refused _ _ _ c.in-Err.
 
 pub returns-clause-stands : goal.returns-clause-stands
 returns-clause-stands g c =
-    begun_session c.args.self.now _ c.requires.stands c.requires.idle c.begin.result _ c.clear.new.self c.clear-2.new.self c.in-Ok.begin _ c.in-Ok.ensures.begun
+    begun_session c.args.self.now _ c.requires.stands c.requires.idle c.begin.result _ c.clear.new.self c.clear-2.new.self c.clear-3.new.self c.in-Ok.begin _ c.in-Ok.ensures.begun
     c.begin.ensures.begin c.begin.ensures.number c.begin.ensures.reads c.begin.ensures.claims c.begin.ensures.succ c.begin.ensures.pred
-    c.clear.ensures.items c.clear.ensures.capacity c.clear-2.ensures.items c.clear-2.ensures.capacity
+    c.clear.ensures.items c.clear.ensures.capacity c.clear-2.ensures.items c.clear-2.ensures.capacity c.clear-3.ensures
 
 pub returns-in-Err-clause-took_none : goal.returns-in-Err-clause-took_none
 returns-in-Err-clause-took_none g c = no_begin g.L.RowLaw.law c.args.self.now.seat c.in-Err.stop c.args.p.now.me.0 c.begin_steps.new.p.me.0 c.begin_stop.result c.begin_stop.ensures.is c.in-Err.ensures.took_stop

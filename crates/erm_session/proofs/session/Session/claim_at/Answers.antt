@@ -1,10 +1,14 @@
-use Rattle.std.proofs.Common.{◌≤◌, refl, arith, sym, subst, inl, inr}
+use Rattle.std.proofs.Common.{◌≤◌, ap, refl, arith, sym, subst, inl, inr}
 use Rattle.erm_machine.specs.declared.limits.TheConstants.{WRITE_LIMIT}
+use Rattle.erm_machine.specs.declared.attempt.Attempt.{Attempt}
 use Rattle.erm_rule.specs.Views.{part_of}
 use Rattle.erm_session.specs.Calls.{before, now, is_end}
 use Rattle.erm_session.proofs.Goes.{active, goes_on, kept, known_where, not_active, same_rows, starts, with_rows}
-use Rattle.erm_session.proofs.RowsClaimed.{claimed_last, count_told, goes_claimed, goes_unclaimed, known_unclaimed, refuses_claim, room_claimed, rows_claimed, rows_stay, same_unclaimed}
+use Rattle.erm_session.proofs.RowsClaimed.{claimed_last, count_told, few_claimed, go_claimed, saves_claimed, goes_claimed, goes_unclaimed, known_unclaimed, refuses_claim, room_claimed, rows_claimed, rows_stay, same_unclaimed}
 use Rattle.erm_session.proofs.Sought.{claimed, has_row, in_box, unclaimed}
+use Rattle.erm_savepoints.specs.Saves.{KeptSaves}
+use Rattle.erm_session.specs.Saves.{AreSaves}
+use Rattle.erm_session.proofs.Saved.{found_few, go_same, has_at, saves_on, shows_on, stays_where}
 use Rattle.erm_session.proofs.session.Session.claim_at.Goals as goal
 use Rattle.erm_rows.specs.Claims.{DidNotClaim}
 use Rattle.erm_rows.specs.Took.{TookNoClaim}
@@ -53,7 +57,7 @@ end_where-requires-clause-stands g c = λ goes.
     let x = part_of v s.seat in
     let is = c.requires.stands.kept in
     let on = active s x is c.in-Active.txn c.in-Active.is in
-    same_rows s _ x _ c.requires.stands c.requires.active (end_where-requires-clause-kept g c) (same_unclaimed v s.seat c.args.oid on c.in-Err.why _ c.in-Err.ensures.refused goes) refl refl
+    same_rows s _ x _ c.requires.stands c.requires.active (end_where-requires-clause-kept g c) (same_unclaimed v s.seat c.args.oid on c.in-Err.why _ c.in-Err.ensures.refused goes) refl refl refl
 
 pub returns-in-Some-clause-place : goal.returns-in-Some-clause-place
 returns-in-Some-clause-place g c =
@@ -80,6 +84,34 @@ returns-in-Ok-clause-stands g c =
     (subst (λ n. WRITE_LIMIT ≤ n) (sym c.push_reserved.ensures.capacity) is.room_claimed) refl)
     (rows_stay v s.seat c.args.oid on c.in-Ok.claimed.row _ did s.rows_read.items c.requires.stands.rows_read)
     (rows_claimed v s.seat c.args.oid on c.in-Ok.claimed.row _ did s.rows_claimed.items _ c.requires.stands.rows_claimed c.push_reserved.ensures.items) c.in-Ok.ensures.window
+    (saves_on s.stage _ s.saves _ x _ c.requires.active c.requires.stands.saves (λ kept. subst (λ (n : KeptSaves). AreSaves n (part_of c.claim_first.new.p.me.0.view s.seat)) (sym c.claim.ensures) (saves_claimed v s.seat c.args.oid on c.in-Ok.claimed.row _ did s.saves kept)))
+
+pub claim-requires : goal.claim-requires
+claim-requires g c =
+    let s = c.args.self.now in
+    let v = c.args.p.now.me.0.view in
+    let x = part_of v s.seat in
+    let on = active s x c.requires.stands.kept c.in-Active.txn c.in-Active.is in
+    found_few s.saves x _ (has_at s.stage s.saves x c.in-Active.txn c.in-Active.is c.requires.stands.saves) (few_claimed v s.seat c.args.oid on c.in-Ok.claimed.row _ c.in-Ok.ensures.claimed)
+
+pub returns-in-Ok-clause-saves : goal.returns-in-Ok-clause-saves
+returns-in-Ok-clause-saves g c = λ still.
+    let s = c.args.self.now in
+    let v = c.args.p.now.me.0.view in
+    let x = part_of v s.seat in
+    let on = active s x c.requires.stands.kept c.in-Active.txn c.in-Active.is in
+    shows_on s.stage c.claim_first.new.stage s.saves c.claim.new.self x (part_of c.claim_first.new.p.me.0.view s.seat) c.requires.active c.requires.stands.saves (ap (λ (n : KeptSaves). n.points) c.claim.ensures)
+    (go_claimed v s.seat c.args.oid on c.in-Ok.claimed.row _ c.in-Ok.ensures.claimed) still
+
+pub returns-in-Err-clause-saves : goal.returns-in-Err-clause-saves
+returns-in-Err-clause-saves g c =
+    let s = c.args.self.now in
+    let v = c.args.p.now.me.0.view in
+    let x = part_of v s.seat in
+    let on = active s x c.requires.stands.kept c.in-Active.txn c.in-Active.is in
+    stays_where _ c.end_where.new.self s c.end_where.new.p.me.0.view c.claim_first.new.p.me.0.view s.seat c.in-Err.why x c.end_where.ensures.phase c.end_where.ensures.left c.end_where.ensures.stays
+    (λ goes still. shows_on s.stage c.claim_first.new.stage s.saves s.saves x (part_of c.claim_first.new.p.me.0.view s.seat) c.requires.active c.requires.stands.saves refl
+    (go_same x.current.writes _ (ap (λ (n : Attempt). n.writes) (same_unclaimed v s.seat c.args.oid on c.in-Err.why _ c.in-Err.ensures.refused goes).same)) still)
 
 pub returns-in-Ok-clause-claimed : goal.returns-in-Ok-clause-claimed
 returns-in-Ok-clause-claimed g c =

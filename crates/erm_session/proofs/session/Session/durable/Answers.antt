@@ -1,5 +1,6 @@
 use Rattle.std.proofs.Common.{refl}
-use Rattle.erm_session.proofs.Looks.{held_there, known_looked, looked_session, looks, ready_flushed}
+use Rattle.erm_session.proofs.Looks.{held_there, known_looked, looked_session, looked_writes, looks, ready_flushed}
+use Rattle.erm_session.proofs.Saved.{shows_same}
 use Rattle.erm_session.proofs.Syncs.{is_flushed_to, was_flushed}
 use Rattle.erm_session.proofs.session.Session.durable.Goals as goal
 
@@ -42,3 +43,9 @@ returns-then-receipt-flushed-clause-took g c = (c.load_flushed-flushed.result, c
 
 pub returns-else-receipt-flushed-clause-took_none : goal.returns-else-receipt-flushed-clause-took_none
 returns-else-receipt-flushed-clause-took_none g c = (c.args.p.now.me.0, refl, c.load_flushed-flushed.ensures.booked)
+
+pub returns-then-receipt-flushed-clause-saves : goal.returns-then-receipt-flushed-clause-saves
+returns-then-receipt-flushed-clause-saves g c = shows_same c.args.self.now.stage c.args.self.now.saves.points _ _ (looked_writes c.args.self.now _ c.requires.stands c.load_flushed-flushed.result _ c.load_flushed-flushed.ensures.told.told)
+
+pub returns-else-receipt-flushed-clause-saves : goal.returns-else-receipt-flushed-clause-saves
+returns-else-receipt-flushed-clause-saves g c = shows_same c.args.self.now.stage c.args.self.now.saves.points _ _ (looked_writes c.args.self.now _ c.requires.stands c.load_flushed-flushed.result _ c.load_flushed-flushed.ensures.told.told)

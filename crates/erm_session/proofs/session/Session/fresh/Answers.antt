@@ -1,7 +1,8 @@
 use Rattle.std.proofs.Common.{arith, inl, inr, refl}
 use Rattle.erm_rule.proofs.Telling.{is_held}
 use Rattle.erm_session.proofs.Looks.{held_there}
-use Rattle.erm_session.proofs.Makes.{has_numbers, known_first, known_then, makes_object, ready_add, ready_load, refused_first, refused_then, session_first, session_then}
+use Rattle.erm_session.proofs.Makes.{has_numbers, known_first, known_then, makes_object, ready_add, ready_load, refused_first, refused_then, session_first, session_then, writes_first, writes_then}
+use Rattle.erm_session.proofs.Saved.{shows_same}
 use Rattle.erm_session.proofs.session.Session.fresh.Goals as goal
 use Rattle.erm_session.proofs.Took.{object_still}
 use Rattle.erm_rule.proofs.Wents.{went_one}
@@ -77,3 +78,19 @@ returns-clause-took g c = (c.load_counter-seen.result, (c.load_counter-seen.new.
 
 pub returns-clause-still : goal.returns-clause-still
 returns-clause-still g c = object_still g.L.RowLaw.law c.args.self.now.seat c.add_counter-found.result c.args.p.now.me.0 c.add_counter-found.new.p.me.0 (returns-clause-took g c)
+
+pub returns-then-seen-from-clause-saves : goal.returns-then-seen-from-clause-saves
+returns-then-seen-from-clause-saves g c = λ still.
+    shows_same c.args.self.now.stage c.args.self.now.saves.points _ _ (writes_first c.args.self.now _ c.requires.stands c.requires.active c.load_counter-seen.result _ c.load_counter-seen.ensures.told.told (omega (arith, c.from.ensures, c.if-seen-from.true)))
+
+pub returns-then-found-from-clause-saves : goal.returns-then-found-from-clause-saves
+returns-then-found-from-clause-saves g c = λ still.
+    shows_same c.args.self.now.stage c.args.self.now.saves.points _ _
+    (writes_then c.args.self.now _ c.requires.stands c.requires.active c.load_counter-seen.result _ c.load_counter-seen.ensures.told.told (omega (arith, c.from.ensures, c.if-seen-from.false)) c.add_counter-found.result _
+    c.add_counter-found.ensures.told.told)
+
+pub returns-clause-saves : goal.returns-clause-saves
+returns-clause-saves g c = λ still.
+    shows_same c.args.self.now.stage c.args.self.now.saves.points _ _
+    (writes_then c.args.self.now _ c.requires.stands c.requires.active c.load_counter-seen.result _ c.load_counter-seen.ensures.told.told (omega (arith, c.from.ensures, c.if-seen-from.false)) c.add_counter-found.result _
+    c.add_counter-found.ensures.told.told)

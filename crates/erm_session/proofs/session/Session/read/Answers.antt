@@ -3,8 +3,11 @@ use Rattle.erm_machine.specs.declared.limits.TheConstants.{READ_LIMIT}
 use Rattle.erm_rule.specs.Views.{part_of}
 use Rattle.erm_session.specs.Calls.{again, first, own, is_end}
 use Rattle.erm_session.proofs.Goes.{active, goes_on, kept, known_where, not_active, same_current, same_rows, starts, with_rows}
-use Rattle.erm_session.proofs.RowsRead.{goes_read, goes_unread, known_unread, owner_met, refuses_read, room_read, rows_read, rows_stay, same_unread, spare_read, spare_unread}
+use Rattle.erm_session.proofs.RowsRead.{goes_read, goes_unread, known_unread, owner_met, refuses_read, room_read, rows_read, rows_stay, same_unread, spare_read, spare_unread, writes_read}
 use Rattle.erm_session.proofs.Sought.{has_claimed, has_read_row, in_box, unclaimed, unread}
+use Rattle.std.proofs.Common.{ap, refl}
+use Rattle.erm_machine.specs.declared.attempt.Attempt.{Attempt}
+use Rattle.erm_session.proofs.Saved.{go_same, saves_on, saves_stay, shows_on, stays_where}
 use Rattle.erm_session.proofs.session.Session.read.Goals as goal
 use Rattle.erm_rows.specs.Reads.{DidNotRead}
 use Rattle.erm_rows.specs.Took.{TookNotRead}
@@ -74,7 +77,7 @@ end_where-requires-clause-stands g c = λ goes.
     let x = part_of v s.seat in
     let is = c.requires.stands.kept in
     let on = active s x is c.in-Active.txn c.in-Active.is in
-    same_rows s _ x _ c.requires.stands c.requires.active (end_where-requires-clause-kept g c) (same_current x _ (same_unread v s.seat c.args.oid on c.in-Err.why _ c.in-Err.ensures.refused goes)) refl refl
+    same_rows s _ x _ c.requires.stands c.requires.active (end_where-requires-clause-kept g c) (same_current x _ (same_unread v s.seat c.args.oid on c.in-Err.why _ c.in-Err.ensures.refused goes)) refl refl refl
 
 pub returns-in-Ok-clause-stands : goal.returns-in-Ok-clause-stands
 returns-in-Ok-clause-stands g c =
@@ -89,6 +92,7 @@ returns-in-Ok-clause-stands g c =
     (subst (λ n. READ_LIMIT ≤ n) (sym c.push_reserved.ensures.capacity) is.room_read) is.room_claimed refl)
     (rows_read v s.seat c.args.oid on c.in-Ok.row _ did s.rows_read.items _ c.requires.stands.rows_read c.push_reserved.ensures.items)
     (rows_stay v s.seat c.args.oid on c.in-Ok.row _ did s.rows_claimed.items c.requires.stands.rows_claimed) c.in-Ok.ensures.window
+    (saves_on s.stage _ s.saves s.saves x _ c.requires.active c.requires.stands.saves (saves_stay s.saves x _ (writes_read v s.seat c.args.oid on c.in-Ok.row _ did)))
 
 pub returns-in-Ok-clause-read : goal.returns-in-Ok-clause-read
 returns-in-Ok-clause-read g c =
@@ -147,3 +151,22 @@ returns-in-Err-clause-still g c =
 
 pub unreachable-requires : goal.unreachable-requires
 unreachable-requires g c = not_active c.args.self.now.stage c.requires.active c.in_default.not-Active
+
+pub returns-in-Ok-clause-saves : goal.returns-in-Ok-clause-saves
+returns-in-Ok-clause-saves g c = λ still.
+    let s = c.args.self.now in
+    let v = c.args.p.now.me.0.view in
+    let x = part_of v s.seat in
+    let on = active s x c.requires.stands.kept c.in-Active.txn c.in-Active.is in
+    shows_on s.stage c.read_first.new.stage s.saves s.saves x (part_of c.read_first.new.p.me.0.view s.seat) c.requires.active c.requires.stands.saves refl
+    (go_same x.current.writes _ (writes_read v s.seat c.args.oid on c.in-Ok.row _ c.in-Ok.ensures.read)) still
+
+pub returns-in-Err-clause-saves : goal.returns-in-Err-clause-saves
+returns-in-Err-clause-saves g c =
+    let s = c.args.self.now in
+    let v = c.args.p.now.me.0.view in
+    let x = part_of v s.seat in
+    let on = active s x c.requires.stands.kept c.in-Active.txn c.in-Active.is in
+    stays_where _ c.end_where.new.self s c.end_where.new.p.me.0.view c.read_first.new.p.me.0.view s.seat c.in-Err.why x c.end_where.ensures.phase c.end_where.ensures.left c.end_where.ensures.stays
+    (λ goes still. shows_on s.stage c.read_first.new.stage s.saves s.saves x (part_of c.read_first.new.p.me.0.view s.seat) c.requires.active c.requires.stands.saves refl
+    (go_same x.current.writes _ (ap (λ (n : Attempt). n.writes) (same_unread v s.seat c.args.oid on c.in-Err.why _ c.in-Err.ensures.refused goes))) still)

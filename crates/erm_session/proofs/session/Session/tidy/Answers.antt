@@ -3,7 +3,8 @@ use Rattle.erm_rule.specs.Views.{part_of}
 use Rattle.erm_session.specs.Calls.{again_tidied}
 use Rattle.erm_session.proofs.Goes.{active, kept, not_active, starts}
 use Rattle.erm_session.proofs.Sought.{claimed, in_box, unclaimed}
-use Rattle.erm_session.proofs.Tidied.{claims_too, tidied_session, took_too}
+use Rattle.erm_session.proofs.Saved.{shows_same}
+use Rattle.erm_session.proofs.Tidied.{claims_too, tidied_session, tidied_writes, took_too}
 use Rattle.erm_session.proofs.session.Session.tidy.Goals as goal
 
 pub tidy_claimed-requires-clause-session : goal.tidy_claimed-requires-clause-session
@@ -62,3 +63,8 @@ returns-in-None-clause-took g c =
 
 pub unreachable-requires : goal.unreachable-requires
 unreachable-requires g c = not_active c.args.self.now.stage c.requires.active c.in_default.not-Active
+
+pub returns-in-Some-clause-saves : goal.returns-in-Some-clause-saves
+returns-in-Some-clause-saves g c = λ still.
+    let s = c.args.self.now in
+    shows_same s.stage s.saves.points _ _ (tidied_writes s c.args.p.now.me.0.view c.requires.stands c.in-Active.txn c.in-Active.is c.tidy_claimed.result c.tidy_claimed.new.p.me.0.view c.tidy_claimed.ensures.tidied)

@@ -1,5 +1,6 @@
-use Rattle.std.proofs.Common.{◌≡◌, ℕ, subst, sym}
+use Rattle.std.proofs.Common.{◌≡◌, ◌∙◌, ℕ, subst, sym}
 use Rattle.erm_rule.specs.Views.{part_of}
+use Rattle.erm_session.specs.Saves.{saves_of}
 use Rattle.erm_session.specs.Calls.{IsClaimedAt, SetsRow}
 use Rattle.erm_session.proofs.session.Session.write.Goals as goal
 use Rattle.erm_session.proofs.Took.{write_still}
@@ -29,3 +30,8 @@ returns-clause-took g c = record {
 
 pub returns-clause-still : goal.returns-clause-still
 returns-clause-still g c = write_still g.L.RowLaw.law c.args.self.now.seat c.args.oid c.args.row.now c.args.p.now.me.0 c.set_row.new.p.me.0 (returns-clause-took g c)
+
+pub returns-clause-saves : goal.returns-clause-saves
+returns-clause-saves g c = λ still.
+    subst (λ (n : ℕ). saves_of c.set_row.new.self (part_of c.set_row.new.p.me.0.view n) ≡ saves_of c.claim_at.new.self (part_of c.claim_at.new.p.me.0.view n)) c.in_ok-place.ensures.seat (c.set_row.ensures.saves still)
+    ∙ c.in_ok-place.ensures.saves c.in_ok-place.ensures.active
