@@ -1,3 +1,4 @@
+pub mod Backs
 pub mod Begins
 pub mod Blocks
 pub mod Deciding
@@ -25,3 +26,4 @@ pub mod Turns
 pub mod Worked
 pub mod Took
 pub mod Tidied
+pub mod Unsets

@@ -29,6 +29,7 @@ use Rattle.erm_session.specs.declared.session.Stage.{Stage}
 use Rattle.erm_savepoints.specs.Saves.{KeptSaves}
 use Rattle.erm_session.specs.Calls.{SetsRow}
 use Rattle.erm_session.specs.Saves.{AreSaves}
+use Rattle.erm_session.specs.Saving.{ClaimGoesBack}
 use Rattle.erm_session.specs.Session.{IsOpen, phase_of}
 use Rattle.erm_session.proofs.Goes.{Goes, open_still}
 use Rattle.erm_session.proofs.Saved.{ClaimsGo, go_set, saves_set}
@@ -50,7 +51,7 @@ own_same cell row None = refl
 own_same cell row (Some own) = refl
 
 -- the claims kept are those that there are where one is changed that is kept so
-claims_kept : (xs : List KeptClaim) (ws : List Claim) (place : ℕ) (w : Claim) → ((k : ℕ) → k < length ws → IsClaimKept (get_or xs k no_claim_kept) (get_or ws k no_claim))
+pub claims_kept : (xs : List KeptClaim) (ws : List Claim) (place : ℕ) (w : Claim) → ((k : ℕ) → k < length ws → IsClaimKept (get_or xs k no_claim_kept) (get_or ws k no_claim))
     → IsClaimKept (get_or xs place no_claim_kept) w → (k : ℕ) → k < length (set ws place w) → IsClaimKept (get_or xs k no_claim_kept) (get_or (set ws place w) k no_claim)
 claims_kept xs ws place w old new k within = by (eqb k place) refl
   where
@@ -135,6 +136,14 @@ module _ (v : View) (who : ℕ) (active : is_active (part_of v who).place ≡ tr
 
     set_now : is_set ≡ true
     set_now = ap (λ (b : Bool). not b) (starts_copy x.task starts)
+
+    pub goes_back : ClaimGoesBack v who place (Some row) w
+    goes_back = record {
+      view_is = did.view_is
+          ∙ ap (λ (n : ℕ). with_part who (part_with_rows n row row is_set task.Rest x) v) placed
+          ∙ ap (λ (b : Bool). with_part who (part_with_rows place row row b task.Rest x) v) set_now;
+      known = did.known;
+    }
 
     -- what is kept of its savepoints
     pub saves_set_row : (s : KeptSaves) → AreSaves s x → AreSaves (record s { is_set = set s.is_set place true }) (part_of w who)

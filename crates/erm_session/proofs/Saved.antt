@@ -1,6 +1,6 @@
 -- What a session keeps of its savepoints follows its seat's part.
 use Rattle.std.proofs.Common.{◌≡◌, ℕ, zero, suc, ◌≤◌, ◌<◌, Bool, true, false, List, [], ◌∷◌, ◌++◌, length, map, take, set, get_or, Option, None, Some, refl, sym, ap, ◌∙◌, subst, arith}
-use Rattle.std.proofs.lemmas.List.{append-nil, length-map, length-set, length_push, map-append, map-set, set-get_or, get_or-map, take-map}
+use Rattle.std.proofs.lemmas.List.{append-nil, length-map, length-set, length_push, map-append, map-set}
 use Rattle.std.specs.List.{AllByRecursion}
 use Rattle.std.specs.Prelude.{if◌then◌else◌}
 use Rattle.erm_machine.specs.declared.attempt.Claim.{Claim}
@@ -168,7 +168,7 @@ go_more ws us w is = record {
 }
 
 -- a list is as it was where an element is set to what it was
-set_same : {X : Type 0} (f : Claim → X) (ws : List Claim) (place : ℕ) (w : Claim) → f w ≡ f (get_or ws place no_claim) → map f (set ws place w) ≡ map f ws
+pub set_same : {X : Type 0} (f : Claim → X) (ws : List Claim) (place : ℕ) (w : Claim) → f w ≡ f (get_or ws place no_claim) → map f (set ws place w) ≡ map f ws
 set_same f [] place w same = refl
 set_same f (u ∷ ws) zero w same = ap (λ x. x ∷ map f ws) same
 set_same f (u ∷ ws) (suc place) w same = ap (λ xs. f u ∷ xs) (set_same f ws place w same)
@@ -182,6 +182,9 @@ go_set ws us place w is same = record {
   more = [];
   found = ap found_so is ∙ both_maps (set ws place w) ∙ set_same (λ (u : Claim). left (written_of u)) ws place w same ∙ sym (both_maps ws) ∙ sym (append-nil (found_so ws));
 }
+
+pub go_found : (ws us : List Claim) → map (λ (w : Claim). left (written_of w)) us ≡ map (λ (w : Claim). left (written_of w)) ws → ClaimsGo ws us
+go_found ws us same = record { more = []; found = both_maps us ∙ same ∙ sym (both_maps ws) ∙ sym (append-nil (found_so ws)) }
 
 left_twice : (cs : List VersionWritten) → map left (map left cs) ≡ map left cs
 left_twice [] = refl

@@ -1,5 +1,5 @@
 -- What becomes of a session's savepoints: they stay, one more is held, or the transaction goes back to one of them.
-use Rattle.std.specs.Prelude.{◌≡◌, ◌⊎◌, ℕ, ◌+◌, ◌<◌, zero, suc, true, false, List, [], ◌∷◌, ◌++◌, length, map, slice_index_or, Option, Some, None}
+use Rattle.std.specs.Prelude.{◌≡◌, ◌⊎◌, ℕ, ◌+◌, ◌<◌, zero, suc, true, false, List, [], ◌∷◌, ◌++◌, length, map, Option, Some, None}
 use Rattle.erm_cells.specs.Calls.{starts_anew}
 use Rattle.erm_cells.specs.Placed.{place_of}
 use Rattle.erm_cells.specs.Rows.{with_own_row}
@@ -14,7 +14,6 @@ use Rattle.erm_machine.specs.Core.{claim_at}
 use Rattle.erm_machine.specs.Decided.{written_of}
 use Rattle.erm_machine.specs.Seat.{with_claim}
 use Rattle.erm_model.specs.declared.outcome.Phase.TheVariants as phase
-use Rattle.erm_model.specs.Member.{◌∈◌}
 use Rattle.erm_model.specs.RowTransaction.{Law}
 use Rattle.erm_rule.specs.declared.view.Book.{Book}
 use Rattle.erm_rule.specs.declared.view.View.{View}
@@ -33,7 +32,7 @@ StaySaved s x n y = phase_of n.stage ≡ phase.Active → saves_of n y ≡ saves
 
 -- claims that no write has set have the rows that they found
 abbrev pub HasRows : Part → Type 0
-HasRows x = (w : Claim) → w ∈ x.current.writes → w.is_set ≡ false → w.row ≡ w.base
+HasRows x = (k : ℕ) → k < length x.current.writes → (claim_at x.current k).is_set ≡ false → (claim_at x.current k).row ≡ (claim_at x.current k).base
 
 -- SAVE. One savepoint more is held, of the claims as they are; or all that there may be are held already, and nothing is changed.
 pub record AddsSave (s : Session) (held : ℕ) (n : Session) : Type 0 where

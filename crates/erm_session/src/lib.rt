@@ -10,10 +10,13 @@ mod making;
 mod reading;
 mod room;
 mod safe;
+mod saving;
 mod sealing;
 mod session;
 mod settling;
+mod stops;
 mod tidying;
 mod writing;
 
 pub use session::{Session, Stage};
+pub use stops::{NoSave, SaveStop};

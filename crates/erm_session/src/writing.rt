@@ -1,5 +1,5 @@
 //! A session's claim and write.
-ghost use Rattle.std.specs.Prelude.{◌≡◌, ◌<◌, ℕ, true, IfErr, IfOk, OnOk};
+ghost use Rattle.std.specs.Prelude.{◌≡◌, ◌<◌, ℕ, true, Some, IfErr, IfOk, OnOk};
 ghost use Rattle.erm_cells.specs.Spare.{SpareIs};
 ghost use Rattle.erm_machine.specs.declared.limits.TheConstants.{OBJECT_LIMIT};
 ghost use Rattle.erm_machine.specs.Words.{is_session};
@@ -10,7 +10,7 @@ ghost use Rattle.erm_rule.specs.Hands.{IsKnown};
 ghost use Rattle.erm_rule.specs.Steps.{Fits};
 ghost use Rattle.erm_rule.specs.Views.{view, part_of};
 ghost use Rattle.erm_session.specs.Calls.{ClaimsObject, IsClaimedAt, IsRefusedPhase, IsUnclaimed, RefusesClaim, SetsRow, WritesRow};
-ghost use Rattle.erm_session.specs.Saving.{StaySaved};
+ghost use Rattle.erm_session.specs.Saving.{ClaimGoesBack, StaySaved};
 ghost use Rattle.erm_session.specs.Session.{IsOpen, IsSession, StageIs, phase_of};
 ghost use Rattle.erm_cells.specs.Placed.{place_of};
 ghost use Rattle.erm_cells.specs.Took.{TookRow};
@@ -136,7 +136,7 @@ impl Session {
     }
 
     // Sets the row of the object claimed at a place.
-    fn set_row<L: RowLaw>(&mut self, t: &Table<L>, p: &mut Pass, place: usize, row: &Row)
+    pub(crate) fn set_row<L: RowLaw>(&mut self, t: &Table<L>, p: &mut Pass, place: usize, row: &Row)
         requires fits { Fits t.now.words.shared.table_id p.old }
         requires known { IsKnown (view p.old) }
         requires stands { IsSession self.old (part_of (view p.old) self.old.seat) }
@@ -148,6 +148,9 @@ impl Session {
         ensures saves { StaySaved self.old (part_of (view p.old) self.old.seat) self.new (part_of (view p.new) self.old.seat) }
         ensures set { SetsRow (view p.old) self.old.seat place row.now (view p.new) }
         ensures active { phase_of self.new.stage ≡ Active }
+        ensures back { ClaimGoesBack (view p.old) self.old.seat place (Some row.now) (view p.new) }
+        ensures points { self.new.saves.points ≡ self.old.saves.points }
+        ensures found { self.new.saves.found ≡ self.old.saves.found }
         ensures stores { (cell : ℕ) × (place_of cell (part_of (view p.old) self.old.seat) ≡ place) × TookRow L.law self.old.seat cell row.now (book p.old) (book p.new) }
     {
         let Stage::Active(txn) = &self.stage else {

@@ -3,7 +3,7 @@ use Rattle.erm_precommit.specs.declared.pre.KeptClaim.{KeptClaim}
 use Rattle.erm_precommit.specs.Pre.{no_claim_kept}
 use Rattle.erm_rule.specs.Views.{part_of}
 use Rattle.erm_session.proofs.Goes.{active, goes_on, kept, not_active, stage_goes, starts, with_rows}
-use Rattle.erm_session.proofs.RowSet.{go_set_row, goes_set, saves_set_row, kept_set, may_store, open_set, placed, rows_set, rows_stay, sets, spare_set}
+use Rattle.erm_session.proofs.RowSet.{go_set_row, goes_back, goes_set, saves_set_row, kept_set, may_store, open_set, placed, rows_set, rows_stay, sets, spare_set}
 use Rattle.erm_session.proofs.Sought.{in_box}
 use Rattle.std.proofs.Common.{sym, subst}
 use Rattle.erm_savepoints.specs.Saves.{KeptSaves}
@@ -84,3 +84,14 @@ returns-clause-saves g c = λ still.
     let own = ap (λ (l : List KeptClaim). (get_or l c.args.place no_claim_kept).own) (in_box c.deref-2.ensures.0 c.deref.ensures) in
     shows_on s.stage s.stage s.saves c.mark.new.self x (part_of c.store_row.new.p.me.0.view s.seat) c.requires.active c.requires.stands.saves (ap (λ (n : KeptSaves). n.points) c.mark.ensures)
     (go_set_row v s.seat (active s x is t at) c.requires.known t (kept s x is t at) (starts s x is t at) c.args.place c.requires.place.1.within _ own c.args.row.now _ c.store_row.ensures.stored) still
+
+pub returns-clause-back : goal.returns-clause-back
+returns-clause-back g c =
+    let s = c.args.self.now in
+    let v = c.args.p.now.me.0.view in
+    let x = part_of v s.seat in
+    let is = c.requires.stands.kept in
+    let t = c.in-Active.txn in
+    let at = c.in-Active.is in
+    let own = ap (λ (l : List KeptClaim). (get_or l c.args.place no_claim_kept).own) (in_box c.deref-2.ensures.0 c.deref.ensures) in
+    goes_back v s.seat (active s x is t at) c.requires.known t (kept s x is t at) (starts s x is t at) c.args.place c.requires.place.1.within _ own c.args.row.now _ c.store_row.ensures.stored
