@@ -1,7 +1,7 @@
 -- The room that a session has for its savepoints.
 use Rattle.std.specs.Prelude.{◌≡◌, ◌≤◌, length, vec_capacity}
 use Rattle.erm_model.specs.declared.limits.TheConstants.{WRITE_LIMIT}
-use Rattle.erm_savepoints.specs.declared.saves.TheConstants.{SAVES}
+use Rattle.erm_model.specs.declared.limits.TheConstants.{SAVES}
 use Rattle.erm_savepoints.specs.declared.saves.Saves.TheInside.{Inside}
 
 -- There is room for all claims, and for all savepoints, of which so many are held. Of each claim there is both.

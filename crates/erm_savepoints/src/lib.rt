@@ -4,4 +4,4 @@
 mod savepoint;
 mod saves;
 
-pub use saves::{SAVES, Saves};
+pub use saves::Saves;

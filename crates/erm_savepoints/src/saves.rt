@@ -1,16 +1,12 @@
 //! What a session keeps to go back to its savepoints.
 ghost use Rattle.std.specs.Prelude.{◌≡◌, ◌<◌, ◌≤◌, false, [], ◌∷◌, ◌++◌, length, slice_index_or, slice_set, take, IfOk};
-ghost use Rattle.erm_model.specs.declared.limits.TheConstants.{WRITE_LIMIT};
+ghost use Rattle.erm_model.specs.declared.limits.TheConstants.{SAVES, WRITE_LIMIT};
 ghost use Rattle.erm_savepoints.specs.Saves.{no_saves, row_saved, rows_set};
-ghost use Rattle.erm_savepoints.specs.declared.saves.TheConstants.{SAVES};
 
 use crate::savepoint::Savepoint;
-use erm_model::{Row, WRITE_LIMIT};
+use erm_model::{Row, SAVES, WRITE_LIMIT};
 use std::alloc::{AllocError, Global};
 use std::marker::Model;
-
-/// The most savepoints that a transaction holds.
-pub const SAVES: usize = 8;
 
 /// What a session keeps to go back: of each claim the row that it found, and whether a write has set its row since; and the savepoints that
 /// its transaction holds. All memory is taken when it is made. A contract sees a record of lists.

@@ -26,7 +26,7 @@ use Rattle.erm_rule.specs.Went.{IsStillStep, Went}
 use Rattle.erm_rule.proofs.Parts.{with_part-again, with_part-same}
 use Rattle.erm_rule.proofs.Telling.{part_of-changed}
 use Rattle.erm_rule.proofs.Wents.{went_as, went_more, went_none, went_step}
-use Rattle.erm_savepoints.specs.declared.saves.TheConstants.{SAVES}
+use Rattle.erm_model.specs.declared.limits.TheConstants.{SAVES}
 use Rattle.erm_savepoints.specs.Saves.{row_saved, row_set, rows_set, KeptSaves}
 use Rattle.erm_savepoints.proofs.Filled.{rows_set_long}
 use Rattle.erm_session.specs.declared.session.Session.{Session}

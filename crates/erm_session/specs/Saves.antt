@@ -5,7 +5,7 @@ use Rattle.erm_machine.specs.declared.attempt.Claim.{Claim}
 use Rattle.erm_machine.specs.declared.part.Part.{Part}
 use Rattle.erm_machine.specs.Decided.{written_of}
 use Rattle.erm_model.specs.declared.history.VersionWritten.{VersionWritten}
-use Rattle.erm_savepoints.specs.declared.saves.TheConstants.{SAVES}
+use Rattle.erm_model.specs.declared.limits.TheConstants.{SAVES}
 use Rattle.erm_savepoints.specs.Saves.{KeptSaves}
 use Rattle.erm_session.specs.declared.session.Session.{Session}
 use Rattle.erm_session.specs.declared.session.Stage.{Stage}

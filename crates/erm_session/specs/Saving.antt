@@ -20,7 +20,7 @@ use Rattle.erm_rule.specs.declared.view.View.{View}
 use Rattle.erm_rule.specs.Hands.{IsKnown}
 use Rattle.erm_rule.specs.Steps.{Booked}
 use Rattle.erm_rule.specs.Views.{part_of, with_part}
-use Rattle.erm_savepoints.specs.declared.saves.TheConstants.{SAVES}
+use Rattle.erm_model.specs.declared.limits.TheConstants.{SAVES}
 use Rattle.erm_savepoints.specs.Saves.{row_saved}
 use Rattle.erm_session.specs.declared.session.Session.{Session}
 use Rattle.erm_session.specs.Saves.{saves_of}

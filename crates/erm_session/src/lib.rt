@@ -14,9 +14,7 @@ mod saving;
 mod sealing;
 mod session;
 mod settling;
-mod stops;
 mod tidying;
 mod writing;
 
 pub use session::{Session, Stage};
-pub use stops::{NoSave, SaveStop};

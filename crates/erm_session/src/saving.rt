@@ -7,18 +7,17 @@ ghost use Rattle.erm_rule.specs.Hands.{IsKnown};
 ghost use Rattle.erm_rule.specs.Steps.{Fits};
 ghost use Rattle.erm_rule.specs.Views.{view, part_of};
 ghost use Rattle.erm_rule.specs.Went.{Went};
-ghost use Rattle.erm_savepoints.specs.declared.saves.TheConstants.{SAVES};
+ghost use Rattle.erm_model.specs.declared.limits.TheConstants.{SAVES};
 ghost use Rattle.erm_savepoints.specs.Saves.{row_saved};
 ghost use Rattle.erm_session.specs.Saves.{saves_of};
 ghost use Rattle.erm_session.specs.Saving.{AddsSave, ClaimGoesBack, GoesBack, IsBackStep, IsNoSave, TookBack, TookClaimBack, TookUnset};
 ghost use Rattle.erm_session.specs.Session.{IsSession, phase_of};
-ghost use Rattle.erm_session.specs.declared.stops.SaveStop.TheVariants.{SavesFull};
+ghost use Rattle.erm_world.specs.declared.stops.SaveStop.TheVariants.{SavesFull};
 
 use crate::session::Session;
-use crate::stops::{NoSave, SaveStop};
-use erm_model::RowLaw;
+use erm_model::{RowLaw, SAVES};
 use erm_rule::{Pass, Table, unset};
-use erm_savepoints::SAVES;
+use erm_world::{NoSave, SaveStop};
 
 impl Session {
     /// Saves the rows of the active transaction's claims as they are, as one savepoint more: how many it holds then. They end with the

@@ -1,6 +1,6 @@
 use Rattle.std.proofs.Common.{◌≡◌, ◌≤◌, length}
 use Rattle.std.specs.Prelude.{vec_capacity}
-use Rattle.erm_savepoints.specs.declared.saves.TheConstants.{SAVES}
+use Rattle.erm_model.specs.declared.limits.TheConstants.{SAVES}
 use Rattle.erm_savepoints.proofs.saves.Saves.new.Given as goal
 
 abbrev pub invariant-loop : goal.invariant-loop
