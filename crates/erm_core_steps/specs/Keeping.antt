@@ -11,7 +11,7 @@ pub record KeepsSessions {W : Type 0} (is_standing : W → Type 0) (view : W →
 
 -- no call keeps them, and calls one after another do
 pub keeps_itself : {W : Type 0} (is_standing : W → Type 0) (view : W → View) (p : W) → KeepsSessions is_standing view p p
-keeps_itself is_standing view p = record { stands = λ stands. stands; sessions = record { session = λ seat is. refl; opening = refl; tail = refl } }
+keeps_itself is_standing view p = record { stands = λ stands. stands; sessions = record { session = λ seat is. refl; opening = refl; tail = refl; saves = λ seat is. refl } }
 
 pub keeps_on : {W : Type 0} (is_standing : W → Type 0) (view : W → View) (p q r : W) → KeepsSessions is_standing view p q → KeepsSessions is_standing view q r → KeepsSessions is_standing view p r
 keeps_on is_standing view p q r one more =
@@ -23,6 +23,7 @@ keeps_on is_standing view p q r one more =
         session = λ seat is. second.session seat (subst (λ (o : Opening). (0 < seat) × (seat ≤ o.sessions)) (sym first.opening) is) ∙ first.session seat is;
         opening = second.opening ∙ first.opening;
         tail = second.tail ∙ first.tail;
+        saves = λ seat is. second.saves seat (subst (λ (o : Opening). (0 < seat) × (seat ≤ o.sessions)) (sym first.opening) is) ∙ first.saves seat is;
       };
     }
 

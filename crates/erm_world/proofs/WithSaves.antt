@@ -373,7 +373,7 @@ module _ (f : ℕ → List (List VersionWritten)) where
   }
 
   pub keeps_sessions : (v t : View) → KeepsSessions v t → KeepsSessions (saved v) (saved t)
-  keeps_sessions v t keeps = record { session = keeps.session; opening = keeps.opening; tail = keeps.tail }
+  keeps_sessions v t keeps = record { session = keeps.session; opening = keeps.opening; tail = keeps.tail; saves = λ seat session. refl }
 
   -- SNAPSHOTS
   pub did_begin_safe : (v t : View) (seat at : ℕ) → DidBeginSafe v seat at t → DidBeginSafe (saved v) seat at (saved t)

@@ -10,11 +10,12 @@ use Rattle.erm_world.specs.Log.{Log, Undecided}
 use Rattle.erm_world.specs.World.{Fate, Finished, IsSession, View, Work, size_of}
 use Rattle.erm_world.specs.World as world
 
--- a flusher's call leaves the sessions, the opening and the end of the log
+-- a flusher's call leaves the sessions with their savepoints, the opening and the end of the log
 pub record KeepsSessions (v t : View) : Type 0 where
   pub session : (seat : ℕ) → IsSession v seat → t.session seat ≡ v.session seat
   pub opening : t.opening ≡ v.opening
   pub tail : t.tail ≡ v.tail
+  pub saves : (seat : ℕ) → IsSession v seat → t.saves seat ≡ v.saves seat
 
 -- a transaction that ended so was sealed, with this commit stamp and this successor stamp
 abbrev pub HasStamps : Fate → ℕ → ℕ → Type 0
