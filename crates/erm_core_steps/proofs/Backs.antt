@@ -1,24 +1,23 @@
 -- A way back: of each claim sixteen words are stored, and one that no write had set counts as not set.
-use Rattle.std.proofs.Common.{◌≡◌, ◌≢◌, ℕ, suc, ◌+◌, ◌<◌, ◌==◌, Bool, true, eqb, Option, None, Some, List, length, map, set, get_or, take, cond, refl, sym, ap, ◌∙◌, subst, arith}
-use Rattle.std.specs.Prelude.{if◌then◌else◌, nat_eq, pointwise}
+use Rattle.std.proofs.Common.{◌≡◌, ℕ, suc, ◌<◌, ◌==◌, true, Option, None, Some, List, length, set, get_or, take, refl, sym, ap, ◌∙◌, subst, arith}
+use Rattle.std.specs.Prelude.{nat_eq}
+use Rattle.std.specs.Cmp.Lexicographic.{pointwise}
 use Rattle.std.specs.List.{slice_get}
 use Rattle.std.proofs.lemmas.Bool.{and_from, lt-ltb}
 use Rattle.std.proofs.lemmas.Bool.Decides.{Decides-eqb}
-use Rattle.std.proofs.lemmas.List.{length-map, take_all}
+use Rattle.std.proofs.lemmas.List.{take_all}
 use Rattle.std.proofs.lemmas.Slice.Eq.{slice_eq-Decides}
-use Rattle.std.proofs.Math.ListN as listn
 use Rattle.erm_model.specs.declared.TheConstants.{ROW_WORDS}
 use Rattle.erm_model.specs.declared.history.VersionWritten.{VersionWritten}
 use Rattle.erm_machine.specs.declared.attempt.Claim.{Claim}
 use Rattle.erm_machine.specs.declared.attempt.OwnCell.{OwnCell}
-use Rattle.erm_machine.specs.declared.event.Kind.{Kind}
 use Rattle.erm_machine.specs.declared.event.Kind.TheVariants as kind
 use Rattle.erm_machine.specs.declared.part.Part.{Part}
 use Rattle.erm_machine.specs.declared.place.Place.{Place}
 use Rattle.erm_machine.specs.declared.place.Place.TheVariants.{Active}
 use Rattle.erm_machine.specs.declared.task.Task.{Task}
 use Rattle.erm_machine.specs.declared.task.Task.TheVariants as task
-use Rattle.erm_machine.specs.Core.{Core, claim_at, no_claim}
+use Rattle.erm_machine.specs.Core.{Core, claim_at}
 use Rattle.erm_machine.specs.Decided.{written_of}
 use Rattle.erm_machine.specs.Reading.{has_base, without_row}
 use Rattle.erm_machine.specs.Seat.{is_active, is_own, is_rest, last_claim, may_start, with_current}
@@ -34,17 +33,16 @@ use Rattle.erm_core_view.proofs.Chained.{unsaved}
 use Rattle.erm_core_view.proofs.Moved.{changes_one}
 use Rattle.erm_core_view.proofs.Parts.{current_stands}
 use Rattle.erm_core_view.proofs.Rows.{stores_claim}
-use Rattle.erm_core_view.proofs.Words.{row_undone, undo_shows}
+use Rattle.erm_core_view.proofs.Words.{undo_shows}
 use Rattle.erm_world.specs.Calls.{Works}
-use Rattle.erm_world.specs.Saves.{restored, undone, with_claims}
+use Rattle.erm_world.specs.Saves.{undone, with_claims}
 use Rattle.erm_world.specs.World.{IsSession, Session, View, Work, work_at}
 use Rattle.erm_world.specs.World as world
-use Rattle.erm_world.proofs.Halfway.{claim_back, halfway, halfway-at, halfway-set}
+use Rattle.erm_world.proofs.Halfway.{claim_back, halfway, halfway-set}
 use Rattle.erm_world.proofs.Saves.{works_then}
 use Rattle.erm_core_steps.specs.Steps.{IsTaken}
 use Rattle.erm_core_steps.proofs.Aborts.{no_flusher}
 use Rattle.erm_core_steps.proofs.Early.{quiet_since, works_work}
-use Rattle.erm_core_steps.proofs.Places.{active_at}
 use Rattle.erm_core_steps.proofs.Quiet.{IsActive}
 use Rattle.erm_core_steps.proofs.Stamps.{work_is}
 use Rattle.erm_core_steps.proofs.Unseen.{others_stay}
