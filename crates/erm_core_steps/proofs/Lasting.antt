@@ -24,6 +24,7 @@ sessions_kept sessions c d quiet stays = record {
   session = λ seat is. session_same sessions c d quiet stays seat is.1;
   opening = opening_same sessions c d stays;
   tail = stays.shared.tail;
+  saves = λ seat is. refl;
 }
 
 -- the row was read where the world had this view and this log, and its sessions are kept up to a state

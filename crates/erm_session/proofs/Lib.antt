@@ -17,6 +17,7 @@ pub mod RowsClaimed
 pub mod RowsRead
 pub mod Saved
 pub mod Seals
+pub mod Shown
 pub mod Skewing
 pub mod Snapshots
 pub mod Sought

@@ -2,7 +2,7 @@
 use Rattle.std.proofs.Common.{◌≡◌, ℕ, zero, suc, ◌≤◌, ◌<◌, Bool, true, false, List, [], ◌∷◌, ◌++◌, length, map, take, set, get_or, Option, None, Some, refl, sym, ap, ◌∙◌, subst, arith}
 use Rattle.std.proofs.lemmas.List.{append-nil, length-map, length-set, length_push, map-append, map-set}
 use Rattle.std.specs.List.{AllByRecursion}
-use Rattle.std.specs.Prelude.{if◌then◌else◌}
+use Rattle.std.specs.Prelude.{if◌then◌else◌, IfErr, IfOk, Result, Ok, Err}
 use Rattle.erm_machine.specs.declared.attempt.Claim.{Claim}
 use Rattle.erm_machine.specs.declared.part.Part.{Part}
 use Rattle.erm_machine.specs.Core.{claim_at, no_claim}
@@ -268,3 +268,20 @@ stays_where n m s w u who why x refused left stays same on =
     ap (λ (z : Session). saves_of z (part_of w who)) there
     ∙ ap (λ (z : View). saves_of n (part_of z who)) (stays goes)
     ∙ same goes (ap (λ (z : Session). phase_of z.stage) (sym there) ∙ on)
+
+-- without a transaction that is active none is shown
+pub none_shown : (g : Stage) (points : List Rows) (x : Part) → (phase_of g ≡ phase.Active → ⊥) → saves_at g points x ≡ []
+none_shown (stage.Active t) points x none = absurd (none refl)
+none_shown stage.Idle points x none = refl
+none_shown (stage.Sealed t) points x none = refl
+none_shown (stage.Pending begin next) points x none = refl
+none_shown (stage.Safe begin) points x none = refl
+
+-- where the session isn't active then nothing is said
+pub stays_past : (s n : Session) (x y : Part) (p : Phase) → phase_of n.stage ≡ p → (p ≡ phase.Active → ⊥) → StaySaved s x n y
+stays_past s n x y p is none on = absurd (none (sym is ∙ on))
+
+-- one that was idle had none, and has none where it has begun
+pub stays_begun : {A B : Type 0} (r : Result A B) (s n : Session) (x y : Part) → phase_of s.stage ≡ phase.Idle → IfOk r (λ z. saves_of n y ≡ []) → IfErr r (λ z. phase_of n.stage ≡ phase.Idle) → StaySaved s x n y
+stays_begun (Ok z) s n x y idle none still on = none ∙ sym (none_shown s.stage s.saves.points x (λ at. absurd (cc)))
+stays_begun (Err z) s n x y idle none still on = absurd (cc)

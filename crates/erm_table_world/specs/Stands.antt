@@ -21,9 +21,11 @@ use Rattle.erm_table_world.specs.Flusher.{pin_in, task_in}
 use Rattle.erm_world.specs.Laws.{IsPossibleIn, IsSerializable}
 use Rattle.erm_world.specs.Log.{IsLog, Log}
 use Rattle.erm_world.specs.Safe.{HasSafeStamps}
+use Rattle.erm_world.specs.Saves.{with_saves}
 use Rattle.erm_world.specs.Whole.{IsLogOf}
 use Rattle.erm_world.specs.World.{View}
 use Rattle.erm_table_world.specs.declared.table_world.TableWorld.{TableWorld}
+use Rattle.erm_table_world.specs.Saves.{table_saves}
 
 -- The pass has had all seats since the table's start: so it has one state, which is sound under the law of rows, has the table's cells,
 -- and in which each cut in progress cuts behind the newest version below its horizon.
@@ -75,9 +77,9 @@ table_view w = view_of w.count (core_of (book w.pass))
 abbrev pub with_cuts : ℕ → View → View
 with_cuts n v = record v { opening = record v.opening { cuts = n } }
 
--- its view as that of a world of sessions: no call cuts off more versions than there are cells
+-- its view as that of a world of sessions, with their savepoints: no call cuts off more versions than there are cells
 abbrev pub world_view : {L : Type 0} → TableWorld L → View
-world_view w = with_cuts TABLE_CELLS (table_view w)
+world_view w = with_saves (table_saves w) (with_cuts TABLE_CELLS (table_view w))
 
 -- its log
 abbrev pub table_log : {L : Type 0} → TableWorld L → Log

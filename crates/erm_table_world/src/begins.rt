@@ -1,6 +1,7 @@
 //! The begin of a transaction.
 ghost use Rattle.std.specs.Prelude.{◌≡◌, ◌≢◌, IfErr, IfOk};
 ghost use Rattle.erm_model.specs.declared.outcome.Phase.TheVariants.{Idle};
+ghost use Rattle.erm_table_world.specs.Saves.{KeepsSaves};
 ghost use Rattle.erm_table_world.specs.Stands.{Stands, table_view};
 ghost use Rattle.erm_world.specs.Calls.{DidBegin, MayNotBegin};
 ghost use Rattle.erm_world.specs.World.{IsSession, phase_at};
@@ -18,6 +19,7 @@ impl<L: RowLaw> TableWorld<L> {
         requires session { IsSession (table_view self.old) seat }
         requires idle { phase_at (table_view self.old) seat ≡ Idle }
         ensures stands { Stands L.law self.new }
+        ensures saves { KeepsSaves self.old seat self.new }
         ensures ok { IfOk result (λ begin. DidBegin (table_view self.old) seat begin (table_view self.new)) }
         ensures err { IfErr result (λ stop. MayNotBegin (table_view self.old) seat stop (table_view self.new)) }
         ensures memory { IfErr result (λ stop. stop ≢ Memory) }

@@ -5,6 +5,7 @@ ghost use Rattle.erm_model.specs.declared.outcome.Phase.TheVariants.{Active};
 ghost use Rattle.erm_model.specs.declared.row_stop.RowStop.TheVariants.{Memory};
 ghost use Rattle.erm_rule.specs.Books.{book};
 ghost use Rattle.erm_session.specs.Took.{TookAnyClaim, TookAnyTidy};
+ghost use Rattle.erm_table_world.specs.Saves.{KeepsSaves};
 ghost use Rattle.erm_table_world.specs.Stands.{Stands, table_view};
 ghost use Rattle.erm_world.specs.Calls.{DidClaim, DidNotClaim, DidWrite};
 ghost use Rattle.erm_world.specs.World.{IsSession, phase_at};
@@ -23,6 +24,7 @@ impl<L: RowLaw> TableWorld<L> {
         requires active { phase_at (table_view self.old) seat ≡ Active }
         requires object { oid < OID_LIMIT }
         ensures stands { Stands L.law self.new }
+        ensures saves { KeepsSaves self.old seat self.new }
         ensures ok { OnOk result (DidClaim (table_view self.old) seat oid (table_view self.new)) }
         ensures took { OnOk result ((cut : ℕ) × TookAnyClaim L.law seat oid cut (book self.old.pass) (book self.new.pass)) }
         ensures err { IfErr result (λ stop. DidNotClaim (table_view self.old) seat oid stop (table_view self.new)) }
@@ -42,6 +44,7 @@ impl<L: RowLaw> TableWorld<L> {
         requires active { phase_at (table_view self.old) seat ≡ Active }
         requires object { oid < OID_LIMIT }
         ensures stands { Stands L.law self.new }
+        ensures saves { KeepsSaves self.old seat self.new }
         ensures ok { OnOk result (DidClaim (table_view self.old) seat oid (table_view self.new)) }
         ensures count { IfOk result (λ cut. cut ≤ TABLE_CELLS) }
         ensures took { IfOk result (λ cut. TookAnyTidy L.law seat oid cut (book self.old.pass) (book self.new.pass)) }
@@ -60,6 +63,7 @@ impl<L: RowLaw> TableWorld<L> {
         requires active { phase_at (table_view self.old) seat ≡ Active }
         requires object { oid < OID_LIMIT }
         ensures stands { Stands L.law self.new }
+        ensures saves { KeepsSaves self.old seat self.new }
         ensures ok { OnOk result (DidWrite (table_view self.old) seat oid row.now (table_view self.new)) }
         ensures err { IfErr result (λ stop. DidNotClaim (table_view self.old) seat oid stop (table_view self.new)) }
         ensures memory { IfErr result (λ stop. stop ≢ Memory) }

@@ -7,6 +7,7 @@ mod log_world;
 mod makes;
 mod reads;
 mod safe_world;
+mod saving;
 mod seals;
 mod settles;
 mod snapshots;

@@ -7,7 +7,7 @@ use erm_world::{Gathered, LogWorld, ScriptWorld, SeatWait};
 impl<L: RowLaw> LogWorld for TableWorld<L> {
     ghost use Rattle.erm_core_steps.specs.Keeping as keeping;
     ghost use Rattle.erm_table_world.specs.Logs.{KeepsSessions};
-    ghost use Rattle.erm_table_world.specs.Stands.{IsTableWorld, Stands, table_log, table_view};
+    ghost use Rattle.erm_table_world.specs.Stands.{IsTableWorld, Stands, table_log, world_view};
 
     ghost rows_law = { L.law };
 
@@ -53,20 +53,19 @@ impl<L: RowLaw> LogWorld for TableWorld<L> {
 
     ghost is_log = { λ w world. world.log };
 
-    ghost keeps_itself = { λ w. keeping.keeps_itself (Stands L.law) table_view w };
+    ghost keeps_itself = { λ w. keeping.keeps_itself (Stands L.law) world_view w };
 
-    ghost keeps_on = { λ u v w first second. keeping.keeps_on (Stands L.law) table_view u v w first second };
+    ghost keeps_on = { λ u v w first second. keeping.keeps_on (Stands L.law) world_view u v w first second };
 }
 
 impl<L: RowLaw> ScriptWorld for TableWorld<L> {
     ghost use Rattle.erm_core_steps.specs.Keeping.{one_law};
-    ghost use Rattle.erm_table_world.specs.Logs.{view_kept};
 
     ghost one_law = { one_law L.law };
 
     ghost may_flush = { λ w world. world };
 
-    ghost sessions_stay = { λ v w world keeps after. (after, view_kept L.law v w keeps) };
+    ghost sessions_stay = { λ v w world keeps after. (after, keeps.sessions) };
 
     ghost one_log = { λ w world. world.log_of_view };
 }

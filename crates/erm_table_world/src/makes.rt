@@ -3,6 +3,7 @@ ghost use Rattle.std.specs.Prelude.{◌≡◌, ◌≢◌, ◌<◌, IfErr, IfOk};
 ghost use Rattle.erm_model.specs.declared.limits.TheConstants.{OID_LIMIT};
 ghost use Rattle.erm_model.specs.declared.outcome.Phase.TheVariants.{Active};
 ghost use Rattle.erm_model.specs.declared.row_stop.RowStop.TheVariants.{Memory};
+ghost use Rattle.erm_table_world.specs.Saves.{KeepsSaves};
 ghost use Rattle.erm_table_world.specs.Stands.{Stands, table_view};
 ghost use Rattle.erm_world.specs.Calls.{DidMake, DidNotMake};
 ghost use Rattle.erm_world.specs.World.{IsSession, phase_at};
@@ -18,6 +19,7 @@ impl<L: RowLaw> TableWorld<L> {
         requires session { IsSession (table_view self.old) seat }
         requires active { phase_at (table_view self.old) seat ≡ Active }
         ensures stands { Stands L.law self.new }
+        ensures saves { KeepsSaves self.old seat self.new }
         ensures object { IfOk result (λ oid. oid < OID_LIMIT) }
         ensures ok { IfOk result (λ oid. DidMake (table_view self.old) seat oid (table_view self.new)) }
         ensures err { IfErr result (λ stop. DidNotMake (table_view self.old) seat stop (table_view self.new)) }

@@ -3,6 +3,7 @@ ghost use Rattle.std.specs.Prelude.{◌≡◌, ◌≢◌, ◌<◌, IfErr, IfOk};
 ghost use Rattle.erm_model.specs.declared.limits.TheConstants.{OID_LIMIT};
 ghost use Rattle.erm_model.specs.declared.outcome.Phase.TheVariants.{Active};
 ghost use Rattle.erm_model.specs.declared.row_stop.RowStop.TheVariants.{Memory};
+ghost use Rattle.erm_table_world.specs.Saves.{KeepsSaves};
 ghost use Rattle.erm_table_world.specs.Stands.{Stands, table_view};
 ghost use Rattle.erm_world.specs.Calls.{DidNotRead, DidRead};
 ghost use Rattle.erm_world.specs.World.{IsSession, phase_at};
@@ -19,6 +20,7 @@ impl<L: RowLaw> TableWorld<L> {
         requires active { phase_at (table_view self.old) seat ≡ Active }
         requires object { oid < OID_LIMIT }
         ensures stands { Stands L.law self.new }
+        ensures saves { KeepsSaves self.old seat self.new }
         ensures ok { IfOk result (λ row. DidRead (table_view self.old) seat oid row (table_view self.new)) }
         ensures err { IfErr result (λ stop. DidNotRead (table_view self.old) seat oid stop (table_view self.new)) }
         ensures memory { IfErr result (λ stop. stop ≢ Memory) }

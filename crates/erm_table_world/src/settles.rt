@@ -1,6 +1,7 @@
 //! The settle of a transaction.
 ghost use Rattle.std.specs.Prelude.{◌≡◌, IfErr, IfOk};
 ghost use Rattle.erm_model.specs.declared.outcome.Phase.TheVariants.{Sealed};
+ghost use Rattle.erm_table_world.specs.Saves.{KeepsSaves};
 ghost use Rattle.erm_table_world.specs.Stands.{Stands, table_view};
 ghost use Rattle.erm_table_world.specs.Waits.{wait_of};
 ghost use Rattle.erm_world.specs.Calls.{DidNotSettle, DidSettle};
@@ -27,6 +28,7 @@ impl<L: RowLaw> TableWorld<L> {
         requires session { IsSession (table_view self.old) seat }
         requires sealed { phase_at (table_view self.old) seat ≡ Sealed }
         ensures stands { Stands L.law self.new }
+        ensures saves { KeepsSaves self.old seat self.new }
         ensures ok { IfOk result (λ outcome. DidSettle (table_view self.old) seat outcome (table_view self.new)) }
         ensures err { IfErr result (λ stop. DidNotSettle (table_view self.old) seat stop (table_view self.new)) }
     {

@@ -2,6 +2,7 @@
 ghost use Rattle.std.specs.Prelude.{◌≡◌, ◌≢◌, ◌<◌, IfErr, IfOk, OnOk};
 ghost use Rattle.erm_model.specs.declared.limits.TheConstants.{OID_LIMIT};
 ghost use Rattle.erm_model.specs.declared.outcome.Phase.TheVariants.{Idle, Pending, Safe};
+ghost use Rattle.erm_table_world.specs.Saves.{KeepsSaves};
 ghost use Rattle.erm_table_world.specs.Stands.{Stands, table_view};
 ghost use Rattle.erm_world.specs.declared.stops.BeginStop.TheVariants.{Memory};
 ghost use Rattle.erm_world.specs.Calls.{DidAbort, MayNotBegin};
@@ -20,6 +21,7 @@ impl<L: RowLaw> TableWorld<L> {
         requires session { IsSession (table_view self.old) seat }
         requires idle { phase_at (table_view self.old) seat ≡ Idle }
         ensures stands { Stands L.law self.new }
+        ensures saves { KeepsSaves self.old seat self.new }
         ensures ok { IfOk result (λ begin. DidBeginSafe (table_view self.old) seat begin (table_view self.new)) }
         ensures err { IfErr result (λ stop. MayNotBegin (table_view self.old) seat stop (table_view self.new)) }
         ensures memory { IfErr result (λ stop. stop ≢ Memory) }
@@ -34,6 +36,7 @@ impl<L: RowLaw> TableWorld<L> {
         requires session { IsSession (table_view self.old) seat }
         requires pending { phase_at (table_view self.old) seat ≡ Pending }
         ensures stands { Stands L.law self.new }
+        ensures saves { KeepsSaves self.old seat self.new }
         ensures ok { OnOk result (DidSafe (table_view self.old) seat (table_view self.new)) }
         ensures err { IfErr result (λ stop. DidNotSafe (table_view self.old) seat stop (table_view self.new)) }
     {
@@ -57,6 +60,7 @@ impl<L: RowLaw> TableWorld<L> {
         requires safe { phase_at (table_view self.old) seat ≡ Safe }
         requires object { oid < OID_LIMIT }
         ensures stands { Stands L.law self.new }
+        ensures saves { KeepsSaves self.old seat self.new }
         ensures same { table_view self.new ≡ table_view self.old }
         ensures row { DidSafeRead (table_view self.old) seat oid result }
     {
@@ -70,6 +74,7 @@ impl<L: RowLaw> TableWorld<L> {
         requires session { IsSession (table_view self.old) seat }
         requires snapshot { HasSnapshot (table_view self.old) seat }
         ensures stands { Stands L.law self.new }
+        ensures saves { KeepsSaves self.old seat self.new }
         ensures ended { DidAbort (table_view self.old) seat (table_view self.new) }
     {
         self.sessions[seat as usize - 1].end_safe(&self.table, &mut self.pass)

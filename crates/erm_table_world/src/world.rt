@@ -3,7 +3,7 @@ ghost use Rattle.erm_table_world.specs.Stands.{IsTableWorld, Stands};
 
 use crate::TableWorld;
 use erm_model::{Oid, Outcome, Phase, Receipt, Row, RowLaw, RowStop, Seat, Stamp};
-use erm_world::{BeginStop, NotFlushed, RowWorld, Wait};
+use erm_world::{BeginStop, NoSave, NotFlushed, RowWorld, SaveStop, Wait};
 
 /// A world that stands between two calls has what each world of sessions has: its commits are serializable, each of its
 /// transactions is possible, each safe snapshot stands on a safe stamp, and its log is a log, that of its view.
@@ -56,6 +56,16 @@ impl<L: RowLaw> RowWorld for TableWorld<L> {
     fn tidy(&mut self, seat: Seat, oid: Oid) -> Result<u32, RowStop> {
         standing_worlds_have_laws::<L>();
         self.tidy(seat, oid)
+    }
+
+    fn save(&mut self, seat: Seat) -> Result<u32, SaveStop> {
+        standing_worlds_have_laws::<L>();
+        self.save(seat)
+    }
+
+    fn back(&mut self, seat: Seat, n: u32) -> Result<(), NoSave> {
+        standing_worlds_have_laws::<L>();
+        self.back(seat, n)
     }
 
     fn seal(&mut self, seat: Seat) -> Stamp {
