@@ -16,7 +16,7 @@ use Rattle.erm_good_report.specs.GoodReport.{OwesToAnswers, places_of}
 use Rattle.erm_good_report.specs.Opening.{InTurn, Opening}
 use Rattle.erm_good_report.specs.Phases.{Closed, FitsPhase, IsAnswerTo, phase_of}
 use Rattle.erm_good_report.specs.Refusals.{HasNoWindowBefore, HasRefusalCause, IsNewerBy, IsOwn, IsOwnedBy, Moment, moment_at}
-use Rattle.erm_good_report.specs.Transactions.{Excludes, Exchange, Progress, Said, Transaction, heard, progress_of, said_of, table_of, transactions_of, with_ending, with_line}
+use Rattle.erm_good_report.specs.Transactions.{Excludes, Exchange, Progress, Said, Transaction, heard, progress_of, said_of, transactions_of, with_ending, with_line, works_on_map}
 use Rattle.erm_good_report.proofs.Phases.{answers_so}
 use Rattle.erm_explain.specs.declared.cause.Cause.{Cause}
 use Rattle.erm_explain.specs.declared.cause.Cause.TheVariants.{Itself, Line, Window, Missing}
@@ -72,19 +72,21 @@ stands (x ∷ xs) (suc k) within = stands xs k (omega (arith, within))
 gives : (phase : Phase) (c : Command) (a : Answer) → NeedsTransaction a → FitsPhase phase c a → IsAnswerTo c a
 gives phase c a needs fits = (answers_so phase c a (no_refusal a needs) fits).1
 
--- a line that is answered with its stamp that it is excluded names no table
-no_table : (c : Command) (stamp succ pred : ℕ) → IsAnswerTo c (answer.Excluded stamp succ pred) → table_of c ≡ None
-no_table (command.Get table key) stamp succ pred is = absurd is
-no_table (command.Put table key value) stamp succ pred is = absurd is
-no_table (command.Del table key) stamp succ pred is = absurd is
-no_table (command.Next table from) stamp succ pred is = absurd is
-no_table (command.Scan table low high) stamp succ pred is = absurd is
-no_table (command.Tidy table key) stamp succ pred is = absurd is
-no_table c stamp succ pred is = refl
+-- a line that is answered with its stamp that it is excluded works on no map
+no_work : (c : Command) (stamp succ pred : ℕ) → IsAnswerTo c (answer.Excluded stamp succ pred) → works_on_map c ≡ false
+no_work (command.Get table key) stamp succ pred is = absurd is
+no_work (command.Put table key value) stamp succ pred is = absurd is
+no_work (command.Del table key) stamp succ pred is = absurd is
+no_work (command.Next table from) stamp succ pred is = absurd is
+no_work (command.Scan table low high) stamp succ pred is = absurd is
+no_work (command.Tidy table key) stamp succ pred is = absurd is
+no_work command.Save stamp succ pred is = absurd is
+no_work (command.Back n) stamp succ pred is = absurd is
+no_work c stamp succ pred is = refl
 
-same_lines : (c : Command) (a : Answer) (t : Transaction) → table_of c ≡ None → (with_line (Some c) a t).lines ≡ t.lines
+same_lines : (c : Command) (a : Answer) (t : Transaction) → works_on_map c ≡ false → (with_line (Some c) a t).lines ≡ t.lines
 same_lines c a t none =
-    ap (λ (x : Option ℕ). t.lines ++ option_to_list (option_map (λ (table : ℕ). let e : Exchange = record { asked = c; answer = a } in e) x)) none ∙ append-nil t.lines
+    ap (λ (x : Bool). t.lines ++ option_to_list (let e : Exchange = record { asked = c; answer = a } in cond x (Some e) None)) none ∙ append-nil t.lines
 
 -- ---- the window of a transaction with the same begin and lines
 
@@ -199,7 +201,7 @@ module _ (opening : Opening) (script : List ScriptLine) (answers : List Answer) 
 
     shut : HasNoWindow all (its place l a at told tt) (Some stamp) succ pred
     shut =
-        let none = no_table l.command stamp succ pred (gives (phase_of l.session (first place)) l.command a tt (fits place l a at told tt)) in
+        let none = no_work l.command stamp succ pred (gives (phase_of l.session (first place)) l.command a tt (fits place l a at told tt)) in
         window_of all (its place l a at told tt) over (Some stamp) succ pred refl (sym (same_lines l.command a u none)) (owes.causes over in_all)
 
   shown : (place : ℕ) (l : ScriptLine) (a : Answer) → slice_get script place ≡ Some l → slice_get answers place ≡ Some a → IsRefusal a → (cause : Cause) → IsCause script answers place l a cause

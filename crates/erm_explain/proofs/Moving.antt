@@ -11,7 +11,7 @@ use Rattle.erm_script.specs.declared.script.Command.{Command}
 use Rattle.erm_script.specs.declared.script.Command.TheVariants as command
 use Rattle.erm_script.specs.declared.script.ScriptLine.{ScriptLine}
 use Rattle.erm_good_report.specs.Phases.{asks_safe}
-use Rattle.erm_good_report.specs.Transactions.{Exchange, Progress, Snapshot, Transaction, ended, goes_on, heard, own_snapshot, snapshot_after, table_of, with_end, with_ending, with_line, with_look}
+use Rattle.erm_good_report.specs.Transactions.{Exchange, Progress, Snapshot, Transaction, ended, goes_on, heard, own_snapshot, snapshot_after, with_end, with_ending, with_line, with_look, works_on_map}
 use Rattle.erm_good_report.specs.Transactions as report
 use Rattle.erm_explain.specs.declared.books.Books.{Books}
 use Rattle.erm_explain.specs.declared.told.Ending.{Ending}
@@ -51,22 +51,22 @@ exchanges_more script answers places place e is =
 
 -- ---- one more line
 
-one_some : (e : Exchange) (x : Option ℕ) → (x ≡ None → ⊥) → e ∷ [] ≡ option_to_list (option_map (λ (table : ℕ). e) x)
-one_some e None not = absurd (not refl)
-one_some e (Some table) not = refl
+one_some : (e : Exchange) (x : Bool) → x ≡ true → e ∷ [] ≡ option_to_list (cond x (Some e) None)
+one_some e false not = absurd (cc not)
+one_some e true works = refl
 
 -- what one more line makes of a transaction
 pub line_more : (script : List ScriptLine) (answers : List Answer) (line : ScriptLine) (place : ℕ) (answer : Answer) (told after : Told)
-    → slice_get script place ≡ Some line → slice_get answers place ≡ Some answer → (table_of line.command ≡ None → ⊥)
+    → slice_get script place ≡ Some line → slice_get answers place ≡ Some answer → works_on_map line.command ≡ true
     → after.session ≡ told.session → after.number ≡ told.number → after.begin ≡ told.begin → after.sealed ≡ told.sealed → after.ending ≡ told.ending
     → after.lines.items ≡ told.lines.items ++ place ∷ []
     → transaction_of script answers after ≡ with_line (Some line.command) answer (transaction_of script answers told)
-line_more script answers line place answer told after at of named session number begin sealed ending lines =
+line_more script answers line place answer told after at of works session number begin sealed ending lines =
     let e : Exchange = record { asked = line.command; answer = answer } in
-    let more : exchanges_at script answers after.lines.items ≡ exchanges_at script answers told.lines.items ++ option_to_list (option_map (λ table. e) (table_of line.command)) =
+    let more : exchanges_at script answers after.lines.items ≡ exchanges_at script answers told.lines.items ++ option_to_list (cond (works_on_map line.command) (Some e) None) =
     ap (exchanges_at script answers) lines
     ∙ exchanges_more script answers told.lines.items place e (exchange_is script answers line place answer at of)
-    ∙ ap (λ (es : List Exchange). exchanges_at script answers told.lines.items ++ es) (one_some e (table_of line.command) named)
+    ∙ ap (λ (es : List Exchange). exchanges_at script answers told.lines.items ++ es) (one_some e (works_on_map line.command) works)
     in
     let ends : ending_of after.ending ≡ ending_of told.ending = ap ending_of ending in
     cc

@@ -18,7 +18,7 @@ use Rattle.erm_good_report.specs.Opening.{InTurn, Opening}
 use Rattle.erm_good_report.specs.Phases.{Closed}
 use Rattle.erm_good_report.specs.Refusals.{HasNoWindowBefore, IsNewerBy, IsOwn, IsOwnedBy, Moment, moment_at}
 use Rattle.erm_good_report.specs.Transactions as report
-use Rattle.erm_good_report.specs.Transactions.{Exchange, Progress, Said, Transaction, heard, nothing, progress_of, said_of, table_of, transactions_of, with_line}
+use Rattle.erm_good_report.specs.Transactions.{Exchange, Progress, Said, Transaction, heard, nothing, progress_of, said_of, table_of, transactions_of, with_line, works_on_map}
 use Rattle.erm_explain.specs.declared.books.Books.{Books}
 use Rattle.erm_explain.specs.declared.cause.Cause.{Cause}
 use Rattle.erm_explain.specs.declared.cause.Cause.TheVariants.{Itself, Line, Window, Missing}
@@ -279,16 +279,16 @@ module _ (script : List ScriptLine) (answers : List Answer) (opening : Opening) 
   -- ---- excluded
 
   lines_with : (a : Answer) (own : Told) → slice_get answers place ≡ Some a → (with_line (Some l.command) a (view own)).lines ≡ exchanges_at script answers (places_with own l place)
-  lines_with a own told = either (table_of l.command)
+  lines_with a own told = either (works_on_map l.command)
     where
-      either : (x : Option ℕ) → exchanges_at script answers own.lines.items ++ option_to_list (option_map (λ (table : ℕ). let e : Exchange = record { asked = l.command; answer = a } in e) x)
-          ≡ exchanges_at script answers (own.lines.items ++ option_to_list (option_map (λ (table : ℕ). place) x))
-      either None = append-nil (exchanges_at script answers own.lines.items) ∙ ap (exchanges_at script answers) (sym (append-nil own.lines.items))
-      either (Some table) = sym (exchanges_more script answers own.lines.items place (record { asked = l.command; answer = a }) (exchange_is script answers l place a at told))
+      either : (x : Bool) → exchanges_at script answers own.lines.items ++ option_to_list (let e : Exchange = record { asked = l.command; answer = a } in cond x (Some e) None)
+          ≡ exchanges_at script answers (own.lines.items ++ option_to_list (cond x (Some place) None))
+      either false = append-nil (exchanges_at script answers own.lines.items) ∙ ap (exchanges_at script answers) (sym (append-nil own.lines.items))
+      either true = sym (exchanges_more script answers own.lines.items place (record { asked = l.command; answer = a }) (exchange_is script answers l place a at told))
 
   places_are : (a : Answer) (own : Told) → 0 < l.session → slice_get answers place ≡ Some a → IsCurrent books l.session own → (k : ℕ) → k ∈ places_with own l place
       → IsPlaceOf script answers own.session own.number k
-  places_are a own some told current k m = either (table_of l.command) m
+  places_are a own some told current k m = either (works_on_map l.command) m
     where
       here : IsPlaceOf script answers own.session own.number place
       here =
@@ -304,9 +304,9 @@ module _ (script : List ScriptLine) (answers : List Answer) (opening : Opening) 
             number_is = refl;
           }
 
-      either : (x : Option ℕ) → k ∈ (own.lines.items ++ option_to_list (option_map (λ (table : ℕ). place) x)) → IsPlaceOf script answers own.session own.number k
-      either None within = has.placed.current l.session own current k (subst (λ (xs : List ℕ). k ∈ xs) (append-nil own.lines.items) within)
-      either (Some table) within = elim (∈-push own.lines.items place k within) as (λ _. IsPlaceOf script answers own.session own.number k) [
+      either : (x : Bool) → k ∈ (own.lines.items ++ option_to_list (cond x (Some place) None)) → IsPlaceOf script answers own.session own.number k
+      either false within = has.placed.current l.session own current k (subst (λ (xs : List ℕ). k ∈ xs) (append-nil own.lines.items) within)
+      either true within = elim (∈-push own.lines.items place k within) as (λ _. IsPlaceOf script answers own.session own.number k) [
         | inl old ↦ has.placed.current l.session own current k old
         | inr last ↦ subst (λ (p : ℕ). IsPlaceOf script answers own.session own.number p) (sym last) here
       ]

@@ -107,7 +107,7 @@ abbrev pub Watches : ℕ → Books → Books → Type 0
 Watches session old new = (script : List ScriptLine) (answers : List Answer) (snapshot : Progress → Snapshot)
     → Moves script answers session (λ p. record p { snapshot = Some (snapshot p) }) old new
 
--- the line at a place, with its answer, is one of the current transaction's, if it names a table
+-- the line at a place, with its answer, is one of the current transaction's, if it works on the map
 abbrev pub Notes : ScriptLine → ℕ → Books → Books → Type 0
 Notes line place old new = (script : List ScriptLine) (answers : List Answer) (answer : Answer) → slice_get script place ≡ Some line → slice_get answers place ≡ Some answer
     → Moves script answers line.session (λ p. record p { current = option_map (with_line (Some line.command) answer) p.current }) old new

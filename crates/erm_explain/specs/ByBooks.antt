@@ -1,9 +1,9 @@
 -- Causes by what the books have.
-use Rattle.std.specs.Prelude.{◌≡◌, ◌≢◌, ℕ, ◌<◌, ◌≤◌, List, [], ◌∷◌, ◌++◌, take, slice_index_or, Option, Some, None, IfSome}
-use Rattle.std.specs.Option.{option_map, option_to_list}
+use Rattle.std.specs.Prelude.{◌≡◌, ◌≢◌, ℕ, ◌<◌, ◌≤◌, List, [], ◌∷◌, ◌++◌, take, slice_index_or, Option, Some, None, IfSome, if◌then◌else◌}
+use Rattle.std.specs.Option.{option_to_list}
 use Rattle.erm_report.specs.declared.answer.Answer.{Answer}
 use Rattle.erm_script.specs.declared.script.ScriptLine.{ScriptLine}
-use Rattle.erm_good_report.specs.Transactions.{nothing, progress_of, said_of, table_of}
+use Rattle.erm_good_report.specs.Transactions.{nothing, progress_of, said_of, works_on_map}
 use Rattle.erm_explain.specs.declared.books.Books.{Books}
 use Rattle.erm_explain.specs.declared.cause.Cause.{Cause}
 use Rattle.erm_explain.specs.declared.cause.Cause.TheVariants.{Line, Window, Missing}
@@ -44,9 +44,9 @@ IsNewer books script place session stamp (Line link) = (own : Told) × IsCurrent
 IsNewer books script place session stamp Missing = (own : Told) → IsCurrent books session own → NoneIsFound script (Newer session own.begin stamp) books.over.items (place ∷ [])
 IsNewer books script place session stamp cause = ⊥
 
--- the own places, with that of the line, if it names a table
+-- the own places, with that of the line, if it works on the map
 abbrev pub places_with : Told → ScriptLine → ℕ → List ℕ
-places_with own line place = own.lines.items ++ option_to_list (option_map (λ table. place) (table_of line.command))
+places_with own line place = own.lines.items ++ option_to_list (if works_on_map line.command then Some place else None)
 
 -- the lines that close a window, or none
 pub record Closes (books : Books) (script : List ScriptLine) (place : ℕ) (line : ScriptLine) (bound : Option ℕ) (succ pred : ℕ) (after before : Link) : Type 0 where

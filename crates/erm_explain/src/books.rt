@@ -6,8 +6,8 @@ ghost use Rattle.erm_good_report.specs.Phases.{asks_safe};
 ghost use Rattle.erm_good_report.specs.Transactions.{nothing};
 ghost use Rattle.erm_explain.specs.Books.{ArePlaced, AreSeats, Begins, Ends, EndsOwn, EndsWatch, HasProgress, Hears, KeepsPlaces, Notes, Refuses, Seals, Watches};
 
-use crate::table_of;
 use crate::told::{Ending, Told};
+use crate::works_on_map;
 use erm_model::{Seat, Stamp};
 use erm_report::Answer;
 use erm_script::{Command, ScriptLine};
@@ -125,7 +125,7 @@ impl Books {
         self.current[seat] = Some(told);
     }
 
-    // The line at a place is one of its session's current transaction, if it names a table.
+    // The line at a place is one of its session's current transaction, if it works on the map.
     fn note(&mut self, line: &ScriptLine, place: usize) -> Result<(), AllocError>
         requires { AreSeats self.old }
         ensures seats { OnOk result (AreSeats self.new) }
@@ -133,7 +133,7 @@ impl Books {
         ensures placed { OnOk result ((answer : AnyAnswer) → KeepsPlaces line.now place answer self.old self.new) }
     {
         let seat = usize::from(line.session);
-        if table_of(&line.command).is_none() {
+        if !works_on_map(&line.command) {
             return Ok(());
         }
         if let Some(told) = &mut self.current[seat] {

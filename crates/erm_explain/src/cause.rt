@@ -8,8 +8,8 @@ ghost use Rattle.erm_explain.specs.ByBooks.{HasTold, IsExcluded, IsNewer, IsOwne
 
 use crate::books::Books;
 use crate::links::{Link, Sought, Touch, find_link, find_over, is_below};
-use crate::table_of;
 use crate::told::Told;
+use crate::works_on_map;
 use erm_model::{Seat, Stamp};
 use erm_report::Answer;
 use erm_script::ScriptLine;
@@ -155,7 +155,7 @@ fn window(
     ))
 }
 
-// The places of a transaction's lines, with that of a line more, if it names a table.
+// The places of a transaction's lines, with that of a line more, if it works on the map.
 fn places_with(
     alloc: Global,
     own: &Told,
@@ -165,7 +165,7 @@ fn places_with(
     ensures { IfOk result (λ places. places.items ≡ places_with own.now line.now place) }
 {
     let mut places = Vec::from_slice(alloc, &own.lines)?;
-    if table_of(&line.command).is_some() {
+    if works_on_map(&line.command) {
         places.push(place)?;
     }
     Ok(places)

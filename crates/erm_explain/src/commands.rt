@@ -1,6 +1,6 @@
 //! What commands name.
 ghost use Rattle.std.specs.Prelude.{◌≡◌};
-ghost use Rattle.erm_good_report.specs.Transactions.{is_writer, table_of};
+ghost use Rattle.erm_good_report.specs.Transactions.{is_writer, table_of, works_on_map};
 
 use erm_script::Command;
 
@@ -17,6 +17,8 @@ pub fn table_of(command: &Command) -> Option<u8>
         | Command::Tidy { table, .. } => Some(*table),
         Command::Begin
         | Command::Safe
+        | Command::Save
+        | Command::Back { .. }
         | Command::Seal
         | Command::Settle
         | Command::Commit
@@ -25,6 +27,23 @@ pub fn table_of(command: &Command) -> Option<u8>
         | Command::Flush
         | Command::Checkpoint => None,
     }
+}
+
+/// Whether it works on the database map: it names a table, makes a savepoint, or goes back to one.
+pub fn works_on_map(command: &Command) -> bool
+    ensures { result ≡ works_on_map command.now }
+{
+    matches!(
+        command,
+        Command::Get { .. }
+            | Command::Put { .. }
+            | Command::Del { .. }
+            | Command::Next { .. }
+            | Command::Scan { .. }
+            | Command::Tidy { .. }
+            | Command::Save
+            | Command::Back { .. }
+    )
 }
 
 /// Whether it writes there.

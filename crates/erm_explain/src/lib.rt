@@ -12,7 +12,7 @@ mod told;
 pub use books::{Books, SEATS};
 pub use cause::{Cause, cause_of};
 pub use causes::explain;
-pub use commands::{is_writer, table_of};
+pub use commands::{is_writer, table_of, works_on_map};
 pub use laws::good_reports_show_causes;
 pub use links::{Link, Sought, Touch, find_link, find_over};
 pub use told::{Ending, Told};

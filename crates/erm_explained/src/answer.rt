@@ -99,6 +99,11 @@ fn number(words: &[&str], at: usize) -> u64 {
     word(words, at).parse::<u64>().unwrap_or(0)
 }
 
+// A number of a line that has 32 bits, or 0 where it has none there.
+fn count(words: &[&str], at: usize) -> u32 {
+    u32::try_from(number(words, at)).unwrap_or(0)
+}
+
 // A value of a line.
 fn value(words: &[&str], at: usize) -> Option<Value> {
     let word = word(words, at);
@@ -133,7 +138,11 @@ fn reply(words: &[&str], asked: &Command) -> Option<Answer> {
         "none" => Answer::Replied(Reply::Value(None)),
         "value" => Answer::Replied(Reply::Value(Some(value(words, 2)?))),
         "pair" => Answer::Replied(Reply::Pair(Some((number(words, 2), value(words, 3)?)))),
-        "cut" => Answer::Cut(u32::try_from(number(words, 2)).unwrap_or(0)),
+        "cut" => Answer::Cut(count(words, 2)),
+        "saved" => Answer::Saved {
+            held: count(words, 2),
+        },
+        "back" => Answer::Back { n: count(words, 2) },
         _ => return None,
     };
     Some(answer)
@@ -173,7 +182,7 @@ fn refusal(words: &[&str]) -> Option<Answer> {
     let answer = match first {
         "owned" => Answer::Owned {
             seat: u8::try_from(number(words, 2)).unwrap_or(0),
-            number: u32::try_from(last).unwrap_or(0),
+            number: count(words, 3),
         },
         "newer" => Answer::Newer {
             stamp: number(words, 2),
@@ -197,6 +206,10 @@ fn refusal(words: &[&str]) -> Option<Answer> {
         "writes" => Answer::WritesFull,
         "cells" => Answer::CellsFull { drawn: last },
         "oids" => Answer::OidsFull { drawn: last },
+        "saves" => Answer::SavesFull,
+        "no" if second == "save" => Answer::NoSave {
+            held: count(words, 3),
+        },
         _ => return None,
     };
     Some(answer)

@@ -164,6 +164,8 @@ fn push_command(out: &mut Vec<u8>, command: &Command) -> Result<(), AllocError>
         Command::Scan { table, low, high } => push_scan(out, *table, *low, *high),
         Command::Tidy { table, key } => push_keyed(out, b" tidy ", *table, *key),
         Command::Begin
+        | Command::Save
+        | Command::Back { .. }
         | Command::Seal
         | Command::Settle
         | Command::Commit

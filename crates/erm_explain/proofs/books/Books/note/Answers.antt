@@ -1,8 +1,7 @@
-use Rattle.std.proofs.Common.{◌≡◌, ◌<◌, ℕ, false, not, length, refl, sym, ap, ◌∙◌, subst, arith, get_or, set, take, Option, Some, None}
-use Rattle.std.specs.Option.{is_some}
+use Rattle.std.proofs.Common.{◌≡◌, ◌<◌, ℕ, true, length, refl, sym, ap, ◌∙◌, subst, arith, get_or, set, take, Option, Some, None}
 use Rattle.std.proofs.lemmas.List.{get_or_default}
 use Rattle.std.specs.Option.{option_map}
-use Rattle.erm_good_report.specs.Transactions.{progress_of, said_of, table_of, with_line}
+use Rattle.erm_good_report.specs.Transactions.{progress_of, said_of, with_line, works_on_map}
 use Rattle.erm_explain.specs.declared.told.Told.{Told}
 use Rattle.erm_explain.specs.Books.{ArePlacesOf, IsPlaceOf, transaction_of}
 use Rattle.erm_explain.proofs.Moving.{current_moves, line_more}
@@ -26,15 +25,13 @@ returns-in_ok-push-clause-notes c script answers answer at told =
     let here : get_or current c.from-seat.result None ≡ Some c.in-Some.told =
     get_or_default current c.from-seat.result None c.index_mut.result.now within ∙ sym c.index_mut.ensures.value ∙ c.in-Some.is
     in
-    let named : table_of line.command ≡ None → ⊥ =
-    λ none. let bad : false ≡ not false = sym (ap (λ (x : Option ℕ). is_some x) (c.table_of.ensures ∙ none)) ∙ c.is_none.ensures ∙ ap not c.if-is_none.false in absurd (cc)
-    in
+    let works : works_on_map line.command ≡ true = sym c.works_on_map.ensures ∙ cc c.if-not-works_on_map.false in
     current_moves script answers line.session c.args.self.now _ c.in-Some.told after (with_line (Some line.command) answer)
     (subst (λ (i : ℕ). i < length current) c.from-seat.ensures within)
     (subst (λ (i : ℕ). get_or current i None ≡ Some c.in-Some.told) c.from-seat.ensures here)
     (ap (λ (i : ℕ). set current i (Some after)) c.from-seat.ensures)
     refl refl refl
-    (line_more script answers line c.args.place answer c.in-Some.told after at told named refl refl refl refl refl c.in_ok-push.ensures.items)
+    (line_more script answers line c.args.place answer c.in-Some.told after at told works refl refl refl refl refl c.in_ok-push.ensures.items)
 
 pub returns-in_ok-push-clause-placed : goal.returns-in_ok-push-clause-placed
 returns-in_ok-push-clause-placed c answer script answers at told has placed =
