@@ -22,7 +22,7 @@ use Rattle.erm_world.specs.World.{Finished, IsSession, IsWorking, Session, Snaps
 use Rattle.erm_world.specs.World as world
 use Rattle.erm_world.specs.Works.{claiming, reading, setting}
 use Rattle.erm_safe_world.specs.Moves.{IsOfNow, MovesOn}
-use Rattle.erm_safe_world.proofs.Moved.{abort_moves, becomes_moves, done_moves, keeps_moves, moves_nowhere, moves_then, one_moves}
+use Rattle.erm_safe_world.proofs.Moved.{abort_moves, becomes_moves, done_moves, moves_nowhere, moves_then, one_moves, same_sessions_moves}
 
 -- an active session is at work with its transaction
 active_works : (s : Stand) → phase_of s ≡ Active → IsWorking s (work_of s)
@@ -69,7 +69,7 @@ write_moves v t seat oid row session active did =
 
 -- SAVE, BACK. Savepoints are no move, and a transaction that goes back goes on.
 holds_moves : (v t : View) (seat : ℕ) (held : List (List VersionWritten)) → t ≡ holding seat held v → MovesOn v t
-holds_moves v t seat held is = subst (MovesOn v) (sym is) (keeps_moves v (holding seat held v) (record { session = λ q session. refl; opening = refl; tail = refl }))
+holds_moves v t seat held is = subst (MovesOn v) (sym is) (same_sessions_moves v (holding seat held v) refl refl (λ q session. refl))
 
 pub save_moves : (v t : View) (seat held : ℕ) → DidSave v seat held t → MovesOn v t
 save_moves v t seat held did = holds_moves v t seat (v.saves seat ++ (work_at v seat).claims ∷ []) did.saved

@@ -70,17 +70,17 @@ keeps_commit v t opening same r m =
       is = c.is;
     })
 
+pub same_sessions_moves : (v t : View) → t.opening ≡ v.opening → t.tail ≡ v.tail → ((q : ℕ) → IsSession v q → t.session q ≡ v.session q) → MovesOn v t
+same_sessions_moves v t opening tail same = record {
+  opening = opening;
+  tail = omega (arith, tail);
+  kept = keeps_commit v t opening same;
+  commits = λ r m. inl (keeps_commit t v (sym opening) (λ q session. sym (same q (session_before v t q opening session))) r m);
+  works = λ seat w session working. inl (seat, w, session, subst (λ (s : Session). IsWorking s.stand w) (same seat session) working, refl);
+}
+
 pub keeps_moves : (v t : View) → KeepsSessions v t → MovesOn v t
-keeps_moves v t keeps =
-    let tail = keeps.tail in
-    record {
-      opening = keeps.opening;
-      tail = omega (arith, tail);
-      kept = keeps_commit v t keeps.opening keeps.session;
-      commits = λ r m.
-          inl (keeps_commit t v (sym keeps.opening) (λ q session. sym (keeps.session q (session_before v t q keeps.opening session))) r m);
-      works = λ seat w session working. inl (seat, w, session, subst (λ (s : Session). IsWorking s.stand w) (keeps.session seat session) working, refl);
-    }
+keeps_moves v t keeps = same_sessions_moves v t keeps.opening keeps.tail keeps.session
 
 -- ONE SESSION changes: what is over in it was over before, or is a commit of now; and so is what it is at work with.
 abbrev pub IsCommitNow : View → Finished → Type 0

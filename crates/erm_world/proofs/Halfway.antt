@@ -1,10 +1,11 @@
 -- Claims that go back one after another, in order.
-use Rattle.std.proofs.Common.{◌≡◌, ℕ, zero, suc, ◌<◌, ◌≤◌, Option, Some, None, List, [], ◌∷◌, ◌++◌, length, map, take, drop, set, get_or, cond, eqb, true, false, refl, sym, ap, ◌∙◌, arith, append-nil}
+use Rattle.std.proofs.Common.{◌≡◌, ℕ, zero, suc, ◌<◌, ◌≤◌, Bool, Option, Some, None, List, [], ◌∷◌, ◌++◌, length, map, take, drop, set, get_or, cond, eqb, true, false, refl, sym, ap, ◌∙◌, arith, append-nil}
 use Rattle.std.specs.List.{slice_get}
 use Rattle.std.proofs.lemmas.Bool.{cond-true, cond-false, eq-eqb, ne_eqb}
 use Rattle.std.proofs.lemmas.List.{drop_all, take_all}
 use Rattle.std.proofs.lemmas.Option.{slice_get-get_or}
 use Rattle.erm_model.specs.declared.history.VersionWritten.{VersionWritten}
+use Rattle.erm_world.specs.Going.{found_by}
 use Rattle.erm_world.specs.Saves.{OnceOf, restored, undone}
 use Rattle.erm_world.specs.Works.{with_row}
 
@@ -12,6 +13,20 @@ use Rattle.erm_world.specs.Works.{with_row}
 abbrev pub claim_back : Option VersionWritten → VersionWritten → VersionWritten
 claim_back (Some s) c = s
 claim_back None c = undone c
+
+-- one that found what the one saved did, and has its row and counts as set as it does, is that one
+as_saved : (s c : VersionWritten) → found_by c ≡ found_by s → record c { row = s.row; is_set = s.is_set } ≡ s
+as_saved s c same =
+    ap (λ (f : ℕ × ℕ × List ℕ). let claim : VersionWritten = record { oid = f.0; stamp = f.1; base = f.2; row = s.row; is_set = s.is_set } in claim) same
+
+pub saved_set : (s c : VersionWritten) → found_by c ≡ found_by s → s.is_set ≡ true → record c { row = s.row; is_set = true } ≡ s
+saved_set s c same set_so = ap (λ (b : Bool). let claim : VersionWritten = record c { row = s.row; is_set = b } in claim) (sym set_so) ∙ as_saved s c same
+
+pub saved_unset : (s c : VersionWritten) → found_by c ≡ found_by s → s.is_set ≡ false → s.row ≡ s.base → undone c ≡ s
+saved_unset s c same unset kept =
+    let base : c.base ≡ s.row = ap (λ (f : ℕ × ℕ × List ℕ). f.2) same ∙ sym kept in
+    ap (λ (row : List ℕ). let claim : VersionWritten = record c { row = row; is_set = false } in claim) base
+    ∙ ap (λ (b : Bool). let claim : VersionWritten = record c { row = s.row; is_set = b } in claim) (sym unset) ∙ as_saved s c same
 
 -- claims of which those before a place have gone back
 abbrev pub halfway : (saved claims : List VersionWritten) → ℕ → List VersionWritten
