@@ -24,11 +24,11 @@ use Rattle.erm_told_at_once.proofs.Runs.{line_there}
 use Rattle.erm_causes_at_once.specs.Laws.{RunsInPartTellSaves}
 
 -- an answer that is no refusal by a phase is that of a command which the phase allowed
-record Allowed (f : View) (seat : ℕ) (c : Command) (a : Answer) (v t : View) : Type 0 where
-  free : refusal_of (phase_at v seat) c ≡ None
-  did : DidInBeside (phase_at v seat) f seat c a v t
+pub record Allowed (f : View) (seat : ℕ) (c : Command) (a : Answer) (v t : View) : Type 0 where
+  pub free : refusal_of (phase_at v seat) c ≡ None
+  pub did : DidInBeside (phase_at v seat) f seat c a v t
 
-allowed_free : (f : View) (l : ScriptLine) (a : Answer) (v t : View) → DidLineBeside f l a v t → refusal_in a ≡ None → Allowed f l.session l.command a v t
+pub allowed_free : (f : View) (l : ScriptLine) (a : Answer) (v t : View) → DidLineBeside f l a v t → refusal_in a ≡ None → Allowed f l.session l.command a v t
 allowed_free f l a v t did none = by (refusal_of (phase_at v l.session) l.command) refl did.fits did.did
   where
     by : (r : Option Answer) → refusal_of (phase_at v l.session) l.command ≡ r → FitsRefusal r l.command a → DidAskedBeside r f l.session l.command a v t → Allowed f l.session l.command a v t
@@ -66,7 +66,7 @@ module _ (f : View) (seat : ℕ) (own : Transaction) (v t : View) (held : phase_
       in_phase (HasSaveCause (held_of own) (command.Back n) a) f seat (command.Back n) a v t
       (λ plain done. back_cause n a (active_where NeedsWriter (phase_at v seat) tt plain it.free) done) (λ has done. absurd done) it.did
 
-  line_cause : (c : Command) (a : Answer) → (refusal_in a ≡ None → Allowed f seat c a v t) → HasSaveCause (held_of own) c a
+  pub line_cause : (c : Command) (a : Answer) → (refusal_in a ≡ None → Allowed f seat c a v t) → HasSaveCause (held_of own) c a
   line_cause command.Save (answer.Saved told) it = saved_cause (answer.Saved told) (it refl)
   line_cause command.Save answer.SavesFull it = saved_cause answer.SavesFull (it refl)
   line_cause (command.Back n) (answer.Back told) it = went_cause n (answer.Back told) (it refl)

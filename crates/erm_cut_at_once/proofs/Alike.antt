@@ -376,6 +376,7 @@ module _ (ts us : List Transaction) (alike : Alike ts us) where
     refusals = λ i l a at answered.
         let log = logs i l a at answered in record {
           own = λ t own. refusal_here opening whole part answers i l l.command t a ((owes.refusals i l a at answered).own t own);
+          saves = λ t current. (owes.refusals i l a at answered).saves t current;
           log = log.0;
           unfilled = log.1;
         };

@@ -28,7 +28,7 @@ use Rattle.erm_lines_at_once.specs.Answers.{DidCloseBeside, DidEndBeside}
 use Rattle.erm_lines_at_once.specs.CutRuns.{IsCutPart, IsRest, Waited, aborted, drew, ended, stood, watched}
 use Rattle.erm_lines_at_once.specs.Executions.{IsOwnRun}
 use Rattle.erm_lines_at_once.specs.Operations.{WasTried}
-use Rattle.erm_causes_at_once.proofs.Called.{Kept, kept_same, tried_kept}
+use Rattle.erm_causes_at_once.proofs.Called.{KeptOn, kept_same, tried_kept}
 use Rattle.erm_limits_at_once.proofs.Chained.{passes_itself}
 use Rattle.erm_limits_at_once.proofs.Looked.{BeganIn, began_in}
 use Rattle.erm_told_limits.proofs.Holds.{Laws}
@@ -87,7 +87,7 @@ wait_passes : (f : View) (seat : ℕ) (next : Option ScriptLine) (v t : View) �
 wait_passes f seat None v t passes = (passes.tail, passes.flushed, passes.given_up)
 wait_passes f seat (Some l) v t (n, tried) = tries_pass f seat l.command n v t tried
 
-wait_kept : (f : View) (seat : ℕ) (next : Option ScriptLine) (v t : View) → phase_at v seat ≡ Active → Waited f seat next v t → Kept (v.session seat) (t.session seat)
+wait_kept : (f : View) (seat : ℕ) (next : Option ScriptLine) (v t : View) → phase_at v seat ≡ Active → Waited f seat next v t → KeptOn (v.session seat) (t.session seat)
 wait_kept f seat None v t active passes = kept_same (v.session seat) (t.session seat) active passes.own
 wait_kept f seat (Some l) v t active (n, tried) = tried_kept f seat l.command n v t active tried
 

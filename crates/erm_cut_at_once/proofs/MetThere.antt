@@ -239,6 +239,8 @@ module _ (f : View) (told : ℕ → Session) (drew : ℕ → ℕ) (stands : (sea
   command_here seat session command.Abort answer.Aborted v t did = did
   command_here seat session command.Durable (answer.Durable stamp) v t did = did
   command_here seat session command.Durable answer.NoReceipt v t did = did
+  command_here seat session command.Save a v t did = did
+  command_here seat session (command.Back n) a v t did = did
   command_here seat session (command.Get table key) a v t did = operation_here seat session (command.Get table key) a v t did
   command_here seat session (command.Put table key value) a v t did = operation_here seat session (command.Put table key value) a v t did
   command_here seat session (command.Del table key) a v t did = operation_here seat session (command.Del table key) a v t did

@@ -205,7 +205,7 @@ module _ (laws : Laws) (runs : NoneRuns) (stay : (w u : Work) (steps : List Step
       → (t : Transaction) × ((progress_of seat (places_of part answers closed)).current ≡ Some t) × (t.ending ≡ Unfinished)
   now_told seat session is =
       let its = left_as seat session in
-      let tells = (known seat session its.last its.run).tells.now in
+      let tells = (known seat session its.last its.run).told.tells.now in
       subst (λ (said : List Said). (t : Transaction) × ((progress_of seat said).current ≡ Some t) × (t.ending ≡ Unfinished)) (all_say part answers closed)
       (told_now seat (fold (hears seat) nothing (said_in moves)).current (its.last.session seat).stand tells (its.active is))
 
@@ -222,7 +222,7 @@ module _ (laws : Laws) (runs : NoneRuns) (stay : (w u : Work) (steps : List Step
   never_watched seat session is =
       let its = left_as seat session in
       subst (λ (said : List Said). (progress_of seat said).snapshot ≡ None) (all_say part answers closed)
-      (none_active seat (fold (hears seat) nothing (said_in moves)) (its.last.session seat) (its.active is) (known seat session its.last its.run).tells)
+      (none_active seat (fold (hears seat) nothing (said_in moves)) (its.last.session seat) (its.active is) (known seat session its.last its.run).told.tells)
 
   abbrev ended_in : List Said → ℕ → List Committed
   ended_in said q = filter_map (ended_as q) (progress_of q said).snapshots

@@ -1,5 +1,5 @@
 -- The world as it is told: each session as the lines told leave it, in the place of the world in which all end. What is so of this is so of that.
-use Rattle.std.proofs.Common.{◌≡◌, ℕ, zero, suc, ◌+◌, ◌<◌, ◌≤◌, List, ◌++◌, refl, sym, ap, ◌∙◌, subst, arith}
+use Rattle.std.proofs.Common.{◌≡◌, ℕ, zero, suc, ◌+◌, ◌<◌, ◌≤◌, List, [], ◌++◌, refl, sym, ap, ◌∙◌, subst, arith}
 use Rattle.erm_model.specs.declared.history.VersionRead.{VersionRead}
 use Rattle.erm_model.specs.declared.history.VersionWritten.{VersionWritten}
 use Rattle.erm_model.specs.History.{History, IsCertified, IsNewestBelow, IsPredecessorStamp, IsSnapshot, IsSuccessorStamp}
@@ -9,6 +9,7 @@ use Rattle.erm_machine.proofs.Listed.{∈-first}
 use Rattle.erm_node.specs.Sound.{sound_law}
 use Rattle.erm_world.specs.Laws.{IsSerializable, SeesSnapshot}
 use Rattle.erm_world.specs.Safe.{IsSafeIn}
+use Rattle.erm_world.specs.Saves.{OnceOf}
 use Rattle.erm_world.specs.World.{Has, HasStamp, IsSession, Session, View, Work, claims_by_all, claims_upto, committed_in, history_of, history_upto, made_by_all, made_upto, record_of, work_at}
 use Rattle.erm_lines_at_once.specs.Ends.{IsEnd, sealed_below, sealed_upto}
 use Rattle.erm_lines_at_once.specs.Parts.{IsLeft}
@@ -20,9 +21,9 @@ unfoldable pub drawn_upto : ℕ → (ℕ → ℕ) → ℕ
 drawn_upto zero drew = 0
 drawn_upto (suc n) drew = drawn_upto n drew + drew (suc n)
 
--- the sessions of one world in the places of those of the other
+-- the sessions of one world in the places of those of the other, which hold no savepoints
 abbrev pub told_world : View → (ℕ → Session) → View
-told_world f told = record f { session = told }
+told_world f told = record f { session = told; saves = λ q. [] }
 
 module _ (f : View) (told : ℕ → Session) (drew : ℕ → ℕ) (stands : (seat : ℕ) → IsSession f seat → StandsFor (drew seat) (told seat) (f.session seat)) where
   abbrev g : View
@@ -126,6 +127,9 @@ module _ (f : View) (told : ℕ → Session) (drew : ℕ → ℕ) (stands : (sea
       lawful = λ seat w stamp session has. holds.lawful seat w stamp session (stamp_there seat w stamp session has);
       made_once = λ x. omega (arith, same_made x, holds.made_once x);
       made_new = λ x some. holds.made_new x (omega (arith, same_made x, some));
+      once = λ seat session. subst OnceOf (sym (stands seat session).current) (holds.once seat session);
+      saves = λ seat w session stand j saved at. absurd (cc at);
+      few_saves = λ seat session active. omega arith;
     }
 
   -- THE LOG may have one block more for each stamp that isn't told.

@@ -12,27 +12,30 @@ use Rattle.erm_report.specs.declared.answer.Answer.{Answer}
 use Rattle.erm_script.specs.declared.script.Command.{Command}
 use Rattle.erm_world.specs.Going.{Extends}
 use Rattle.erm_world.specs.Laws.{IsSerializable}
-use Rattle.erm_world.specs.Snapshots.{snapshot_not_active}
 use Rattle.erm_world.specs.Works.{row_read}
 use Rattle.erm_world.specs.World.{IsSession, Session, Stand, View, Work, claims_in, phase_at, phase_of, work_at, work_of}
 use Rattle.erm_world.specs.World as world
-use Rattle.erm_maps.specs.Runs.{IsAnswered, IsRunOf, kept_at}
+use Rattle.erm_maps.specs.Runs.{IsAnswered, IsRunOf, Kept, kept_at}
 use Rattle.erm_good_report.specs.Refusals.{claims_of, makes_of, reads_of}
 use Rattle.erm_good_report.specs.Transactions.{Exchange, Progress, Said, Transaction, heard, nothing, steps_of, with_line}
 use Rattle.erm_lines.specs.Executions.{Move, close, flush, line, log, said_in}
 use Rattle.erm_lines.specs.Told.{Continues, TellsNow}
 use Rattle.erm_lines.proofs.Keeping.{NoneRuns}
+use Rattle.erm_lines.proofs.Saved.{kept_back}
 use Rattle.erm_beside.specs.Calls.{Passes}
 use Rattle.erm_lines_at_once.specs.Executions.{IsOwnRun}
 use Rattle.erm_told.proofs.Executed.{Knows, hears, turns}
 use Rattle.erm_told.proofs.Going.{continues_then}
 use Rattle.erm_told.proofs.Sessions.{sealed_untold}
+use Rattle.erm_told.proofs.Turns.{TellsAt, now_active}
 use Rattle.erm_told_at_once.proofs.Runs.{knows_own, own_goes}
 use Rattle.erm_causes.proofs.Moves.{work_now}
+use Rattle.erm_causes.proofs.Operated.{GoesOnBy}
 use Rattle.erm_causes.proofs.Quiet.{SameNow}
+use Rattle.erm_causes.proofs.Saved.{AtSavepoint, back, refused, saved}
 use Rattle.erm_causes.proofs.Tables.{AreMovesInRange}
 use Rattle.erm_causes_at_once.proofs.Called.{Once, once_of, out, stayed, whole}
-use Rattle.erm_causes_at_once.proofs.Quieted.{Lined, Quieted, begins, done, named, quiet, sealed_first, seals, still, watched}
+use Rattle.erm_causes_at_once.proofs.Quieted.{Lined, Quieted, at_savepoint, begins, done, named, quiet, sealed_first, seals, still, watched}
 use Rattle.erm_causes_at_once.proofs.Snapshots.{HasNoWork, Watches}
 use Rattle.erm_causes_at_once.proofs.Snapshots as snapshots
 use Rattle.erm_causes_at_once.proofs.Totals.{count_asked, own_count, own_total}
@@ -46,6 +49,7 @@ use Rattle.erm_told_limits.proofs.Looks.{Looks, MayHaveRead, reads_line}
 use Rattle.erm_told_limits.proofs.Moved.{Moved, mades_in, moved_nothing, moved_on, moved_out, moved_then, moved_within}
 use Rattle.erm_told_limits.proofs.Pigeons.{reads_grow}
 use Rattle.erm_told_limits.proofs.Ran.{active_with}
+use Rattle.erm_told_limits.proofs.Saved.{went_turned}
 use Rattle.erm_limits_at_once.proofs.Tried.{MayBe, operation_looks, operation_moved}
 
 -- A session without a transaction makes and claims nothing where it has a snapshot then, or where that is over.
@@ -85,15 +89,14 @@ quieted_moved P asked a s t (done w fate ending has is none hears) = done_moved 
 quieted_moved P asked a s t (watched rests did hears) = watched_moved P s t rests did
 
 -- an active session's transaction is the run of what is told of it
-active_run : (seat : ℕ) (current : Option Transaction) (stand : Stand) → TellsNow seat current stand → phase_of stand ≡ Active → (steps : List Step) × IsRunOf (work_of stand) steps
-active_run seat None world.idle told active = cc
-active_run seat None (world.active w) told active = absurd told
-active_run seat None (world.sealed w stamp) told active = absurd told
-active_run seat (Some t) world.idle told active = absurd told
-active_run seat (Some t) (world.active w) told active = (steps_of t, told.0.ran)
-active_run seat (Some t) (world.sealed w stamp) told active = cc
-active_run seat None (world.snapshot s) told active = absurd (snapshot_not_active s active)
-active_run seat (Some t) (world.snapshot s) told active = absurd told
+one_told : (seat : ℕ) (current : Option Transaction) (w : Work) → TellsNow seat current (world.active w) → (t : Transaction) × (current ≡ Some t)
+one_told seat None w told = absurd told
+one_told seat (Some t) w told = (t, refl)
+
+active_run : (seat : ℕ) (p : Progress) (v : View) → TellsAt seat p v → phase_at v seat ≡ Active → (steps : List Step) × IsRunOf (kept_at v seat) steps
+active_run seat p v told active =
+    let one = one_told seat p.current (work_at v seat) (now_active seat p (v.session seat) active told.tells) in
+    (steps_of one.0, (told.runs one.0 one.1 active).run)
 
 -- one without a transaction is told to have none
 none_told : (seat : ℕ) (current : Option Transaction) (stand : Stand) → HasNoWork stand → TellsNow seat current stand → current ≡ None
@@ -104,7 +107,7 @@ none_told seat (Some t) (world.sealed w stamp) rests told = absurd rests
 none_told seat (Some t) (world.snapshot x) rests told = absurd told
 
 pub knows_run : (seat : ℕ) (p : Progress) (phase : Phase) (v : View) → Knows seat p phase v → phase_at v seat ≡ Active → (steps : List Step) × IsRunOf (kept_at v seat) steps
-knows_run seat p phase v knows active = active_run seat p.current (v.session seat).stand knows.tells.now active
+knows_run seat p phase v knows active = active_run seat p v knows.told active
 
 -- nor does a seal tell more
 pub sealed_tells : (seat stamp : ℕ) (current : Option Transaction) (s r : Session) → phase_of s.stand ≡ Active → r ≡ record { over = s.over; stand = world.sealed (work_of s.stand) stamp }
@@ -235,6 +238,43 @@ once_claims f seat c a p at t n (stayed why cut stays hears) most few u now =
 once_claims f seat c a p at t n (out why cut w ending told last ended shut hears) most few u now =
     let no : None ≡ Some u = sym (ap (λ (q : Progress). q.current) (hears seat (Some c) p)) ∙ now in cc
 
+-- A LINE OF SAVEPOINTS makes, claims and reads nothing, and what its transaction may claim and read is no less with it.
+saved_moved : (P : ℕ → Type 0) (seat : ℕ) (v u t : View) → Passes seat v u → AtSavepoint u seat t → Moved P 0 0 0 (v.session seat) (t.session seat)
+saved_moved P seat v u t passes did = subst (λ (s : Session). Moved P 0 0 0 s (t.session seat)) passes.own (by did)
+  where
+    by : AtSavepoint u seat t → Moved P 0 0 0 (u.session seat) (t.session seat)
+    by (refused is) = moved_nothing P (u.session seat) (t.session seat) (ap (λ (x : View). x.session seat) is)
+    by (saved held did) = moved_nothing P (u.session seat) (t.session seat) (ap (λ (x : View). x.session seat) did.saved)
+    by (back n did) = (went_turned P u seat n t did).own
+
+saved_work_reads : (seat : ℕ) (v u t : View) → Passes seat v u → AtSavepoint u seat t → (work_at t seat).reads ≡ (work_at v seat).reads
+saved_work_reads seat v u t passes did = by did ∙ ap (λ (s : Session). (work_of s.stand).reads) passes.own
+  where
+    by : AtSavepoint u seat t → (work_at t seat).reads ≡ (work_at u seat).reads
+    by (refused is) = ap (λ (x : View). (work_at x seat).reads) is
+    by (saved held did) = ap (λ (x : View). (work_at x seat).reads) did.saved
+    by (back n did) = ap (λ (k : Kept). k.work.reads) (kept_back u t seat n did)
+
+saved_claims : (seat : ℕ) (c : Command) (a : Answer) (p : Progress) (v t : View) → GoesOnBy a → length (work_at t seat).claims ≤ length (work_at v seat).claims + claims_of c
+    → ClaimsFew p (v.session seat) → ClaimsFew (heard seat (Some c) a p) (t.session seat)
+saved_claims seat c a p v t hears most few u now =
+    went_claims c a p.current (length (work_at v seat).claims) (length (work_at t seat).claims) most few u (sym (ap (λ (q : Progress). q.current) (hears seat (Some c) p)) ∙ now)
+
+saved_reads : (seat : ℕ) (c : Command) (a : Answer) (p : Progress) (v t : View) → GoesOnBy a → (work_at t seat).reads ≡ (work_at v seat).reads → ReadsFew p (v.session seat)
+    → ReadsFew (heard seat (Some c) a p) (t.session seat)
+saved_reads seat c a p v t hears same few u now = by p.current few (sym (ap (λ (q : Progress). q.current) (hears seat (Some c) p)) ∙ now)
+  where
+    by : (current : Option Transaction) → ((x : Transaction) → current ≡ Some x → MayHaveRead (work_at v seat) x) → option_map (with_line (Some c) a) current ≡ Some u
+        → MayHaveRead (work_at t seat) u
+    by None few is = cc
+    by (Some x) few is =
+        let it : with_line (Some c) a x ≡ u = cc in
+        let lines = was_line reads_of c a x in
+        subst (λ (y : Transaction). MayHaveRead (work_at t seat) y) it (elim (few x refl) as (λ _. MayHaveRead (work_at t seat) (with_line (Some c) a x)) [
+          | inl less ↦ inl (omega (arith, less, lines, ap length same))
+          | inr many ↦ inr (omega (arith, many, lines))
+        ])
+
 -- what is made and claimed from a session to a later one, beside what is counted; and of the one in progress
 pub record Counted (f : View) (s t : Session) (makes claims : ℕ) (q : Progress) : Type 0 where
   pub mades : mades_in t ≤ mades_in s + makes
@@ -245,46 +285,55 @@ module _ (laws : Laws) (begun : NoneRuns)
     (stay : (w u : Work) (steps : List Step) → Extends w u → IsAnswered w steps → IsAnswered u steps) (f : View) (seat : ℕ) (session : IsSession f seat) (holds : IsSerializable sound_law f) where
   lined_moved : (asked : Option Command) (a : Answer) (v t : View) → Lined f seat asked a v t → IsAskedInRange asked → (phase_at v seat ≡ Active → (steps : List Step) × IsRunOf (kept_at v seat) steps)
       → Continues (t.session seat) (f.session seat) → Moved (MayBe f) (count_asked makes_of asked) (count_asked claims_of asked) 1 (v.session seat) (t.session seat)
-  lined_moved asked a v t (quiet did) range run goes =
+  lined_moved asked a v t (quiet did keeps) range run goes =
       moved_within (MayBe f) 0 0 1 (count_asked makes_of asked) (count_asked claims_of asked) 1 (v.session seat) (t.session seat) (omega arith) (omega arith) (omega arith)
       (quieted_moved (MayBe f) asked a (v.session seat) (t.session seat) did)
-  lined_moved asked a v t (sealed_first stamp between active is did) range run goes =
+  lined_moved asked a v t (sealed_first stamp between active is did rests) range run goes =
       let first = same_moved (MayBe f) (v.session seat) between (ap (λ (r : Session). r.over) is) (ap (λ (r : Session). work_of r.stand) is) in
       let then = quieted_moved (MayBe f) asked a between (t.session seat) did in
       moved_within (MayBe f) (0 + 0) (0 + 0) (0 + 1) (count_asked makes_of asked) (count_asked claims_of asked) 1 (v.session seat) (t.session seat) (omega arith) (omega arith) (omega arith)
       (moved_then (MayBe f) 0 0 0 0 0 1 (v.session seat) between (t.session seat) first then)
+  lined_moved asked a v t (at_savepoint c u is none active passes did hears) range run goes =
+      moved_within (MayBe f) 0 0 0 (count_asked makes_of asked) (count_asked claims_of asked) 1 (v.session seat) (t.session seat) (omega arith) (omega arith) (omega arith)
+      (saved_moved (MayBe f) seat v u t passes did)
   lined_moved asked a v t (named c k is names active did) range run goes =
       let r = run active in
       subst (λ (b : Option Command). Moved (MayBe f) (count_asked makes_of b) (count_asked claims_of b) 1 (v.session seat) (t.session seat)) (sym is)
       (operation_moved laws f seat session holds c (subst IsAskedInRange is range) a v t active did r.0 r.1 goes)
 
-  lined_claims : (asked : Option Command) (a : Answer) (v t : View) (p : Progress) → Lined f seat asked a v t → TellsNow seat p.current (v.session seat).stand → Moved (MayBe f) (count_asked makes_of asked) (count_asked claims_of asked) 1 (v.session seat) (t.session seat)
+  lined_claims : (asked : Option Command) (a : Answer) (v t : View) (p : Progress) → Lined f seat asked a v t → TellsAt seat p v → Moved (MayBe f) (count_asked makes_of asked) (count_asked claims_of asked) 1 (v.session seat) (t.session seat)
       → ClaimsFew p (v.session seat) → ClaimsFew (heard seat asked a p) (t.session seat)
-  lined_claims asked a v t p (quiet did) tells moved few = quieted_claims seat asked a p (v.session seat) (t.session seat) tells did few
-  lined_claims asked a v t p (sealed_first stamp between active is did) tells moved few =
-      quieted_claims seat asked a p between (t.session seat) (sealed_tells seat stamp p.current (v.session seat) between active is tells) did (λ u now. omega (arith, few u now, ap (λ (r : Session). length (work_of r.stand).claims) is))
-  lined_claims asked a v t p (named c k is names active did) tells moved few =
+  lined_claims asked a v t p (quiet did keeps) told moved few = quieted_claims seat asked a p (v.session seat) (t.session seat) told.tells.now did few
+  lined_claims asked a v t p (sealed_first stamp between active is did rests) told moved few =
+      quieted_claims seat asked a p between (t.session seat) (sealed_tells seat stamp p.current (v.session seat) between active is told.tells.now) did (λ u now. omega (arith, few u now, ap (λ (r : Session). length (work_of r.stand).claims) is))
+  lined_claims asked a v t p (at_savepoint c u is none active passes did hears) told moved few =
+      let most = subst (λ (b : Option Command). length (work_at t seat).claims ≤ length (work_at v seat).claims + count_asked claims_of b) is moved.now.claimed in
+      subst (λ (b : Option Command). ClaimsFew (heard seat b a p) (t.session seat)) (sym is) (saved_claims seat c a p v t hears most few)
+  lined_claims asked a v t p (named c k is names active did) told moved few =
       let most = subst (λ (b : Option Command). length (work_at t seat).claims ≤ length (work_at v seat).claims + count_asked claims_of b) is moved.now.claimed in
       subst (λ (b : Option Command). ClaimsFew (heard seat b a p) (t.session seat)) (sym is)
       (once_claims f seat c a p did.at t (length (work_at v seat).claims) (once_of f seat c did.at t a did.once) most few)
 
-  lined_reads : (asked : Option Command) (a : Answer) (v t : View) (p : Progress) → Lined f seat asked a v t → IsAskedInRange asked → TellsNow seat p.current (v.session seat).stand
+  lined_reads : (asked : Option Command) (a : Answer) (v t : View) (p : Progress) → Lined f seat asked a v t → IsAskedInRange asked → TellsAt seat p v
       → Continues (t.session seat) (f.session seat) → Apart (work_at t seat).reads → ReadsFew p (v.session seat) → ReadsFew (heard seat asked a p) (t.session seat)
-  lined_reads asked a v t p (quiet did) range tells goes apart few = quieted_reads seat asked a p (v.session seat) (t.session seat) tells did few
-  lined_reads asked a v t p (sealed_first stamp between active is did) range tells goes apart few =
-      quieted_reads seat asked a p between (t.session seat) (sealed_tells seat stamp p.current (v.session seat) between active is tells) did (λ u now. subst (λ (r : Session). MayHaveRead (work_of r.stand) u) (sym is) (few u now))
-  lined_reads asked a v t p (named c k is names active did) range tells goes apart few =
-      let r = active_run seat p.current (v.session seat).stand tells active in
+  lined_reads asked a v t p (quiet did keeps) range told goes apart few = quieted_reads seat asked a p (v.session seat) (t.session seat) told.tells.now did few
+  lined_reads asked a v t p (sealed_first stamp between active is did rests) range told goes apart few =
+      quieted_reads seat asked a p between (t.session seat) (sealed_tells seat stamp p.current (v.session seat) between active is told.tells.now) did (λ u now. subst (λ (r : Session). MayHaveRead (work_of r.stand) u) (sym is) (few u now))
+  lined_reads asked a v t p (at_savepoint c u is none active passes did hears) range told goes apart few =
+      subst (λ (b : Option Command). ReadsFew (heard seat b a p) (t.session seat)) (sym is)
+      (saved_reads seat c a p v t hears (saved_work_reads seat v u t passes did) few)
+  lined_reads asked a v t p (named c k is names active did) range told goes apart few =
+      let r = active_run seat p v told active in
       let looks = operation_looks laws f seat session holds c (subst IsAskedInRange is range) k names a v t active did r.0 r.1 goes in
       subst (λ (b : Option Command). ReadsFew (heard seat b a p) (t.session seat)) (sym is) (once_reads f seat c a p v did.at t (once_of f seat c did.at t a did.once) apart looks few)
 
-  lined_few : (asked : Option Command) (a : Answer) (v t : View) (p : Progress) → Lined f seat asked a v t → IsAskedInRange asked → TellsNow seat p.current (v.session seat).stand
+  lined_few : (asked : Option Command) (a : Answer) (v t : View) (p : Progress) → Lined f seat asked a v t → IsAskedInRange asked → TellsAt seat p v
       → Continues (t.session seat) (f.session seat) → Moved (MayBe f) (count_asked makes_of asked) (count_asked claims_of asked) 1 (v.session seat) (t.session seat)
       → Few f p (v.session seat) → Few f (heard seat asked a p) (t.session seat)
-  lined_few asked a v t p did range tells goes moved few =
+  lined_few asked a v t p did range told goes moved few =
       let apart = moved.now.apart few.apart in record {
-        claims = lined_claims asked a v t p did tells moved few.claims;
-        reads = lined_reads asked a v t p did range tells goes apart few.reads;
+        claims = lined_claims asked a v t p did told moved few.claims;
+        reads = lined_reads asked a v t p did range told goes apart few.reads;
         apart = apart;
         known = λ x read. elim (moved.reads x read) as (λ _. MayBe f x) [ inl before ↦ few.known x before | inr new ↦ new ];
       }
@@ -295,13 +344,13 @@ module _ (laws : Laws) (begun : NoneRuns)
 
   -- a move, of this session or of another
   pub did_counts : (at : ℕ) (asked : Option Command) (a : Answer) (v t : View) (p : Progress) → OwnDid f seat at asked a v t → IsAskedInRange asked
-      → TellsNow seat p.current (v.session seat).stand → Continues (t.session seat) (f.session seat) → Few f p (v.session seat)
+      → TellsAt seat p v → Continues (t.session seat) (f.session seat) → Few f p (v.session seat)
       → Counted f (v.session seat) (t.session seat) (cond (at == seat) (count_asked makes_of asked) 0) (cond (at == seat) (count_asked claims_of asked) 0) (cond (at == seat) (heard seat asked a p) p)
-  did_counts at asked a v t p (inl (is, did)) range tells goes few =
-      let moved = lined_moved asked a v t did range (λ active. active_run seat p.current (v.session seat).stand tells active) goes in
+  did_counts at asked a v t p (inl (is, did)) range told goes few =
+      let moved = lined_moved asked a v t did range (λ active. active_run seat p v told active) goes in
       subst (λ (b : Bool). Counted f (v.session seat) (t.session seat) (cond b (count_asked makes_of asked) 0) (cond b (count_asked claims_of asked) 0) (cond b (heard seat asked a p) p)) (sym (eq-eqb at seat is))
-      (record { mades = moved.mades; claims_are = moved.claims; few = lined_few asked a v t p did range tells goes moved few })
-  did_counts at asked a v t p (inr (another, is)) range tells goes few =
+      (record { mades = moved.mades; claims_are = moved.claims; few = lined_few asked a v t p did range told goes moved few })
+  did_counts at asked a v t p (inr (another, is)) range told goes few =
       subst (λ (b : Bool). Counted f (v.session seat) (t.session seat) (cond b (count_asked makes_of asked) 0) (cond b (count_asked claims_of asked) 0) (cond b (heard seat asked a p) p)) (sym (ne_eqb at seat another))
       (record {
         mades = omega (arith, ap (λ (y : View). mades_in (y.session seat)) is);
@@ -338,22 +387,22 @@ module _ (laws : Laws) (begun : NoneRuns)
   run_counts (line l a ∷ moves) p phase v t (u, w, passes, did, rest) range goes knows few =
       let x : Said = record { session = l.session; asked = Some l.command; answer = a } in
       let then = knows_own begun stay f seat (line l a ∷ []) p phase v w (u, w, passes, did, passes_itself seat w) knows in
-      let tells = (know_there p phase v u passes knows).tells.now in
-      let one = did_counts l.session (Some l.command) a u w p (move_did f seat l a u w did) range.0 tells (goes_from moves w t rest goes) (few_passes p v u passes few) in
+      let told = (know_there p phase v u passes knows).told in
+      let one = did_counts l.session (Some l.command) a u w p (move_did f seat l a u w did) range.0 told (goes_from moves w t rest goes) (few_passes p v u passes few) in
       place_then (v.session seat) (w.session seat) (t.session seat) x (said_in moves) (hears seat p x) (fold (hears seat) (hears seat p x) (said_in moves)) (after_passes v u w _ _ _ passes one)
       (run_counts moves (hears seat p x) (turns seat phase x) w t rest range.1 goes then one.few)
   run_counts (log l a ∷ moves) p phase v t (u, w, passes, did, rest) range goes knows few =
       let x : Said = record { session = l.session; asked = Some l.command; answer = a } in
       let then = knows_own begun stay f seat (log l a ∷ []) p phase v w (u, w, passes, did, passes_itself seat w) knows in
-      let tells = (know_there p phase v u passes knows).tells.now in
-      let one = did_counts l.session (Some l.command) a u w p (log_did f seat l a u w did) range.0 tells (goes_from moves w t rest goes) (few_passes p v u passes few) in
+      let told = (know_there p phase v u passes knows).told in
+      let one = did_counts l.session (Some l.command) a u w p (log_did f seat l a u w did) range.0 told (goes_from moves w t rest goes) (few_passes p v u passes few) in
       place_then (v.session seat) (w.session seat) (t.session seat) x (said_in moves) (hears seat p x) (fold (hears seat) (hears seat p x) (said_in moves)) (after_passes v u w _ _ _ passes one)
       (run_counts moves (hears seat p x) (turns seat phase x) w t rest range.1 goes then one.few)
   run_counts (close at a ∷ moves) p phase v t (u, w, passes, did, rest) range goes knows few =
       let x : Said = record { session = at; asked = None; answer = a } in
       let then = knows_own begun stay f seat (close at a ∷ []) p phase v w (u, w, passes, did, passes_itself seat w) knows in
-      let tells = (know_there p phase v u passes knows).tells.now in
-      let one = did_counts at None a u w p (close_did f seat at a u w did) tt tells (goes_from moves w t rest goes) (few_passes p v u passes few) in
+      let told = (know_there p phase v u passes knows).told in
+      let one = did_counts at None a u w p (close_did f seat at a u w did) tt told (goes_from moves w t rest goes) (few_passes p v u passes few) in
       place_then (v.session seat) (w.session seat) (t.session seat) x (said_in moves) (hears seat p x) (fold (hears seat) (hears seat p x) (said_in moves)) (after_passes v u w _ _ _ passes one)
       (run_counts moves (hears seat p x) (turns seat phase x) w t rest range.1 goes then one.few)
   run_counts (flush ∷ moves) p phase v t (u, w, passes, did, rest) range goes knows few =

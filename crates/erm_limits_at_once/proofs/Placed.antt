@@ -85,7 +85,7 @@ module _ (laws : Laws) (begun : NoneRuns)
   step k b moves p phase v u w t passes did rest range goes knows few =
       let there = know_there laws begun stay f seat session holds p phase v u passes knows in
       let goes_w = goes_from laws begun stay f seat session holds moves w t rest goes in
-      let one = did_counts laws begun stay f seat session holds k.session (Some k.command) b u w p (line_did f seat k b u w did) range there.tells.now goes_w
+      let one = did_counts laws begun stay f seat session holds k.session (Some k.command) b u w p (line_did f seat k b u w did) range there.told goes_w
       (few_passes laws begun stay f seat session holds p v u passes few) in record {
         knows = subst (λ (list : List Said). Knows seat (fold (hears seat) p list) (fold (turns seat) phase list) w) (says_line k b [])
             (knows_own begun stay f seat (move_of k b ∷ []) p phase v w (u, w, passes, did, passes_itself seat w) knows);

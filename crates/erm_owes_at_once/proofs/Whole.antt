@@ -14,7 +14,7 @@ use Rattle.erm_world.specs.World.{View}
 use Rattle.erm_good_at_once.specs.CutReports.{moment_in}
 use Rattle.erm_lines_at_once.specs.Parts.{IsRunInPart, RunsInPartAreSerialWithSnapshots, RunsInPartHavePhases, RunsInPartHaveSafeSnapshots, RunsInPartHaveSnapshots, RunsInPartHaveStamps, RunsInPartRise}
 use Rattle.erm_lines_at_once.proofs.Parts.{in_part}
-use Rattle.erm_causes_at_once.specs.Laws.{RefusesForOthersIn, RunsInPartAreInReach, RunsInPartHaveCauses, RunsInPartRefuseForOthers, RunsInPartTellLog}
+use Rattle.erm_causes_at_once.specs.Laws.{RefusesForOthersIn, RunsInPartAreInReach, RunsInPartHaveCauses, RunsInPartRefuseForOthers, RunsInPartTellLog, RunsInPartTellSaves}
 use Rattle.erm_limits_at_once.specs.Laws.{RefusesForRoomIn, RunsInPartRefuseForRoom}
 use Rattle.erm_owes_at_once.specs.Laws.{RunsAtOnceOwe, RunsInPartOwe}
 
@@ -45,6 +45,7 @@ pub record PartLaws : Type 0 where
   pub causes : RunsInPartHaveCauses
   pub others : RunsInPartRefuseForOthers
   pub logs : RunsInPartTellLog
+  pub saves : RunsInPartTellSaves
   pub reach : RunsInPartAreInReach
   pub room : RunsInPartRefuseForRoom
 
@@ -59,6 +60,7 @@ module _ (laws : PartLaws) (v f : View) (whole part : List ScriptLine) (answers 
       let log = laws.logs v f whole part answers closed opening run of told i l a at answered in record {
         own = λ t own.
             refused opening whole part answers told (laws.others v f whole part answers closed opening run of) (laws.room v f whole part answers closed opening run of) i l a at answered t own;
+        saves = λ t current. laws.saves v f whole part answers closed opening run of told i l a at answered t current;
         log = log.0;
         unfilled = log.1;
       }

@@ -6,8 +6,8 @@ ghost use Rattle.erm_owes_at_once.specs.Laws.{RunsAtOnceOwe, RunsInPartOwe};
 
 /// All that a report owes to its answers is so of an execution that is told in part, each line of whose script may have been run in part:
 /// phases, stamps, the replies of each transaction on its snapshot, those of the commits and of the safe snapshots that ended in the serial
-/// order, the causes of commits, of exclusions, of refusals and of what is told of the log, what is owed of snapshots that only read; and
-/// what was met lies below what is begun later.
+/// order, the causes of commits, of exclusions, of refusals, of what is told of the log, and of savepoints, what is owed of snapshots
+/// that only read; and what was met lies below what is begun later.
 pub fn runs_in_part_owe()
     ensures { RunsInPartOwe }
 {
@@ -19,8 +19,8 @@ pub fn runs_in_part_owe()
 }
 
 /// All that a report owes to its answers is so of an execution at once: phases, stamps, the replies of each transaction on its snapshot,
-/// the causes of commits, of exclusions, of refusals and of what is told of the log, what is owed of snapshots that only read; and what was
-/// met lies below what is begun later.
+/// the causes of commits, of exclusions, of refusals, and of what is told of the log and of savepoints, what is owed of snapshots that only
+/// read; and what was met lies below what is begun later.
 pub fn runs_at_once_owe()
     ensures { RunsAtOnceOwe }
 {

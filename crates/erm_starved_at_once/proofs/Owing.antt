@@ -18,11 +18,12 @@ use Rattle.erm_world.specs.World as world
 use Rattle.erm_good_report.specs.GoodReport.{places_of}
 use Rattle.erm_good_report.specs.Opening.{Opening}
 use Rattle.erm_good_report.specs.Phases.{Closed, FitsPhase, FitsSnapshot, phase_of}
-use Rattle.erm_good_report.specs.Refusals.{HasCause, HasUnfilledCause, IsOwn, Moment}
-use Rattle.erm_good_report.specs.Transactions.{Said, Transaction, history_of, nothing, said_of, steps_of, transactions_of}
+use Rattle.erm_good_report.specs.Refusals.{HasCause, HasSaveCause, HasUnfilledCause, IsOwn, Moment}
+use Rattle.erm_good_report.specs.Transactions.{Said, Transaction, held_of, history_of, nothing, progress_of, said_of, steps_of, transactions_of}
 use Rattle.erm_good_at_once.specs.CutReports.{answered_of, moment_in}
 use Rattle.erm_lines.specs.Executions.{IsOpeningOf, line_moves}
-use Rattle.erm_told.proofs.Executed.{still_session}
+use Rattle.erm_causes_at_once.proofs.Held.{allowed_free, line_cause}
+use Rattle.erm_told.proofs.Executed.{Knows, still_session}
 use Rattle.erm_told.proofs.Runs.{said_first}
 use Rattle.erm_told_at_once.proofs.Phases.{line_looks}
 use Rattle.erm_told_at_once.proofs.Runs.{OwnAt, close_of, first_known, knows_own, own_at, own_split}
@@ -43,6 +44,12 @@ none_unfilled m command.Flush = tt
 none_unfilled m command.Checkpoint = tt
 none_unfilled m c = tt
 
+-- nor of a savepoint
+none_saved : (held : ℕ) (c : Command) → HasSaveCause held c answer.WritesFull
+none_saved held command.Save = tt
+none_saved held (command.Back n) = tt
+none_saved held c = tt
+
 module _ (v f : View) (script : List ScriptLine) (counts : ℕ → ℕ) (answers : List Answer) (closed : List Closed) (run : IsStarvedRunAtOnce v script counts answers closed f) (laws : Laws) (runs : BegunAreRuns)
     (stay : AnswersStay) where
   abbrev part : List ScriptLine
@@ -62,17 +69,26 @@ module _ (v f : View) (script : List ScriptLine) (counts : ℕ → ℕ) (answers
         let (u, lines, rest) = own_split f l.session (line_moves part answers) (map close_of closed) v its.last its.run in
         (u, own_at f l.session part answers v u i l a refl lines at answered)
 
-    phase_there : phase_of l.session (take i (said_of part answers)) ≡ phase_at there.1.before l.session
-    phase_there =
+    knows_there : Knows l.session (progress_of l.session (take i (said_of part answers))) (phase_of l.session (take i (said_of part answers))) there.1.before
+    knows_there =
         let its = there.1 in
-        subst (λ (said : List Said). phase_of l.session said ≡ phase_at its.before l.session) (said_first i part answers)
-        (knows_own runs stay f l.session (line_moves (take i part) (take i answers)) nothing Idle v its.before its.start (first_known l.session v (run.opened.idle l.session session))).phase_is
+        subst (λ (said : List Said). Knows l.session (progress_of l.session said) (phase_of l.session said) its.before) (said_first i part answers)
+        (knows_own runs stay f l.session (line_moves (take i part) (take i answers)) nothing Idle v its.before its.start (first_known l.session v (run.opened.idle l.session session)))
+
+    phase_there : phase_of l.session (take i (said_of part answers)) ≡ phase_at there.1.before l.session
+    phase_there = knows_there.phase_is
 
     line_fits : FitsPhase (phase_of l.session (take i (said_of part answers))) l.command a
     line_fits = subst (λ (p : Phase). FitsPhase p l.command a) (sym phase_there) there.1.did.fits
 
     line_watched : FitsSnapshot (phase_of l.session (take i (said_of part answers))) l.command a
     line_watched = subst (λ (p : Phase). FitsSnapshot p l.command a) (sym phase_there) (line_looks f l a there.1.before there.1.after there.1.did)
+
+    -- as many savepoints are held as its transaction's lines tell
+    save_cause : (own : Transaction) → (progress_of l.session (take i (said_of part answers))).current ≡ Some own → HasSaveCause (held_of own) l.command a
+    save_cause own current =
+        let its = there.1 in
+        line_cause f l.session own its.before its.after (λ active. (knows_there.told.runs own current active).held) l.command a (allowed_free f l a its.before its.after its.did)
 
   -- a line that was refused for want of what only its own transaction takes
   module _ (opening : Opening) (i : ℕ) (l : ScriptLine) (t : Transaction) where
@@ -98,6 +114,7 @@ module _ (v f : View) (script : List ScriptLine) (counts : ℕ → ℕ) (answers
       → HasCause (moment_in opening script part answers told i l) l.command a
   refused opening i l answer.WritesFull at answered own = record {
     own = λ t is. claims_full opening i l t at answered is;
+    saves = λ t current. none_saved (held_of t) l.command;
     log = tt;
     unfilled = none_unfilled (moment_in opening script part answers told i l) l.command;
   }
@@ -123,5 +140,6 @@ module _ (v f : View) (script : List ScriptLine) (counts : ℕ → ℕ) (answers
     looks = λ session begin s has is. (replied_safely v f script counts answers closed run laws runs stay safe opening of session begin s has is).replies;
     waits = λ i l a at answered waits. never_waits f l a _ _ (there i l a at answered).1.did waits;
     refusals = refused opening;
+    saves = λ i l a at answered t current. save_cause i l a at answered t current;
     reads = λ i l at answered t own. reads_full opening i l t at answered own;
   }

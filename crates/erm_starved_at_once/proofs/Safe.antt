@@ -89,7 +89,7 @@ module _ (v f : View) (script : List ScriptLine) (counts : ℕ → ℕ) (answers
     -- and begins within the log
     tells : Tells seat (progress_of seat said) (lines.0.session seat)
     tells = subst (λ (list : List Said). Tells seat (progress_of seat list) (lines.0.session seat)) (said_lines part answers)
-        (knows_own runs stay f seat (line_moves part answers) nothing Idle v lines.0 lines.1 first).tells
+        (knows_own runs stay f seat (line_moves part answers) nothing Idle v lines.0 lines.1 first).told.tells
 
     above : (w : Work) (begin : ℕ) → Lasts w (lines.0.session seat) → begin ≡ w.begin → 0 < begin
     above w begin lasts same =

@@ -77,7 +77,7 @@ leaving_short stay f seat p here tells (aborted w u at goes is) =
           now = tt;
           watched = tt;
         });
-        unfinished = λ gone. let (t, current, unfinished, ran) = told_active seat p.current here.stand tells.now active in (t, current, unfinished);
+        unfinished = λ gone. told_active seat p.current here.stand tells.now active;
         over = λ of stamp succ m has. m;
         sealed = λ x stamp there. there;
       };
@@ -164,7 +164,7 @@ module _ (v f : View) (script : List ScriptLine) (counts : ℕ → ℕ) (answers
           leaving_by laws f seat (still_session v f seat run.opening session) run.ends.serializable (next_of seat counts script) (told_of script counts answers closed seat) its.last its.end
           (known runs stay v f script counts answers closed run.opened seat session its.last its.run) its.ends its.rest
       leaving_of seat session (inr its) =
-          leaving_short stay f seat (told_of script counts answers closed seat) (its.last.session seat) (known runs stay v f script counts answers closed run.opened seat session its.last its.run) its.gave_up
+          leaving_short stay f seat (told_of script counts answers closed seat) (its.last.session seat) (known runs stay v f script counts answers closed run.opened seat session its.last its.run).tells its.gave_up
 
       pub leaves : LeavesWorld v f script counts answers closed
       leaves = left_world v f script counts answers closed run.opening run.ends (λ seat session. leaving_of seat session (run.own seat session))

@@ -9,10 +9,10 @@ use Rattle.erm_report.specs.declared.answer.Answer.TheVariants as answer
 use Rattle.erm_script.specs.declared.script.ScriptLine.{ScriptLine}
 use Rattle.erm_good_report.specs.Opening.{Opening}
 use Rattle.erm_good_report.specs.Phases.{PhasesAgree}
-use Rattle.erm_good_report.specs.Refusals.{HasCause, IsOwn, reads_of}
+use Rattle.erm_good_report.specs.Refusals.{HasCause, HasSaveCause, IsOwn, current_of, reads_of}
 use Rattle.erm_good_report.specs.Snapshots.{IsSafeAmong}
 use Rattle.erm_good_report.specs.Stamps.{IsWait}
-use Rattle.erm_good_report.specs.Transactions.{HasSnapshot, Snapshot, Transaction, history_of, looks_of, said_of, steps_of}
+use Rattle.erm_good_report.specs.Transactions.{HasSnapshot, Snapshot, Transaction, held_of, history_of, looks_of, said_of, steps_of}
 use Rattle.erm_good_at_once.specs.CutReports.{moment_in}
 
 -- a refusal that leaves its transaction in progress, and that the session's own lines cause alone
@@ -23,8 +23,8 @@ IsOwnRefusal a = ⊥
 -- Of the answers to a part of a script, and of the transactions and snapshots that they tell: each answer is one to its command, in the phase that the
 -- session's earlier ones leave; what was replied to a transaction, also to one that doesn't commit, is right on its snapshot; a begin stamp that a snapshot
 -- is told to be safe at is so among the commits told, and its replies are those of the state below it; no line, with a transaction or without, is
--- answered by a wait; each refusal that the session's own lines cause alone has its cause; and where reads are full the lines of the transaction may have
--- read so many. What a line in which memory ran out claimed and made counts in no line, so the causes of the other refusals aren't told. Nor is it where
+-- answered by a wait; each refusal that the session's own lines cause alone has its cause, and so has each answer to a line of savepoints; and where reads
+-- are full the lines of the transaction may have read so many. What a line in which memory ran out claimed and made counts in no line, so the causes of the other refusals aren't told. Nor is it where
 -- a snapshot begins, beside what other lines tell, or why one isn't known to be safe.
 pub record OwesWhenStarved (opening : Opening) (whole part : List ScriptLine) (answers : List Answer) (told : List Transaction) : Type 0 where
   pub phases : PhasesAgree part answers
@@ -35,5 +35,7 @@ pub record OwesWhenStarved (opening : Opening) (whole part : List ScriptLine) (a
   pub waits : (i : ℕ) (l : ScriptLine) (a : Answer) → slice_get part i ≡ Some l → slice_get answers i ≡ Some a → IsWait a → ⊥
   pub refusals : (i : ℕ) (l : ScriptLine) (a : Answer) → slice_get part i ≡ Some l → slice_get answers i ≡ Some a → IsOwnRefusal a
       → HasCause (moment_in opening whole part answers told i l) l.command a
+  pub saves : (i : ℕ) (l : ScriptLine) (a : Answer) → slice_get part i ≡ Some l → slice_get answers i ≡ Some a
+      → (t : Transaction) → current_of (moment_in opening whole part answers told i l) l.session ≡ Some t → HasSaveCause (held_of t) l.command a
   pub reads : (i : ℕ) (l : ScriptLine) → slice_get part i ≡ Some l → slice_get answers i ≡ Some answer.ReadsFull
       → (t : Transaction) → IsOwn (moment_in opening whole part answers told i l) l.command answer.ReadsFull t → READ_LIMIT < sum_by (λ e. reads_of e.asked) t.lines

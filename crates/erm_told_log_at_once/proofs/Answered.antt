@@ -111,6 +111,8 @@ module _ (f : View) (seat cells : ℕ) (v t : View) where
   cut_by (command.Next table from) did = few_by (command.Next table from) did
   cut_by (command.Scan table low high) did = few_by (command.Scan table low high) did
   cut_by (command.Tidy table key) did = few_by (command.Tidy table key) did
+  cut_by command.Save (u, passes, did) = absurd did
+  cut_by (command.Back n) (u, passes, did) = absurd did
   cut_by command.Commit did = absurd did.decided
   cut_by command.Safe did = absurd did.asked
   cut_by c did = absurd did

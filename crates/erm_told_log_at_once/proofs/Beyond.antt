@@ -17,6 +17,7 @@ use Rattle.erm_world.specs.World.{Session, View, phase_at}
 use Rattle.erm_good_report.specs.Phases.{refusal_of}
 use Rattle.erm_lines.specs.Executions.{Move, close, flush, line, log}
 use Rattle.erm_lines.specs.Operations.{AsksOf, FrontOf, Ran}
+use Rattle.erm_lines.proofs.Saved.{Saves, saved, went_back}
 use Rattle.erm_beside.specs.Calls.{After, DidSettleBeside, NotClaimedBeside, NotMadeBeside, NotReadBeside, Passes, RefusedBeside}
 use Rattle.erm_lines_at_once.specs.Answers.{DidAskSafeBeside, DidAskSnapshotBeside, DidAskedBeside, DidBeginAndAskBeside, DidCloseBeside, DidCommandBeside, DidCommitBeside, DidDecideBeside, DidInBeside, DidOfSnapshotBeside}
 use Rattle.erm_lines_at_once.specs.Executions.{DidMoveBeside, DidOwn, IsOwnRun, is_own}
@@ -164,6 +165,10 @@ module _ (f : View) (seat : ℕ) (v t : View) where
   beyond_watched command.Durable answer.NoReceipt (u, passes, did) = beyond_same u passes did.0
   beyond_watched c a did = absurd did
 
+  -- savepoints
+  beyond_saves : (u : View) → Saves u seat t → Beyond u t
+  beyond_saves u did = record { opening = did.opening; flushed = omega (arith, did.flushed) }
+
   beyond_command : (c : Command) (a : Answer) → DidCommandBeside f seat c a v t → Beyond v t
   beyond_command command.Begin (answer.Began stamp) (u, passes, (few, is, now)) = beyond_done u _ passes now
   beyond_command command.Begin (answer.LogEnd tail) (u, passes, did) = beyond_same u passes did.0
@@ -175,6 +180,8 @@ module _ (f : View) (seat : ℕ) (v t : View) where
   beyond_command command.Abort answer.Aborted (u, passes, did) = beyond_done u _ passes did
   beyond_command command.Durable (answer.Durable stamp) (u, passes, did) = beyond_same u passes did.0
   beyond_command command.Durable answer.NoReceipt (u, passes, did) = beyond_same u passes did.0
+  beyond_command command.Save a (u, passes, did) = beyond_then v u t (beyond_passes seat v u passes) (beyond_saves u (saved u t seat a did))
+  beyond_command (command.Back n) a (u, passes, did) = beyond_then v u t (beyond_passes seat v u passes) (beyond_saves u (went_back u t seat n a did))
   beyond_command (command.Get table key) a did = beyond_operation f seat (command.Get table key) a v t did
   beyond_command (command.Put table key value) a did = beyond_operation f seat (command.Put table key value) a v t did
   beyond_command (command.Del table key) a did = beyond_operation f seat (command.Del table key) a v t did

@@ -14,15 +14,14 @@ use Rattle.erm_world.specs.Whole.{HasStamps}
 use Rattle.erm_world.specs.World.{Finished, IsSession, Session, Stand, View, Work, phase_at, phase_of, work_at, work_of}
 use Rattle.erm_world.specs.World as world
 use Rattle.erm_world.proofs.Lists.{∈-last}
-use Rattle.erm_maps.specs.Runs.{IsRunOf}
 use Rattle.erm_good_report.specs.Transactions.{Aborts, Progress, Transaction, Unfinished, steps_of}
 use Rattle.erm_lines.specs.Told.{Tells, TellsNow}
 use Rattle.erm_beside.specs.Calls.{After, Passes}
 use Rattle.erm_beside.specs.Safe.{DidBeginSafeBeside}
 use Rattle.erm_lines_at_once.specs.CutRuns.{IsRest, Waited, aborted, drew, ended, stood, watched}
 use Rattle.erm_told.proofs.Sessions.{aborted_told}
-use Rattle.erm_told.proofs.Turns.{idle_in, none_active, now_active}
-use Rattle.erm_causes_at_once.proofs.Called.{Kept, kept_same, tried_kept}
+use Rattle.erm_told.proofs.Turns.{TellsAt, idle_in, none_active, now_active}
+use Rattle.erm_causes_at_once.proofs.Called.{KeptOn, kept_same, tried_kept}
 use Rattle.erm_told_limits.proofs.Holds.{Laws}
 use Rattle.erm_told_limits.proofs.Ran.{active_with, same_work}
 use Rattle.erm_limits_at_once.proofs.Looked.{BeganIn, began_in}
@@ -45,14 +44,13 @@ pub record Leaving (f : View) (seat : ℕ) (p : Progress) : Type 0 where
   pub gone : Bool
   pub leaves : Leaves f seat p told drawn gone
 
--- one in progress is told unfinished, and is the run of what is told
-pub told_active : (seat : ℕ) (current : Option Transaction) (stand : Stand) → TellsNow seat current stand → phase_of stand ≡ Active
-    → (t : Transaction) × (current ≡ Some t) × (t.ending ≡ Unfinished) × IsRunOf (work_of stand) (steps_of t)
+-- one in progress is told unfinished
+pub told_active : (seat : ℕ) (current : Option Transaction) (stand : Stand) → TellsNow seat current stand → phase_of stand ≡ Active → (t : Transaction) × (current ≡ Some t) × (t.ending ≡ Unfinished)
 told_active seat None world.idle tells active = cc
 told_active seat None (world.active w) tells active = absurd tells
 told_active seat None (world.sealed w stamp) tells active = absurd tells
 told_active seat (Some t) world.idle tells active = absurd tells
-told_active seat (Some t) (world.active w) tells active = (t, refl, tells.0.unfinished, tells.0.ran)
+told_active seat (Some t) (world.active w) tells active = (t, refl, tells.0.unfinished)
 told_active seat (Some t) (world.sealed w stamp) tells active = cc
 told_active seat None (world.snapshot s) tells active = let no : world.snapshot s ≡ world.active (work_of (world.snapshot s)) = active_with (world.snapshot s) active in cc
 told_active seat (Some t) (world.snapshot s) tells active = absurd tells
@@ -86,9 +84,12 @@ sealed_there : (over : List Finished) (w u : Work) (of : Finished) (stamp succ :
 sealed_there over w u of stamp succ m has = ∈-first over (record { work = w; fate = world.aborts } ∷ []) of (stamped_before over u of stamp succ m has)
 
 module _ (laws : Laws) (f : View) (seat : ℕ) (session : IsSession f seat) (holds : IsSerializable sound_law f) (next : Option ScriptLine) (p : Progress) (last end : View)
-    (tells : Tells seat p (last.session seat)) (ends : end.session seat ≡ f.session seat) where
+    (known : TellsAt seat p last) (ends : end.session seat ≡ f.session seat) where
   abbrev here : Session
   here = last.session seat
+
+  tells : Tells seat p (last.session seat)
+  tells = known.tells
 
   -- it stands in the world that is left as its moves leave it, and has drawn no stamp
   as_here : StandsFor 0 here (f.session seat) → ((of : Finished) (stamp succ : ℕ) → of ∈ (f.session seat).over → HasStamps of.fate stamp succ → of ∈ here.over)
@@ -149,15 +150,15 @@ module _ (laws : Laws) (f : View) (seat : ℕ) (session : IsSession f seat) (hol
       }
 
   -- the tries only read
-  wait_kept : (line : Option ScriptLine) (u : View) → phase_at last seat ≡ Active → Waited f seat line last u → Kept here (u.session seat)
+  wait_kept : (line : Option ScriptLine) (u : View) → phase_at last seat ≡ Active → Waited f seat line last u → KeptOn here (u.session seat)
   wait_kept None u active passes = kept_same here (u.session seat) active passes.own
   wait_kept (Some l) u active (n, tried) = tried_kept f seat l.command n last u active tried
 
   reads_more : (line : Option ScriptLine) (u : View) → phase_at last seat ≡ Active → Waited f seat line last u → BeganIn (work_at u seat) → HasReadMore (work_at last seat) (work_at u seat)
   reads_more None u active passes began = subst (λ (s : Session). HasReadMore (work_at last seat) (work_of s.stand)) (sym passes.own) (read_itself (work_at last seat))
   reads_more (Some l) u active (n, tried) began =
-      let (t, current, unfinished, ran) = told_active seat p.current here.stand tells.now active in
-      tried_reads (work_at u seat) began f seat l.command n last u active tried (steps_of t) ran (same_work (work_at u seat))
+      let (t, current, unfinished) = told_active seat p.current here.stand tells.now active in
+      tried_reads (work_at u seat) began f seat l.command n last u active tried (steps_of t) (known.runs t current active).run (same_work (work_at u seat))
 
   -- its transaction was aborted
   aborted_there : (u : View) → phase_at last seat ≡ Active → Waited f seat next last u → DidAbort u seat end → Leaving f seat p
@@ -182,7 +183,7 @@ module _ (laws : Laws) (f : View) (seat : ℕ) (session : IsSession f seat) (hol
             now = tt;
             watched = tt;
           };
-          unfinished = λ is. let (t, current, unfinished, ran) = told_active seat p.current here.stand tells.now active in (t, current, unfinished);
+          unfinished = λ is. told_active seat p.current here.stand tells.now active;
           over = λ of stamp succ m has. sealed_there here.over w y of stamp succ (subst (λ (s : Session). of ∈ s.over) ended m) has;
           sealed = λ x at is. absurd (cc is);
         };

@@ -27,6 +27,7 @@ use Rattle.erm_lines_at_once.specs.CutRuns.{next_of}
 use Rattle.erm_lines_at_once.specs.Ends.{IsEnd}
 use Rattle.erm_lines_at_once.specs.Executions.{IsOwnRun, all_moves}
 use Rattle.erm_told.proofs.Executed.{still_session}
+use Rattle.erm_told.proofs.Turns.{TellsAt}
 use Rattle.erm_told.proofs.Ranges.{in_range}
 use Rattle.erm_told_order.specs.Told.{IsTold}
 use Rattle.erm_told_at_once.proofs.Runs.{all_say, first_known, knows_own}
@@ -92,11 +93,11 @@ told_of script counts answers closed seat = progress_of seat (places_of (answere
 
 pub known : NoneRuns → ((w u : Work) (steps : List Step) → Extends w u → IsAnswered w steps → IsAnswered u steps) → (v f : View) (script : List ScriptLine)
     (counts : ℕ → ℕ) (answers : List Answer) (closed : List Closed) → IsOpened v → (seat : ℕ) → IsSession v seat → (last : View) → IsOwnRun f seat v (all_moves (answered_of counts script) answers closed) last
-    → Tells seat (told_of script counts answers closed seat) (last.session seat)
+    → TellsAt seat (told_of script counts answers closed seat) last
 known runs stay v f script counts answers closed opened seat session last run =
     let part = answered_of counts script in
     let knows = knows_own runs stay f seat (all_moves part answers closed) nothing Idle v last run (first_known seat v (opened.idle seat session)) in
-    subst (λ (said : List Said). Tells seat (progress_of seat said) (last.session seat)) (all_say part answers closed) knows.tells
+    subst (λ (said : List Said). TellsAt seat (progress_of seat said) last) (all_say part answers closed) knows.told
 
 module _ (v f : View) (script : List ScriptLine) (counts : ℕ → ℕ) (answers : List Answer) (closed : List Closed) (opening : f.opening ≡ v.opening) (ends : IsEnd f)
     (leaving : (seat : ℕ) → IsSession v seat → Leaving f seat (told_of script counts answers closed seat)) where

@@ -16,6 +16,7 @@ returns c =
       causes = causes.causes;
       others = causes.others;
       logs = logs.log;
+      saves = logs.saves;
       reach = logs.reach;
       room = c.runs_in_part_refuse_for_room.ensures.room;
     }
