@@ -26,7 +26,7 @@ use Rattle.erm_tree.specs.Reads.{IsMetIn, IsOnWay, IsSought}
 use Rattle.erm_tree.specs.Walk.{IsMetByNext, last_sought}
 use Rattle.erm_tree.proofs.Operations.{AreRunOne-called, Stutters-does, Stutters-saw}
 use Rattle.erm_world.specs.Saves.{OnceOf}
-use Rattle.erm_world.specs.World.{Opening, Session, View, Work, phase_at}
+use Rattle.erm_world.specs.World.{Opening, View, Work, phase_at}
 use Rattle.erm_world.proofs.Txns.{MayStop}
 use Rattle.erm_maps.specs.Runs.{IsRunOf, Kept, kept_at}
 use Rattle.erm_maps.proofs.Called.{called_runs, lawful_before}
