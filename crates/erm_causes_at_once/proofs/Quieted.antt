@@ -14,6 +14,7 @@ use Rattle.erm_world.specs.World.{Fate, Finished, Session, Stand, View, Work, ma
 use Rattle.erm_world.specs.World as world
 use Rattle.erm_good_report.specs.Phases.{Closes, FitsRefusal, HasNoSnapshot, NeedsAny, NeedsReader, NeedsWriter, need_of, refusal_of}
 use Rattle.erm_good_report.specs.Transactions.{Aborts, Commits, Ending, Excludes, Progress, Transaction, begun, ended, heard, nothing, table_of}
+use Rattle.erm_lines.specs.Answers.{DidAskBack, DidAskSave}
 use Rattle.erm_lines.specs.Told.{TellsNow}
 use Rattle.erm_lines.specs.Whole.{is_snapshot}
 use Rattle.erm_lines.proofs.Moved.{active_where}
@@ -137,13 +138,22 @@ rests_at : (seat : ℕ) (v t : View) (stand : Stand) → (t.session seat).stand 
 rests_at seat v t stand is none =
     rests_keep (t.session seat).stand (v.session seat).stand (t.saves seat) (v.saves seat) (λ active. none (sym (ap phase_of is) ∙ active))
 
+-- A line of savepoints, and its answer
+pub data Pointed (c : Command) (a : Answer) (v : View) (seat : ℕ) (t : View) : Type 0 where
+  saves : c ≡ command.Save → DidAskSave v seat a t → Pointed c a v seat t
+  backs : (n : ℕ) → c ≡ command.Back n → DidAskBack v seat n a t → Pointed c a v seat t
+
+pub pointed_at : (c : Command) (a : Answer) (v : View) (seat : ℕ) (t : View) → Pointed c a v seat t → AtSavepoint v seat t
+pointed_at c a v seat t (saves is did) = asked_save v t seat a did
+pointed_at c a v seat t (backs n is did) = asked_back v t seat n a did
+
 -- LINES. What a line did: it is a quiet one; or it sealed its transaction, and then it is; or it is one that names a table, or one of savepoints.
 pub data Lined (f : View) (seat : ℕ) (asked : Option Command) (a : Answer) (v t : View) : Type 0 where
   quiet : Quieted asked a (v.session seat) (t.session seat) → KeepsAt seat v t → Lined f seat asked a v t
   sealed_first : (stamp : ℕ) (between : Session) → phase_at v seat ≡ Active → between ≡ record { over = (v.session seat).over; stand = world.sealed (work_at v seat) stamp }
       → Quieted asked a between (t.session seat) → (phase_at t seat ≡ Active → ⊥) → Lined f seat asked a v t
   named : (c : Command) (k : ℕ) → asked ≡ Some c → table_of c ≡ Some k → phase_at v seat ≡ Active → DidOperationBeside f seat c a v t → Lined f seat asked a v t
-  at_savepoint : (c : Command) (u : View) → asked ≡ Some c → table_of c ≡ None → phase_at v seat ≡ Active → Passes seat v u → AtSavepoint u seat t → GoesOnBy a → Lined f seat asked a v t
+  at_savepoint : (c : Command) (u : View) → asked ≡ Some c → table_of c ≡ None → phase_at v seat ≡ Active → Passes seat v u → Pointed c a u seat t → GoesOnBy a → Lined f seat asked a v t
 
 module _ (f : View) (seat : ℕ) (v t : View) where
   abbrev phase_passed : (u : View) → Passes seat v u → phase_at u seat ≡ phase_at v seat
@@ -217,13 +227,13 @@ module _ (f : View) (seat : ℕ) (v t : View) where
       (λ at. decided_rests seat a did.between t did.decided at)
 
   saved_line : (a : Answer) → phase_at v seat ≡ Active → DidCommandBeside f seat command.Save a v t → Lined f seat (Some command.Save) a v t
-  saved_line (answer.Saved held) active (u, passes, did) = at_savepoint command.Save u refl refl active passes (asked_save u t seat (answer.Saved held) did) (λ q asked p. refl)
-  saved_line answer.SavesFull active (u, passes, did) = at_savepoint command.Save u refl refl active passes (asked_save u t seat answer.SavesFull did) (λ q asked p. refl)
+  saved_line (answer.Saved held) active (u, passes, did) = at_savepoint command.Save u refl refl active passes (saves refl did) (λ q asked p. refl)
+  saved_line answer.SavesFull active (u, passes, did) = at_savepoint command.Save u refl refl active passes (saves refl did) (λ q asked p. refl)
   saved_line a active (u, passes, did) = absurd did
 
   back_line : (n : ℕ) (a : Answer) → phase_at v seat ≡ Active → DidCommandBeside f seat (command.Back n) a v t → Lined f seat (Some (command.Back n)) a v t
-  back_line n (answer.Back m) active (u, passes, did) = at_savepoint (command.Back n) u refl refl active passes (asked_back u t seat n (answer.Back m) did) (λ q asked p. refl)
-  back_line n (answer.NoSave held) active (u, passes, did) = at_savepoint (command.Back n) u refl refl active passes (asked_back u t seat n (answer.NoSave held) did) (λ q asked p. refl)
+  back_line n (answer.Back m) active (u, passes, did) = at_savepoint (command.Back n) u refl refl active passes (backs n refl did) (λ q asked p. refl)
+  back_line n (answer.NoSave held) active (u, passes, did) = at_savepoint (command.Back n) u refl refl active passes (backs n refl did) (λ q asked p. refl)
   back_line n a active (u, passes, did) = absurd did
 
   durable_line : (a : Answer) → DidCommandBeside f seat command.Durable a v t → Lined f seat (Some command.Durable) a v t

@@ -47,7 +47,7 @@ use Rattle.erm_causes_at_once.proofs.Called.{operation_made}
 use Rattle.erm_causes_at_once.proofs.Free.{Going, IsFree, active_free, none_now, sealed_free, went_free}
 use Rattle.erm_causes_at_once.proofs.GivenUp.{GaveUp, LeavesGiven, close_given, given_by, gives, leaves, line_given, tried_given}
 use Rattle.erm_causes_at_once.proofs.Operation.{claim_writes, kept_cut, now, operation_free}
-use Rattle.erm_causes_at_once.proofs.Quieted.{Lined, at_savepoint, began_idle, closed_keeps, closed_quiet, lined, named, quiet, quieted_free, quieted_made, rests_keep, sealed_first}
+use Rattle.erm_causes_at_once.proofs.Quieted.{Lined, at_savepoint, began_idle, closed_keeps, closed_quiet, lined, named, pointed_at, quiet, quieted_free, quieted_made, rests_keep, sealed_first}
 use Rattle.erm_causes_at_once.proofs.Still.{IsToldIn, StillTold, heard_still}
 use Rattle.erm_told_limits.proofs.Given.{HistoryLaws}
 use Rattle.erm_told_limits.proofs.Ran.{active_with}
@@ -90,7 +90,7 @@ lined_made f seat asked a v t (quiet did keeps) x = omega (arith, quieted_made a
 lined_made f seat asked a v t (sealed_first stamp between active is did rests) x =
     omega (arith, quieted_made asked a between (t.session seat) did x, ap (λ (s : Session). made_in s x) is)
 lined_made f seat asked a v t (at_savepoint c u is none active passes did hears) x =
-    omega (arith, saves_made u t seat x did, ap (λ (s : Session). made_in s x) passes.own)
+    omega (arith, saves_made u t seat x (pointed_at c a u seat t did), ap (λ (s : Session). made_in s x) passes.own)
 lined_made f seat asked a v t (named c k is names active did) x = operation_made f seat c a v t active did x
 
 own_made : (f : View) (seat at : ℕ) (asked : Option Command) (a : Answer) (v t : View) → OwnDid f seat at asked a v t → (x : ℕ) → made_in (v.session seat) x ≤ made_in (t.session seat) x
@@ -202,10 +202,10 @@ module _ (tree : TreeLaws) (laws : HistoryLaws) (begun : NoneRuns)
       subst (λ (held : List (List VersionWritten)). IsFree table f p held (u.session seat)) (sym passes.saves) (subst (λ (s : Session). IsFree table f p (v.saves seat) s) own free) in
       let there : phase_at u seat ≡ Active = ap (λ (s : Session). phase_of s.stand) passes.own ∙ active in
       let now = active_free table f p.current (u.saves seat) (u.session seat).stand here.now there in
-      let on = saves_of u t seat did in
+      let on = saves_of u t seat (pointed_at c a u seat t did) in
       let stand = active_with (t.session seat).stand (on.active there) in
       subst (λ (b : Option Command). IsFree table f (heard seat b a p) (t.saves seat) (t.session seat)) (sym is)
-      (went_free table f seat c a p (u.saves seat) (t.saves seat) (u.session seat) (t.session seat) now.told hears now.is on.over stand (saved_going c a u t now.told did now.going) here)
+      (went_free table f seat c a p (u.saves seat) (t.saves seat) (u.session seat) (t.session seat) now.told hears now.is on.over stand (saved_going c a u t now.told (pointed_at c a u seat t did) now.going) here)
   lined_free asked a v t p tells (named c k is names active did) range right goes free =
       subst (λ (b : Option Command). IsFree table f (heard seat b a p) (t.session seat)) (sym is)
       (operation_free tree laws table f seat session holds opened c a k names (subst IsAskedInRange is range) v t active did goes (right k (ap table_asked is ∙ names)) p free tells)

@@ -35,7 +35,7 @@ use Rattle.erm_causes.proofs.Quiet.{SameNow}
 use Rattle.erm_causes.proofs.Saved.{AtSavepoint, back, refused, saved}
 use Rattle.erm_causes.proofs.Tables.{AreMovesInRange}
 use Rattle.erm_causes_at_once.proofs.Called.{Once, once_of, out, stayed, whole}
-use Rattle.erm_causes_at_once.proofs.Quieted.{Lined, Quieted, at_savepoint, begins, done, named, quiet, sealed_first, seals, still, watched}
+use Rattle.erm_causes_at_once.proofs.Quieted.{Lined, Quieted, at_savepoint, begins, done, named, pointed_at, quiet, sealed_first, seals, still, watched}
 use Rattle.erm_causes_at_once.proofs.Snapshots.{HasNoWork, Watches}
 use Rattle.erm_causes_at_once.proofs.Snapshots as snapshots
 use Rattle.erm_causes_at_once.proofs.Totals.{count_asked, own_count, own_total}
@@ -295,7 +295,7 @@ module _ (laws : Laws) (begun : NoneRuns)
       (moved_then (MayBe f) 0 0 0 0 0 1 (v.session seat) between (t.session seat) first then)
   lined_moved asked a v t (at_savepoint c u is none active passes did hears) range run goes =
       moved_within (MayBe f) 0 0 0 (count_asked makes_of asked) (count_asked claims_of asked) 1 (v.session seat) (t.session seat) (omega arith) (omega arith) (omega arith)
-      (saved_moved (MayBe f) seat v u t passes did)
+      (saved_moved (MayBe f) seat v u t passes (pointed_at c a u seat t did))
   lined_moved asked a v t (named c k is names active did) range run goes =
       let r = run active in
       subst (λ (b : Option Command). Moved (MayBe f) (count_asked makes_of b) (count_asked claims_of b) 1 (v.session seat) (t.session seat)) (sym is)
@@ -321,7 +321,7 @@ module _ (laws : Laws) (begun : NoneRuns)
       quieted_reads seat asked a p between (t.session seat) (sealed_tells seat stamp p.current (v.session seat) between active is told.tells.now) did (λ u now. subst (λ (r : Session). MayHaveRead (work_of r.stand) u) (sym is) (few u now))
   lined_reads asked a v t p (at_savepoint c u is none active passes did hears) range told goes apart few =
       subst (λ (b : Option Command). ReadsFew (heard seat b a p) (t.session seat)) (sym is)
-      (saved_reads seat c a p v t hears (saved_work_reads seat v u t passes did) few)
+      (saved_reads seat c a p v t hears (saved_work_reads seat v u t passes (pointed_at c a u seat t did)) few)
   lined_reads asked a v t p (named c k is names active did) range told goes apart few =
       let r = active_run seat p v told active in
       let looks = operation_looks laws f seat session holds c (subst IsAskedInRange is range) k names a v t active did r.0 r.1 goes in

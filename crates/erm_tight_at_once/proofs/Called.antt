@@ -1,6 +1,6 @@
 -- A line that names a table leaves its session's transaction so that its lines tell what it touched.
-use Rattle.std.proofs.Common.{◌≡◌, ℕ, zero, suc, ◌≤◌, false, List, [], ◌∷◌, ◌++◌, Option, Some, None, inl, inr, refl, sym, ap, ◌∙◌, subst, arith}
-use Rattle.std.specs.Option.{option_map, option_to_list}
+use Rattle.std.proofs.Common.{◌≡◌, ℕ, zero, suc, ◌≤◌, false, List, [], ◌∷◌, ◌++◌, length, Some, None, inl, inr, refl, sym, ap, ◌∙◌, subst, arith}
+use Rattle.erm_model.specs.declared.history.VersionWritten.{VersionWritten}
 use Rattle.erm_model.specs.declared.outcome.Phase.TheVariants.{Active}
 use Rattle.erm_model.specs.declared.row_stop.RowStop.{RowStop}
 use Rattle.erm_model.specs.declared.row_stop.RowStop.TheVariants as stop
@@ -23,16 +23,18 @@ use Rattle.erm_world.specs.World.{Finished, Has, IsSession, Session, View, Work,
 use Rattle.erm_world.specs.World as world
 use Rattle.erm_maps.specs.Runs.{IsRunOf, kept_at}
 use Rattle.erm_good_report.specs.Transactions.{Exchange, Progress, Transaction, heard, table_of, with_line}
-use Rattle.erm_good_report.specs.Windows.{IsReplied, IsTidied}
+use Rattle.erm_good_report.specs.Windows.{ChangesKey, IsReplied, IsTidied}
 use Rattle.erm_lines.specs.Operations.{AsksOf, DidCalls, FrontOf, Ran, WholeOf}
 use Rattle.erm_lines.specs.Told.{Continues, TellsNow}
 use Rattle.erm_lines_at_once.specs.Operations.{Beside, DidOnce, DidOperationBeside, WasTried, WereCutBeside, told_at_once}
+use Rattle.erm_told_at_once.proofs.Operated.{cut_saves, holds_tried, reached}
 use Rattle.erm_causes.proofs.Answered.{last_number}
 use Rattle.erm_causes.proofs.Fine.{number_told}
+use Rattle.erm_causes.proofs.Lines.{named_works}
 use Rattle.erm_causes.proofs.Operated.{GoesOnBy}
 use Rattle.erm_causes.proofs.Own.{no_claims}
 use Rattle.erm_causes.proofs.Quiet.{now_works}
-use Rattle.erm_causes_at_once.proofs.Called.{CutOnce, calls_gone, cut_as, cut_gone, cut_kept, cut_stays, ends_so, kept_gone, kept_then, stays_so, tried_kept}
+use Rattle.erm_causes_at_once.proofs.Called.{CutOnce, KeptOn, calls_gone, cut_as, cut_gone, cut_kept, cut_stays, ends_so, kept_gone, kept_then, ran_beside, stays_so, tried_kept}
 use Rattle.erm_causes_at_once.proofs.Line.{extended_made, later_has}
 use Rattle.erm_causes_at_once.proofs.Operation.{called_run, tried_run}
 use Rattle.erm_told_limits.proofs.Holds.{Laws}
@@ -40,8 +42,10 @@ use Rattle.erm_told_limits.proofs.Ran.{MovesAll, active_with}
 use Rattle.erm_limits_at_once.proofs.Looked.{BeganIn, began_in, tried_more, waits_only}
 use Rattle.erm_limits_at_once.proofs.Tried.{beside_works}
 use Rattle.erm_tight.proofs.Calls.{KeepsRecords, same_kept}
-use Rattle.erm_tight.proofs.Marks.{HasIn, LineDid, Marks, Overwriting, marks_then}
+use Rattle.erm_tight.proofs.Marks.{LineDid, Marks, marks_then}
 use Rattle.erm_tight.proofs.Moves.{IsGoing, now_active}
+use Rattle.erm_tight.proofs.Saved.{Goes, saved_on}
+use Rattle.erm_tight.proofs.Stays.{HasIn, kept_from, saved_same, stays_of}
 use Rattle.erm_tight.proofs.Went.{Leaves, leaves}
 use Rattle.erm_tight.proofs.Whole.{KeyLaws, front_only, tidy_did, whole_did}
 use Rattle.erm_tight.proofs.Lines.{cut_over, line_did, replied_over}
@@ -67,7 +71,7 @@ module _ (lines : List Exchange) (w u : Work) (events : List Event) (moves : Mov
           ),
         );
     changes = λ rows sound fits table key x line is. left.claimed x (marks.changes rows sound (moves.fitted rows fits) table key x line is);
-    only = λ rows sound fits table key x below is claimed. elim (moves.claims x claimed) as (λ _. HasIn (Overwriting table key) lines) [
+    only = λ rows sound fits table key x below is claimed. elim (moves.claims x claimed) as (λ _. HasIn (ChangesKey table key) lines) [
       | inl before ↦ marks.only rows sound (moves.fitted rows fits) table key x below is before
       | inr by ↦ absurd (no_claims events only x by)
     ];
@@ -88,10 +92,6 @@ module _ (keys : KeyLaws) (c : Command) (k : ℕ) (named : table_of c ≡ Some k
     only = λ rows sound agrees table key x below is by.
         absurd (front_only keys cut.events c k named range cut.none rows sound agrees (cut.of rows sound agrees) table key x below is by);
   }
-
-  -- the lines with this one
-  lines_now : (a : Answer) (t : Transaction) → (with_line (Some c) a t).lines ≡ t.lines ++ record { asked = c; answer = a } ∷ []
-  lines_now a t = ap (λ (r : Option ℕ). t.lines ++ option_to_list (option_map (λ (table : ℕ). record { asked = c; answer = a }) r)) named
 
   -- THE CALLS of a work that goes on to one of the world in which all end.
   module _ (f : View) (seat : ℕ) where
@@ -127,21 +127,23 @@ module _ (keys : KeyLaws) (c : Command) (k : ℕ) (named : table_of c ≡ Some k
           let left : Leaves (work_at v seat) events (work_at t seat) =
           beside_works seat (λ x y. DidCalls x seat now (WholeOf c a) y) (λ w y. Leaves w beside.did.events y) v t beside
           (leaves beside.did.events beside.from beside.to seat (ap (λ (s : Session). phase_of s.stand) beside.starts ∙ active) beside.did.ran) in
-          marks_then lines (work_at v seat) (work_at t seat) (record { asked = c; answer = a }) events gone.moves left run.lawful (made_few (work_at t seat) more) did marks
+          marks_then lines (stays_of lines).now (work_at v seat) (work_at t seat) (record { asked = c; answer = a }) events gone.moves left run.lawful (made_few (work_at t seat) more) did marks
+          (stays_of (lines ++ record { asked = c; answer = a } ∷ [])).now (λ P has. kept_from P lines (record { asked = c; answer = a }) k named has)
 
       cut_marks : (a : Answer) (lines : List Exchange) (why : RowStop) (v t : View) → phase_at v seat ≡ Active → (cut : WereCutBeside f seat (FrontOf c) (AsksOf c) why v t)
           → (steps : List Step) → IsRunOf (kept_at v seat) steps → Extends (work_at cut.at seat) last → LineDid (record { asked = c; answer = a }) cut.events → Marks lines (work_at v seat)
           → Marks (lines ++ record { asked = c; answer = a } ∷ []) (work_at cut.at seat)
       cut_marks a lines why v t active cut steps run more did marks =
           let gone = cut_gone f seat c why v t active cut in
-          marks_then lines (work_at v seat) (work_at cut.at seat) (record { asked = c; answer = a }) cut.events gone.moves (cut_leaves why v t active cut) run.lawful
+          marks_then lines (stays_of lines).now (work_at v seat) (work_at cut.at seat) (record { asked = c; answer = a }) cut.events gone.moves (cut_leaves why v t active cut) run.lawful
           (made_few (work_at cut.at seat) more) did marks
+          (stays_of (lines ++ record { asked = c; answer = a } ∷ [])).now (λ P has. kept_from P lines (record { asked = c; answer = a }) k named has)
 
   -- THE WHOLE LINE.
   module _ (laws : Laws) (f : View) (seat : ℕ) (session : IsSession f seat) (holds : IsSerializable sound_law f) (p : Progress) (v t : View) (active : phase_at v seat ≡ Active)
-      (goes : Continues (t.session seat) (f.session seat)) (tells : TellsNow seat p.current (v.session seat).stand) (marks : AreMarks p (v.session seat)) (n : ℕ) (at : View) (tried : WasTried f seat c n v at) where
-    going : IsGoing p.current (work_at v seat)
-    going = now_active p.current (v.session seat).stand marks.now active
+      (goes : Continues (t.session seat) (f.session seat)) (tells : TellsNow seat p.current (v.session seat).stand) (marks : AreMarks p (v.saves seat) (v.session seat)) (n : ℕ) (at : View) (tried : WasTried f seat c n v at) where
+    going : IsGoing p.current (kept_at v seat)
+    going = now_active p.current (v.saves seat) (v.session seat).stand marks.now active
 
     -- its number is told
     number_now : going.told.number ≡ (work_at v seat).number
@@ -154,11 +156,25 @@ module _ (keys : KeyLaws) (c : Command) (k : ℕ) (named : table_of c ≡ Some k
     active_at : phase_at at seat ≡ Active
     active_at = (tried_kept f seat c n v at active tried).phase
 
+    saved_at : at.saves seat ≡ v.saves seat
+    saved_at = (holds_tried f seat c n v at active tried).saves
+
+    -- with the line, and at its savepoints
+    goes_now : (a : Answer) → KeptOn (v.session seat) (t.session seat) → t.saves seat ≡ v.saves seat → Marks (going.told.lines ++ record { asked = c; answer = a } ∷ []) (work_at t seat)
+        → Goes (going.told.lines ++ record { asked = c; answer = a } ∷ []) (kept_at t seat)
+    goes_now a all same lines =
+        let e : Exchange = record { asked = c; answer = a } in
+        subst (λ (held : List (List VersionWritten)). Goes (going.told.lines ++ e ∷ []) (record { work = work_at t seat; saves = held })) (sym same) (record {
+          marks = lines;
+          held = ap (λ (list : List (List Exchange)). length list) (saved_same going.told.lines e k named) ∙ going.goes.held;
+          saved = saved_on going.told.lines (going.told.lines ++ e ∷ []) (v.saves seat) (work_at v seat) (work_at t seat) all.more (saved_same going.told.lines e k named) going.goes.saved;
+        })
+
     last_of : phase_at t seat ≡ Active → (x : Work) × Has f seat x × Extends (work_at t seat) x
     last_of there = later_has f seat (work_at t seat) (goes.active (work_at t seat) (active_with (t.session seat).stand there))
 
     whole_line : (a : Answer) (now : List Step) → (beside : Beside seat (λ x y. DidCalls x seat now (WholeOf c a) y) at t) → LineDid (record { asked = c; answer = a }) beside.did.events → GoesOnBy a
-        → AreMarks (heard seat (Some c) a p) (t.session seat)
+        → AreMarks (heard seat (Some c) a p) (t.saves seat) (t.session seat)
     whole_line a now beside did hears =
         let gone = calls_gone seat c a now at t active_at beside in
         let all = kept_then (v.session seat) (at.session seat) (t.session seat) (tried_kept f seat c n v at active tried)
@@ -166,14 +182,14 @@ module _ (keys : KeyLaws) (c : Command) (k : ℕ) (named : table_of c ≡ Some k
         let (x, has, more) = last_of all.phase in
         let began = began_in laws f seat session holds x has in
         let more_at = extends_then (work_at at seat) (work_at t seat) x gone.more more in
-        let before = tried_marks f seat x began going.told.lines n v at active tried going.steps going.run more_at going.marks in
+        let before = tried_marks f seat x began going.told.lines n v at active tried going.steps going.run more_at going.goes.marks in
         let lines = whole_marks f seat x began a going.told.lines now at t active_at beside going.steps run_at more did before in
-        went_marks seat c a p (v.session seat) (t.session seat) going.told hears going.is all.over gone.stand
-        (subst (λ (es : List Exchange). Marks es (work_at t seat)) (sym (lines_now a going.told)) lines)
+        let same : t.saves seat ≡ v.saves seat = (reached seat beside.did.events at t active_at (ran_beside seat c a now at t beside)).saves ∙ saved_at in
+        went_marks seat c a p (v.saves seat) (t.saves seat) (v.session seat) (t.session seat) going.told (named_works c k named) hears going.is all.over gone.stand (goes_now a all same lines)
         (going.steps ++ now) (called_run seat c a now at t beside going.steps run_at) marks
 
     stays_line : (a : Answer) → (IsReplied a → ⊥) → (IsTidied a → ⊥) → (why : RowStop) → WereCutBeside f seat (FrontOf c) (AsksOf c) why at t → ends why ≡ false → GoesOnBy a
-        → AreMarks (heard seat (Some c) a p) (t.session seat)
+        → AreMarks (heard seat (Some c) a p) (t.saves seat) (t.session seat)
     stays_line a replied tidied why cut stays hears =
         let same : t.session seat ≡ cut.at.session seat = cut_stays f seat c why at t active_at cut stays in
         let gone = cut_gone f seat c why at t active_at cut in
@@ -182,29 +198,29 @@ module _ (keys : KeyLaws) (c : Command) (k : ℕ) (named : table_of c ≡ Some k
         let began = began_in laws f seat session holds x has in
         let more_cut = subst (λ (s : Session). Extends (work_of s.stand) x) same more in
         let more_at = extends_then (work_at at seat) (work_at cut.at seat) x gone.more more_cut in
-        let before = tried_marks f seat x began going.told.lines n v at active tried going.steps going.run more_at going.marks in
+        let before = tried_marks f seat x began going.told.lines n v at active tried going.steps going.run more_at going.goes.marks in
         let lines = cut_marks f seat x began a going.told.lines why at t active_at cut going.steps run_at more_cut (front_did a replied tidied f seat why at t cut) before in
-        went_marks seat c a p (v.session seat) (t.session seat) going.told hears going.is all.over (active_with (t.session seat).stand all.phase)
-        (subst (λ (es : List Exchange). Marks es (work_at t seat)) (sym (lines_now a going.told))
-        (subst (λ (s : Session). Marks (going.told.lines ++ record { asked = c; answer = a } ∷ []) (work_of s.stand)) (sym same) lines))
+        let held : t.saves seat ≡ v.saves seat = cut_saves f seat (FrontOf c) (AsksOf c) why at t active_at cut stays ∙ saved_at in
+        went_marks seat c a p (v.saves seat) (t.saves seat) (v.session seat) (t.session seat) going.told (named_works c k named) hears going.is all.over (active_with (t.session seat).stand all.phase)
+        (goes_now a all held (subst (λ (s : Session). Marks (going.told.lines ++ record { asked = c; answer = a } ∷ []) (work_of s.stand)) (sym same) lines))
         going.steps (cut.run stays going.steps run_at) marks
 
-    refused_line : (a : Answer) → (IsReplied a → ⊥) → (IsTidied a → ⊥) → CutOnce f seat c a at t → AreMarks (heard seat (Some c) a p) (t.session seat)
+    refused_line : (a : Answer) → (IsReplied a → ⊥) → (IsTidied a → ⊥) → CutOnce f seat c a at t → AreMarks (heard seat (Some c) a p) (t.saves seat) (t.session seat)
     refused_line a replied tidied (stays_so why cut stays hears) = stays_line a replied tidied why cut stays hears
     refused_line a replied tidied (ends_so why cut w ending told_so last ended shut hears) =
         let g : Finished = record { work = w; fate = world.aborts } in
         let gone = cut_gone f seat c why at t active_at cut in
         let all = kept_then (v.session seat) (at.session seat) (cut.at.session seat) (tried_kept f seat c n v at active tried)
         (kept_gone cut.events (at.session seat) (cut.at.session seat) gone) in
-        subst (λ (s : Session). AreMarks (heard seat (Some c) a p) s)
+        subst (λ (s : Session). AreMarks (heard seat (Some c) a p) (t.saves seat) s)
         (sym (ended ∙ ap (λ (gs : List Finished). record { over = gs ++ g ∷ []; stand = world.idle }) all.over))
-        (out_marks seat c a p (v.session seat) going.told w ending hears going.is (number_now ∙ sym (last_number cut.asked (work_at cut.at seat) w last ∙ all.number)) marks)
+        (out_marks seat c a p (v.saves seat) (t.saves seat) (v.session seat) going.told w ending hears going.is (number_now ∙ sym (last_number cut.asked (work_at cut.at seat) w last ∙ all.number)) marks)
 
     refused_as : (a : Answer) → (IsReplied a → ⊥) → (IsTidied a → ⊥) → (why : RowStop) × (told_at_once why ≡ Some a) × WereCutBeside f seat (FrontOf c) (AsksOf c) why at t
-        → AreMarks (heard seat (Some c) a p) (t.session seat)
+        → AreMarks (heard seat (Some c) a p) (t.saves seat) (t.session seat)
     refused_as a replied tidied did = refused_line a replied tidied (cut_as f seat c at t a did)
 
-    once_marks : (a : Answer) → DidOnce f seat c a at t → AreMarks (heard seat (Some c) a p) (t.session seat)
+    once_marks : (a : Answer) → DidOnce f seat c a at t → AreMarks (heard seat (Some c) a p) (t.saves seat) (t.session seat)
     once_marks (answer.Replied r) (o, is, beside) =
         whole_line (answer.Replied r) (record { op = o; reply = r } ∷ []) beside
         (line_did c (answer.Replied r) beside.did.events (replied_over c r o is)
@@ -219,6 +235,6 @@ module _ (keys : KeyLaws) (c : Command) (k : ℕ) (named : table_of c ≡ Some k
     once_marks a did = refused_as a (λ replied. let never : None ≡ Some replied.0 = replied.1 in cc) (λ tidied. let other = tidied.1 in cc) did
 
   pub operation_marks : Laws → (f : View) (seat : ℕ) → IsSession f seat → IsSerializable sound_law f → (a : Answer) (p : Progress) (v t : View) → phase_at v seat ≡ Active
-      → DidOperationBeside f seat c a v t → Continues (t.session seat) (f.session seat) → TellsNow seat p.current (v.session seat).stand → AreMarks p (v.session seat) → AreMarks (heard seat (Some c) a p) (t.session seat)
+      → DidOperationBeside f seat c a v t → Continues (t.session seat) (f.session seat) → TellsNow seat p.current (v.session seat).stand → AreMarks p (v.saves seat) (v.session seat) → AreMarks (heard seat (Some c) a p) (t.saves seat) (t.session seat)
   operation_marks laws f seat session holds a p v t active did goes tells marks =
       once_marks laws f seat session holds p v t active goes tells marks did.times did.at did.tried a did.once

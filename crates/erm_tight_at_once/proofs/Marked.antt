@@ -1,16 +1,19 @@
 -- What the lines of a session's transactions tell of the records that these touched, and how moves that touch none leave it.
-use Rattle.std.proofs.Common.{◌≡◌, ℕ, List, [], ◌∷◌, ◌++◌, Option, Some, None, refl, sym, subst}
+use Rattle.std.proofs.Common.{◌≡◌, ℕ, Bool, true, cond, List, [], ◌∷◌, ◌++◌, Option, Some, None, refl, sym, ap, subst}
 use Rattle.std.specs.Option.{option_map, option_to_list}
+use Rattle.erm_model.specs.declared.history.VersionWritten.{VersionWritten}
 use Rattle.erm_model.specs.declared.outcome.Phase.TheVariants.{Active}
 use Rattle.erm_model.specs.Run.{Step}
 use Rattle.erm_report.specs.declared.answer.Answer.{Answer}
 use Rattle.erm_script.specs.declared.script.Command.{Command}
+use Rattle.erm_world.specs.Calls.{KeepsOwnSaves}
+use Rattle.erm_world.specs.Snapshots.{snapshot_not_active}
 use Rattle.erm_world.specs.World.{Fate, Finished, Session, Stand, Work, phase_of, stamp_of, work_of}
 use Rattle.erm_world.specs.World as world
-use Rattle.erm_maps.specs.Runs.{IsRunOf}
-use Rattle.erm_good_report.specs.Transactions.{Ending, Exchange, Progress, Transaction, ended, heard, with_ending, with_line}
+use Rattle.erm_maps.specs.Runs.{IsRunOf, Kept}
+use Rattle.erm_good_report.specs.Transactions.{Ending, Exchange, Progress, Transaction, ended, heard, with_ending, with_line, works_on_map}
 use Rattle.erm_lines.specs.Told.{TellsNow}
-use Rattle.erm_lines.proofs.Keeping.{NoneRuns}
+use Rattle.erm_lines.proofs.Keeping.{NoneRuns, begins_bare}
 use Rattle.erm_causes.proofs.Operated.{EndsBy, GoesOnBy}
 use Rattle.erm_causes.specs.Touched.{Together}
 use Rattle.erm_causes.proofs.Fine.{number_told}
@@ -21,6 +24,7 @@ use Rattle.erm_causes_at_once.proofs.Snapshots.{HasNoWork, Watches}
 use Rattle.erm_causes_at_once.proofs.Snapshots as snapshots
 use Rattle.erm_tight.proofs.Marks.{Marks, marks_nothing}
 use Rattle.erm_tight.proofs.Moves.{MarkedNow, now_active, now_has, now_same}
+use Rattle.erm_tight.proofs.Saved.{Goes, goes_nothing}
 
 -- one that is over tells it where it was sealed
 abbrev pub MarksOne : Transaction → Finished → Type 0
@@ -29,28 +33,54 @@ MarksOne t g = (stamp : ℕ) → stamp_of g.fate ≡ Some stamp → Marks t.line
 abbrev pub MarksOver : List Transaction → List Finished → Type 0
 MarksOver ts gs = Together MarksOne ts gs
 
-pub record AreMarks (p : Progress) (s : Session) : Type 0 where
-  pub over : MarksOver p.over s.over
-  pub now : MarkedNow p.current s.stand
+-- and one in progress, with the savepoints that its session holds
+abbrev Saves : Type 0
+Saves = List (List VersionWritten)
 
-same_marks : (p q : Progress) (s : Session) → SameLines p q → AreMarks p s → AreMarks q s
-same_marks p q s same marks = record {
+pub record AreMarks (p : Progress) (held : List (List VersionWritten)) (s : Session) : Type 0 where
+  pub over : MarksOver p.over s.over
+  pub now : MarkedNow p.current held s.stand
+
+same_marks : (p q : Progress) (held : Saves) (s : Session) → SameLines p q → AreMarks p held s → AreMarks q held s
+same_marks p q held s same marks = record {
   over = subst (λ (ts : List Transaction). MarksOver ts s.over) (sym same.0) marks.over;
-  now = now_same p.current q.current s.stand same.1 marks.now;
+  now = now_same p.current q.current held s.stand same.1 marks.now;
 }
 
+-- the savepoints of a session that isn't active don't count
+pub now_rests : (current : Option Transaction) (held other : List (List VersionWritten)) (stand : Stand) → (phase_of stand ≡ Active → ⊥) → MarkedNow current held stand → MarkedNow current other stand
+now_rests None held other world.idle rests now = tt
+now_rests None held other (world.active w) rests now = absurd now
+now_rests None held other (world.sealed w stamp) rests now = absurd now
+now_rests None held other (world.snapshot x) rests now = tt
+now_rests (Some t) held other world.idle rests now = absurd now
+now_rests (Some t) held other (world.active w) rests now = absurd (rests refl)
+now_rests (Some t) held other (world.sealed w stamp) rests now = now
+now_rests (Some t) held other (world.snapshot x) rests now = absurd now
+
+-- a session that goes on as it was
+kept_now : (current : Option Transaction) (held other : Saves) (stand : Stand) → KeepsOwnSaves stand stand other held → MarkedNow current held stand → MarkedNow current other stand
+kept_now current held other world.idle keeps now = now_rests current held other world.idle (λ active. cc) now
+kept_now current held other (world.active w) keeps now = subst (λ (saves : Saves). MarkedNow current saves (world.active w)) (sym keeps) now
+kept_now current held other (world.sealed w stamp) keeps now = now_rests current held other (world.sealed w stamp) (λ active. cc) now
+kept_now current held other (world.snapshot x) keeps now = now_rests current held other (world.snapshot x) (λ active. snapshot_not_active x active) now
+
+kept_marks : (p : Progress) (held other : Saves) (s : Session) → KeepsOwnSaves s.stand s.stand other held → AreMarks p held s → AreMarks p other s
+kept_marks p held other s keeps marks = record { over = marks.over; now = kept_now p.current held other s.stand keeps marks.now }
+
 -- QUIET MOVES.
-pub sealed_marks : (p : Progress) (s : Session) (stamp : ℕ) → phase_of s.stand ≡ Active → AreMarks p s → AreMarks p (record { over = s.over; stand = world.sealed (work_of s.stand) stamp })
-sealed_marks p s stamp active marks =
-    let going = now_active p.current s.stand marks.now active in record {
+pub sealed_marks : (p : Progress) (held other : List (List VersionWritten)) (s : Session) (stamp : ℕ) → phase_of s.stand ≡ Active → AreMarks p held s
+    → AreMarks p other (record { over = s.over; stand = world.sealed (work_of s.stand) stamp })
+sealed_marks p held other s stamp active marks =
+    let going = now_active p.current held s.stand marks.now active in record {
       over = marks.over;
-      now = subst (λ (r : Option Transaction). MarkedNow r (world.sealed (work_of s.stand) stamp)) (sym going.is) going.marks;
+      now = subst (λ (r : Option Transaction). MarkedNow r other (world.sealed (work_of s.stand) stamp)) (sym going.is) going.goes.marks;
     }
 
-done_marks : (seat : ℕ) (p : Progress) (s : Session) (w : Work) (fate : Fate) (ending : Ending) → HasNow s.stand w → TellsNow seat p.current s.stand → AreMarks p s
-    → AreMarks (ended ending p) (record { over = s.over ++ record { work = w; fate = fate } ∷ []; stand = world.idle })
-done_marks seat p s w fate ending has tells marks =
-    let now = now_has p.current s.stand w marks.now has in
+done_marks : (seat : ℕ) (p : Progress) (held other : Saves) (s : Session) (w : Work) (fate : Fate) (ending : Ending) → HasNow s.stand w → TellsNow seat p.current s.stand → AreMarks p held s
+    → AreMarks (ended ending p) other (record { over = s.over ++ record { work = w; fate = fate } ∷ []; stand = world.idle })
+done_marks seat p held other s w fate ending has tells marks =
+    let now = now_has p.current held s.stand w marks.now has in
     let number = number_told seat p.current s.stand w now.told tells (now_works s.stand w has) now.is in
     let one : MarksOne (with_ending ending now.told) (record { work = w; fate = fate }) = λ stamp at. now.marks in
     record {
@@ -60,67 +90,86 @@ done_marks seat p s w fate ending has tells marks =
     }
 
 -- a session without a transaction
-now_none : (current : Option Transaction) (stand : Stand) → HasNoWork stand → MarkedNow current stand → current ≡ None
-now_none None stand rests now = refl
-now_none (Some t) world.idle rests now = absurd now
-now_none (Some t) (world.active w) rests now = absurd rests
-now_none (Some t) (world.sealed w stamp) rests now = absurd rests
-now_none (Some t) (world.snapshot x) rests now = absurd now
+now_none : (current : Option Transaction) (held : Saves) (stand : Stand) → HasNoWork stand → MarkedNow current held stand → current ≡ None
+now_none None held stand rests now = refl
+now_none (Some t) held world.idle rests now = absurd now
+now_none (Some t) held (world.active w) rests now = absurd rests
+now_none (Some t) held (world.sealed w stamp) rests now = absurd rests
+now_none (Some t) held (world.snapshot x) rests now = absurd now
 
-none_marks : (p q : Progress) (s : Session) → q.over ≡ p.over → q.current ≡ None → MarksOver p.over s.over → MarkedNow None s.stand → AreMarks q s
-none_marks p q s over now so_over so_now = record {
+none_now : (other : Saves) (stand : Stand) → HasNoWork stand → MarkedNow None other stand
+none_now other world.idle rests = tt
+none_now other (world.active w) rests = absurd rests
+none_now other (world.sealed w stamp) rests = absurd rests
+none_now other (world.snapshot x) rests = tt
+
+none_marks : (p q : Progress) (other : Saves) (s : Session) → q.over ≡ p.over → q.current ≡ None → MarksOver p.over s.over → HasNoWork s.stand → AreMarks q other s
+none_marks p q other s over now so_over rests = record {
   over = subst (λ (ts : List Transaction). MarksOver ts s.over) (sym over) so_over;
-  now = subst (λ (o : Option Transaction). MarkedNow o s.stand) (sym now) so_now;
+  now = subst (λ (o : Option Transaction). MarkedNow o other s.stand) (sym now) (none_now other s.stand rests);
 }
 
-watched_marks : (p q : Progress) (s t : Session) → q.over ≡ p.over → q.current ≡ None → p.current ≡ None → Watches s t → AreMarks p s → AreMarks q t
-watched_marks p q s t over now none (snapshots.looks is) marks =
-    subst (λ (r : Session). AreMarks q r) (sym is) (none_marks p q s over now marks.over (subst (λ (o : Option Transaction). MarkedNow o s.stand) none marks.now))
-watched_marks p q s t over now none (snapshots.watches x is) marks =
-    subst (λ (r : Session). AreMarks q r) (sym is) (none_marks p q (record { over = s.over; stand = world.snapshot x }) over now marks.over tt)
-watched_marks p q s t over now none (snapshots.ends number begin is) marks =
+watched_marks : (p q : Progress) (other : Saves) (s t : Session) → q.over ≡ p.over → q.current ≡ None → HasNoWork s.stand → Watches s t → MarksOver p.over s.over → AreMarks q other t
+watched_marks p q other s t over now rests (snapshots.looks is) marks = subst (λ (r : Session). AreMarks q other r) (sym is) (none_marks p q other s over now marks rests)
+watched_marks p q other s t over now rests (snapshots.watches x is) marks =
+    subst (λ (r : Session). AreMarks q other r) (sym is) (none_marks p q other (record { over = s.over; stand = world.snapshot x }) over now marks tt)
+watched_marks p q other s t over now rests (snapshots.ends number begin is) marks =
     let g : Finished = record { work = world.begun number begin; fate = world.aborts } in
-    subst (λ (r : Session). AreMarks q r) (sym is)
-    (none_marks p q (record { over = s.over ++ g ∷ []; stand = world.idle }) over now (together_untold MarksOne p.over s.over g marks.over refl) tt)
+    subst (λ (r : Session). AreMarks q other r) (sym is)
+    (none_marks p q other (record { over = s.over ++ g ∷ []; stand = world.idle }) over now (together_untold MarksOne p.over s.over g marks refl) tt)
 
-pub quieted_marks : NoneRuns → (seat : ℕ) (asked : Option Command) (a : Answer) (p : Progress) (s t : Session) → TellsNow seat p.current s.stand
-    → Quieted asked a s t → AreMarks p s → AreMarks (heard seat asked a p) t
-quieted_marks run seat asked a p s t tells (still is hears) marks =
-    subst (λ (r : Session). AreMarks (heard seat asked a p) r) (sym is) (same_marks p (heard seat asked a p) s (hears seat p) marks)
-quieted_marks run seat asked a p s t tells (begins number begin idle is hears) marks =
+pub quieted_marks : NoneRuns → (seat : ℕ) (asked : Option Command) (a : Answer) (p : Progress) (held other : List (List VersionWritten)) (s t : Session) → TellsNow seat p.current s.stand
+    → KeepsOwnSaves t.stand s.stand other held → Quieted asked a s t → AreMarks p held s → AreMarks (heard seat asked a p) other t
+quieted_marks run seat asked a p held other s t tells keeps (still is hears) marks =
+    subst (λ (r : Session). AreMarks (heard seat asked a p) other r) (sym is)
+    (kept_marks (heard seat asked a p) held other s (subst (λ (r : Session). KeepsOwnSaves r.stand s.stand other held) is keeps)
+    (same_marks p (heard seat asked a p) held s (hears seat p) marks))
+quieted_marks run seat asked a p held other s t tells keeps (begins number begin idle is hears) marks =
     let heard_is = hears seat p in
-    subst (λ (q : Progress). AreMarks q t) (sym heard_is.1)
-    (subst (λ (r : Session). AreMarks (record p { current = Some heard_is.0 }) r) (sym is) (record {
+    let bare : other ≡ [] =
+    begins_bare (world.begun number begin) s.stand other held (ap phase_of idle) (subst (λ (r : Session). KeepsOwnSaves r.stand s.stand other held) is keeps) in
+    subst (λ (q : Progress). AreMarks q other t) (sym heard_is.1)
+    (subst (λ (saves : Saves). AreMarks (record p { current = Some heard_is.0 }) saves t) (sym bare)
+    (subst (λ (r : Session). AreMarks (record p { current = Some heard_is.0 }) [] r) (sym is) (record {
       over = marks.over;
-      now = (subst (λ (es : List Exchange). Marks es (world.begun number begin)) (sym heard_is.2) (marks_nothing number begin), ([], run number begin));
-    }))
-quieted_marks run seat asked a p s t tells (seals stamp active is hears) marks =
-    same_marks p (heard seat asked a p) t (hears seat p) (subst (λ (r : Session). AreMarks p r) (sym is) (sealed_marks p s stamp active marks))
-quieted_marks run seat asked a p s t tells (done w fate ending has is none hears) marks =
-    subst (λ (q : Progress). AreMarks q t) (sym (hears seat p))
-    (subst (λ (r : Session). AreMarks (ended ending p) r) (sym is) (done_marks seat p s w fate ending has tells marks))
-quieted_marks run seat asked a p s t tells (watched rests did hears) marks =
-    let none = now_none p.current s.stand rests marks.now in
+      now = (
+        subst (λ (es : List Exchange). Goes es (record { work = world.begun number begin; saves = [] })) (sym heard_is.2) (goes_nothing number begin (marks_nothing number begin)),
+        ([], run number begin),
+      );
+    })))
+quieted_marks run seat asked a p held other s t tells keeps (seals stamp active is hears) marks =
+    same_marks p (heard seat asked a p) other t (hears seat p) (subst (λ (r : Session). AreMarks p other r) (sym is) (sealed_marks p held other s stamp active marks))
+quieted_marks run seat asked a p held other s t tells keeps (done w fate ending has is none hears) marks =
+    subst (λ (q : Progress). AreMarks q other t) (sym (hears seat p))
+    (subst (λ (r : Session). AreMarks (ended ending p) other r) (sym is) (done_marks seat p held other s w fate ending has tells marks))
+quieted_marks run seat asked a p held other s t tells keeps (watched rests did hears) marks =
+    let none = now_none p.current held s.stand rests marks.now in
     let heard_is = hears seat p none in
-    watched_marks p (heard seat asked a p) s t heard_is.0 heard_is.1 none did marks
+    watched_marks p (heard seat asked a p) other s t heard_is.0 heard_is.1 rests did marks.over
 
--- LINES that name a table: the transaction goes on, or ends.
-pub went_marks : (seat : ℕ) (c : Command) (a : Answer) (p : Progress) (s t : Session) (told : Transaction) → GoesOnBy a → p.current ≡ Some told → t.over ≡ s.over
-    → t.stand ≡ world.active (work_of t.stand) → Marks (with_line (Some c) a told).lines (work_of t.stand) → (steps : List Step) → IsRunOf (work_of t.stand) steps
-    → AreMarks p s → AreMarks (heard seat (Some c) a p) t
-went_marks seat c a p s t told hears is over stand lines steps run marks = subst (λ (q : Progress). AreMarks q t) (sym (hears seat (Some c) p)) (record {
-  over = subst (λ (gs : List Finished). MarksOver p.over gs) (sym over) marks.over;
-  now = subst (λ (r : Option Transaction). MarkedNow (option_map (with_line (Some c) a) r) t.stand) (sym is)
-      (subst (λ (at : Stand). MarkedNow (Some (with_line (Some c) a told)) at) (sym stand) (lines, (steps, run)));
-})
+-- LINES that work on the map: the transaction goes on, or ends.
+lines_now : (c : Command) (a : Answer) (t : Transaction) → works_on_map c ≡ true → (with_line (Some c) a t).lines ≡ t.lines ++ record { asked = c; answer = a } ∷ []
+lines_now c a t works = let it : Exchange = record { asked = c; answer = a } in ap (λ (b : Bool). t.lines ++ option_to_list (cond b (Some it) None)) works
 
-pub out_marks : (seat : ℕ) (c : Command) (a : Answer) (p : Progress) (s : Session) (told : Transaction) (w : Work) (ending : Ending) → EndsBy a ending → p.current ≡ Some told → told.number ≡ w.number → AreMarks p s
-    → AreMarks (heard seat (Some c) a p) (record { over = s.over ++ record { work = w; fate = world.aborts } ∷ []; stand = world.idle })
-out_marks seat c a p s told w ending hears is number marks =
+pub went_marks : (seat : ℕ) (c : Command) (a : Answer) (p : Progress) (held other : List (List VersionWritten)) (s t : Session) (told : Transaction) → works_on_map c ≡ true → GoesOnBy a
+    → p.current ≡ Some told → t.over ≡ s.over → t.stand ≡ world.active (work_of t.stand) → Goes (told.lines ++ record { asked = c; answer = a } ∷ []) (record { work = work_of t.stand; saves = other })
+    → (steps : List Step) → IsRunOf (record { work = work_of t.stand; saves = other }) steps → AreMarks p held s → AreMarks (heard seat (Some c) a p) other t
+went_marks seat c a p held other s t told works hears is over stand goes steps run marks =
+    let k : Kept = record { work = work_of t.stand; saves = other } in
+    let now : Goes (with_line (Some c) a told).lines (record { work = work_of t.stand; saves = other }) = subst (λ (es : List Exchange). Goes es k) (sym (lines_now c a told works)) goes in
+    subst (λ (q : Progress). AreMarks q other t) (sym (hears seat (Some c) p)) (record {
+      over = subst (λ (gs : List Finished). MarksOver p.over gs) (sym over) marks.over;
+      now = subst (λ (r : Option Transaction). MarkedNow (option_map (with_line (Some c) a) r) other t.stand) (sym is)
+          (subst (λ (at : Stand). MarkedNow (Some (with_line (Some c) a told)) other at) (sym stand) (now, (steps, run)));
+    })
+
+pub out_marks : (seat : ℕ) (c : Command) (a : Answer) (p : Progress) (held other : List (List VersionWritten)) (s : Session) (told : Transaction) (w : Work) (ending : Ending) → EndsBy a ending → p.current ≡ Some told → told.number ≡ w.number → AreMarks p held s
+    → AreMarks (heard seat (Some c) a p) other (record { over = s.over ++ record { work = w; fate = world.aborts } ∷ []; stand = world.idle })
+out_marks seat c a p held other s told w ending hears is number marks =
     let t = with_line (Some c) a told in
     let g : Finished = record { work = w; fate = world.aborts } in
     let one : MarksOne (with_ending ending t) g = λ stamp at. cc in
-    subst (λ (q : Progress). AreMarks q (record { over = s.over ++ g ∷ []; stand = world.idle })) (sym (hears seat (Some c) p)) (record {
+    subst (λ (q : Progress). AreMarks q other (record { over = s.over ++ g ∷ []; stand = world.idle })) (sym (hears seat (Some c) p)) (record {
       over = subst (λ (r : Option Transaction). MarksOver (p.over ++ option_to_list (option_map (with_ending ending) (option_map (with_line (Some c) a) r))) (s.over ++ g ∷ []))
           (sym is) (together_one_more MarksOne p.over s.over (with_ending ending t) g marks.over number one);
       now = tt;
