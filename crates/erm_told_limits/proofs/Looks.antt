@@ -1,5 +1,5 @@
 -- Each line of a session, whatever its answer: what its transaction has read more, and what its own lines then may have read.
-use Rattle.std.proofs.Common.{◌≡◌, ℕ, ◌+◌, ◌<◌, ◌≤◌, ◌⊎◌, List, [], length, Option, Some, None, refl, sym, ap, subst, inl, inr, arith}
+use Rattle.std.proofs.Common.{◌≡◌, ℕ, ◌+◌, ◌<◌, ◌≤◌, ◌⊎◌, List, [], length, Some, None, refl, ap, subst, inl, inr, arith}
 use Rattle.std.proofs.lemmas.List.Sums.{sum_by_push}
 use Rattle.erm_model.specs.declared.limits.TheConstants.{OID_LIMIT, READ_LIMIT}
 use Rattle.erm_model.specs.declared.outcome.Phase.TheVariants.{Active, Idle}

@@ -1,5 +1,5 @@
 -- Stamps are in reach: a line begins, and draws its stamp, at the end of the log, which the lines before it have moved on by so many blocks at most.
-use Rattle.std.proofs.Common.{◌≡◌, ℕ, ◌+◌, ◌*◌, ◌≤◌, Bool, true, false, cond, List, IfSome, Option, Some, None, take, slice_get, refl, sym, ap, ◌∙◌, subst, ⊎_elim, arith}
+use Rattle.std.proofs.Common.{◌≡◌, ℕ, ◌+◌, ◌≤◌, Bool, true, false, cond, List, IfSome, Option, Some, None, take, slice_get, refl, sym, ap, ◌∙◌, subst, ⊎_elim, arith}
 use Rattle.std.proofs.lemmas.List.Sums.{sum_by_push}
 use Rattle.erm_model.specs.declared.limits.TheConstants.{GREATEST_BLOCK}
 use Rattle.erm_report.specs.declared.answer.Answer.{Answer}

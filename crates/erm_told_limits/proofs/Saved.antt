@@ -1,14 +1,13 @@
 -- How a session goes on by a line that makes a savepoint, or goes back to one: it has made, claimed and read nothing more.
-use Rattle.std.proofs.Common.{◌≡◌, ℕ, suc, ◌+◌, ◌≤◌, ◌⊎◌, true, is_some, List, [], ◌∷◌, length, refl, sym, ap, ◌∙◌, subst, inl, arith}
+use Rattle.std.proofs.Common.{◌≡◌, ℕ, suc, true, is_some, List, [], ◌∷◌, length, refl, sym, ap, subst, inl, arith}
 use Rattle.std.proofs.lemmas.List.{length-map}
-use Rattle.erm_model.specs.declared.history.VersionRead.{VersionRead}
 use Rattle.erm_model.specs.declared.history.VersionWritten.{VersionWritten}
 use Rattle.erm_model.specs.Lawful.{times_made}
 use Rattle.erm_report.specs.declared.answer.Answer.{Answer}
 use Rattle.erm_report.specs.declared.answer.Answer.TheVariants as answer
 use Rattle.erm_world.specs.Saves.{WentBack, restored, undone, with_claims}
 use Rattle.erm_world.specs.Works.{row_read}
-use Rattle.erm_world.specs.World.{Session, View, Work, work_at, work_of}
+use Rattle.erm_world.specs.World.{Session, View, Work, work_at}
 use Rattle.erm_maps.specs.Runs.{Kept}
 use Rattle.erm_lines.specs.Answers.{DidAskBack, DidAskSave}
 use Rattle.erm_lines.proofs.Saved.{back_goes, kept_back, saved, saved_session}

@@ -1,9 +1,9 @@
 -- What a look for one key reads: a node of each level of a tree at most, and the key's record.
-use Rattle.std.proofs.Common.{◌≡◌, ℕ, zero, suc, ◌+◌, ◌^◌, ◌<◌, ◌≤◌, ◌⊎◌, ◌==◌, Bool, true, false, List, [], ◌∷◌, length, eq-eqb, refl, subst, inl, inr, arith}
+use Rattle.std.proofs.Common.{ℕ, zero, suc, ◌+◌, ◌^◌, ◌<◌, ◌≤◌, ◌⊎◌, ◌==◌, Bool, true, false, List, [], ◌∷◌, length, eq-eqb, inl, inr, arith}
 use Rattle.std.proofs.lemmas.Bool.{cases_lt, false≢true}
-use Rattle.erm_model.specs.declared.limits.TheConstants.{OID_LIMIT, TABLES}
+use Rattle.erm_model.specs.declared.limits.TheConstants.{OID_LIMIT}
 use Rattle.erm_model.specs.Rows.{Rows}
-use Rattle.erm_model.specs.RowTransaction.{Asked, Event, asked_read}
+use Rattle.erm_model.specs.RowTransaction.{Event, asked_read}
 use Rattle.erm_node.specs.Node.{pairs_of}
 use Rattle.erm_node.specs.Sound.{IsSound, levels_of}
 use Rattle.erm_node.specs.Tree.{Fan, IsTree, first_key}
