@@ -18,10 +18,9 @@ use Rattle.erm_world.specs.Going.{found_by}
 use Rattle.erm_world.specs.Saves.{HasClaimed, restored}
 use Rattle.erm_session.specs.declared.session.Stage.{Stage}
 use Rattle.erm_session.specs.declared.session.Stage.TheVariants as stage
-use Rattle.erm_session.specs.Saves.{HasSaves, claim_saved, claims_saved, saves_at}
+use Rattle.erm_session.specs.Saves.{claim_saved, claims_saved, saves_at}
 use Rattle.erm_session.specs.Saving.{HasRows, claim_back, claims_back}
 use Rattle.erm_session.specs.Session.{phase_of}
-use Rattle.erm_session.proofs.Backs.{has_active}
 use Rattle.erm_session.proofs.Saved.{Rows, shown_long}
 
 last_stands : (ts : List Attempt) (t : Attempt) → t ∈ (ts ++ t ∷ [])

@@ -34,6 +34,7 @@ module _ (n : ℕ) where
     flushed = is.flushed;
     pinned = is.pinned;
     given_up = is.given_up;
+    saves = record { own = is.saves.own; others = is.saves.others };
   }
 
   ahead : (v : View) (seat oid bound other seen : ℕ) → IsAhead v seat oid bound other seen → IsAhead (cut v) seat oid bound other seen
@@ -158,6 +159,7 @@ module _ (n : ℕ) where
     flushed = did.flushed;
     pinned = did.pinned;
     given_up = did.given_up;
+    saves = did.saves;
   }
 
   sealed : (v : View) (seat bound other seen : ℕ) (w : Work) → IsSealedBelow v seat bound other seen w → IsSealedBelow (cut v) seat bound other seen w
@@ -258,6 +260,9 @@ module _ (n : ℕ) where
     differ = is.differ;
     numbered = is.numbered;
     apart = is.apart;
+    once = is.once;
+    saves = is.saves;
+    few_saves = is.few_saves;
     opening_meets = is.opening_meets;
     opening_reach = is.opening_reach;
     lawful = is.lawful;

@@ -4,6 +4,7 @@ pub mod Claiming
 pub mod Covered
 pub mod Cuts
 pub mod Firm
+pub mod Lifts
 pub mod Loads
 pub mod Making
 pub mod NotClaiming
@@ -14,6 +15,7 @@ pub mod Refusing
 pub mod SafeCuts
 pub mod SafeReading
 pub mod SafeShows
+pub mod Saving
 pub mod Sealing
 pub mod Sessions
 pub mod Settled
@@ -29,4 +31,5 @@ pub mod Turned
 pub mod Unseen
 pub mod Waiting
 pub mod Wholly
+pub mod Worlds
 pub mod Writing

@@ -13,6 +13,7 @@ use Rattle.erm_rule.specs.Steps.{Booked}
 use Rattle.erm_rule.specs.Went.{AllSteps, IsStillStep, Took, Went, core_of}
 use Rattle.erm_world.specs.Calls.{Becomes}
 use Rattle.erm_world.specs.World.{Session}
+use Rattle.erm_world.proofs.Saves.{without}
 use Rattle.erm_table_world.specs.Stands.{IsStateful}
 use Rattle.erm_table_world.proofs.Wholly.{Ran, runs, took_ran}
 
@@ -77,4 +78,5 @@ becomes law sessions who b e s plain ran stayed own = record {
   flushed = stayed.flushed;
   pinned = stayed.pinned plain;
   given_up = refl;
+  saves = record { own = without s.stand ((view_of sessions (core_of b)).session who).stand; others = λ q other. refl };
 }

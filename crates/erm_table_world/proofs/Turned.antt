@@ -1,10 +1,13 @@
 -- What a call of the flush seat leaves of the whole world.
 use Rattle.std.proofs.Common.{◌≡◌, ℕ, ◌+◌, List, get_or, Option, Some, None, IfSome, refl, sym, ap, subst, arith}
-use Rattle.std.specs.Prelude.{IsSome}
+use Rattle.std.specs.List.{slice_get}
+use Rattle.std.specs.Prelude.{◌==◌, ◌-◌, if◌then◌else◌, [], IsSome}
 use Rattle.atomic_table.specs.declared.shared.Seat.{Seat}
 use Rattle.erm_core_steps.proofs.Aborts.{no_flusher}
 use Rattle.erm_core_steps.proofs.Lasting.{sessions_kept}
 use Rattle.erm_core_steps.proofs.Quiet.{session_of_few}
+use Rattle.erm_machine.specs.declared.part.Part.{Part}
+use Rattle.erm_model.specs.declared.limits.TheConstants.{TABLE_CELLS}
 use Rattle.erm_model.specs.RowTransaction.{Law}
 use Rattle.erm_rule.specs.declared.view.Book.{Book}
 use Rattle.erm_rule.specs.Books.{book}
@@ -14,10 +17,14 @@ use Rattle.erm_session.specs.Session.{IsSession}
 use Rattle.erm_world.specs.declared.gathered.Gathered.{Gathered}
 use Rattle.erm_world.specs.declared.gathered.Gathered.TheVariants.{Empty, Unfilled, Words}
 use Rattle.erm_world.specs.Log.{Gathers, Log}
+use Rattle.erm_world.specs.Whole as whole
+use Rattle.erm_world.specs.World.{Opening}
+use Rattle.erm_world.specs.World as world
 use Rattle.erm_table_world.specs.declared.table_world.TableWorld.{TableWorld}
 use Rattle.erm_table_world.specs.Flusher.{pin_in}
 use Rattle.erm_table_world.specs.Logs.{KeepsSessions}
-use Rattle.erm_table_world.specs.Stands.{AreSessions, Stands, table_log}
+use Rattle.erm_table_world.specs.Saves.{saves_by, saves_in}
+use Rattle.erm_table_world.specs.Stands.{AreSessions, Stands, table_log, table_view, world_view}
 use Rattle.erm_table_world.specs.Turns.{StandsForSome, Turned}
 
 -- the world after such a call, which keeps this place of a pin
@@ -48,10 +55,17 @@ module _ {L : Type 0} (law : Law) (w : TableWorld L) (stands : Stands law w) (pa
     pin = kept;
   }
 
+  saves_stay : (q : ℕ) → world.IsSession (table_view w) q → saves_in w.sessions.items (core_of (book pass)) q ≡ saves_in w.sessions.items (core_of (book w.pass)) q
+  saves_stay q session =
+      let is_of_one = session_of_few w.count q (core_of (book w.pass)) stands.at.quiet session.0 session.1 in
+      ap (λ (x : Part). if q == 0 then [] else saves_by (slice_get w.sessions.items (q - 1)) x) (turned.flushes.others q (no_flusher q is_of_one))
+
   pub turn_keeps : (pin : ℕ) → IfSome (pin_in (book pass)) (λ place. pin ≡ place) → KeepsSessions law w (after_turn w pass pin)
   turn_keeps pin kept = record {
     stands = λ _. turn_stands pin kept;
-    sessions = sessions_kept w.count (core_of (book w.pass)) (core_of (book pass)) stands.at.quiet turned.flushes;
+    sessions =
+        let kept = sessions_kept w.count (core_of (book w.pass)) (core_of (book pass)) stands.at.quiet turned.flushes in
+        record { session = kept.session; opening = ap (λ (o : Opening). record o { cuts = TABLE_CELLS }) kept.opening; tail = kept.tail; saves = saves_stay };
   }
 
   -- where the pin stays, so does the place that is kept
@@ -81,3 +95,12 @@ pinned_there o pin is = subst (λ (x : Option ℕ). IfSome x (λ place. pin ≡ 
 
 pub unpinned_there : (o : Option ℕ) (pin : ℕ) → o ≡ None → IfSome o (λ place. pin ≡ place)
 unpinned_there o pin is = subst (λ (x : Option ℕ). IfSome x (λ place. pin ≡ place)) (sym is) tt
+
+-- what a flusher's calls leave of the view as that of a world they leave of the state's
+pub table_kept : {L : Type 0} (p q : TableWorld L) → whole.KeepsSessions (world_view p) (world_view q) → whole.KeepsSessions (table_view p) (table_view q)
+table_kept p q keeps = record {
+  session = keeps.session;
+  opening = ap (λ (o : Opening). record o { cuts = 0 }) keeps.opening;
+  tail = keeps.tail;
+  saves = λ seat is. refl;
+}

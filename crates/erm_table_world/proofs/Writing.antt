@@ -53,6 +53,7 @@ use Rattle.erm_world.specs.Calls as calls
 use Rattle.erm_world.specs.Works.{claiming, is_claimed, setting, with_row}
 use Rattle.erm_world.specs.World.{IsSession, Session, View, Work, phase_at, work_at}
 use Rattle.erm_world.specs.World as world
+use Rattle.erm_world.proofs.Saves.{same_by}
 use Rattle.erm_table_world.specs.Stands.{IsStateful, StandsAt}
 use Rattle.erm_table_world.proofs.Claiming as claiming_of
 use Rattle.erm_table_world.proofs.Reading.{at_seat, is_unclaimed, work}
@@ -155,8 +156,8 @@ starts_copy _ e = refl
 abbrev pub with_session : View → ℕ → Session → View
 with_session v seat s = record v { session = put v.session seat s }
 
-session_works : (v : View) (seat : ℕ) (w : Work) → Works v seat w (with_session v seat (record { over = (v.session seat).over; stand = world.active w }))
-session_works v seat w = record {
+session_works : (v : View) (seat : ℕ) (w : Work) → phase_at v seat ≡ phase.Active → Works v seat w (with_session v seat (record { over = (v.session seat).over; stand = world.active w }))
+session_works v seat w active = record {
   own = put_same v.session seat (record { over = (v.session seat).over; stand = world.active w });
   others = λ q other. put_other v.session seat (record { over = (v.session seat).over; stand = world.active w }) q other;
   opening = refl;
@@ -164,6 +165,7 @@ session_works v seat w = record {
   flushed = refl;
   pinned = refl;
   given_up = refl;
+  saves = record { own = same_by (world.active w) (v.session seat).stand (v.saves seat) (λ _. active); others = λ q other. refl };
 }
 
 module _ (law : Law) (sessions seat : ℕ) (b e : Book) (at : StandsAt law sessions b) (session : IsSession (view_of sessions (core_of b)) seat) (active : phase_at (view_of sessions (core_of b)) seat ≡ phase.Active)
@@ -294,7 +296,7 @@ module _ (law : Law) (sessions seat : ℕ) (b e : Book) (at : StandsAt law sessi
         let few = row_few part place oid row active_then claimed_then set_then in
         let more = count_then in
         let all = claims_count sessions seat (core_of b) v on refl in
-        let works = session_works v seat work_then in
+        let works = session_works v seat work_then active in
         let mid_view : View = with_session v seat (record { over = (v.session seat).over; stand = world.active work_then }) in
         record {
           between = mid_view;

@@ -25,7 +25,7 @@ saves_in sessions c q = if q == 0 then [] else saves_by (slice_get sessions (q -
 abbrev pub table_saves : {L : Type 0} → TableWorld L → ℕ → List (List VersionWritten)
 table_saves w = saves_in w.sessions.items (core_of (book w.pass))
 
--- A session's transaction that is active then has its savepoints still, and so have those of the others.
+-- A session whose transaction wasn't ended has its savepoints still, and so have the others.
 pub record KeepsSaves {L : Type 0} (w : TableWorld L) (seat : ℕ) (n : TableWorld L) : Type 0 where
-  pub own : phase_at (view_of n.count (core_of (book n.pass))) seat ≡ Active → table_saves n seat ≡ table_saves w seat
+  pub own : (phase_at (view_of w.count (core_of (book w.pass))) seat ≡ Active → phase_at (view_of n.count (core_of (book n.pass))) seat ≡ Active) → table_saves n seat ≡ table_saves w seat
   pub others : (q : ℕ) → q ≢ seat → table_saves n q ≡ table_saves w q

@@ -6,7 +6,7 @@ use Rattle.erm_rule.specs.Went.{core_of}
 use Rattle.erm_world.specs.Log.{Log}
 use Rattle.erm_table_world.specs.Stands.{table_log, table_view}
 use Rattle.erm_core_steps.proofs.Results.{err_to, ok_to}
-use Rattle.erm_table_world.proofs.Turned.{after_turn, for_some, some_pin, still_keeps, still_stands}
+use Rattle.erm_table_world.proofs.Turned.{after_turn, for_some, some_pin, still_keeps, still_stands, table_kept}
 use Rattle.erm_table_world.proofs.log_world.TableWorldLogWorld.row_at.Goals as goal
 
 pub row_at-requires-clause-stands : goal.row_at-requires-clause-stands
@@ -62,7 +62,7 @@ returns-clause-lasts g c =
     let standing = keeps.stands now in
     let d = core_of (book later.pass) in
     let serial = c.views_are_serializable.ensures later.count d standing.at.state.sound standing.at.quiet in
-    row_lasts law c.blocks_are_a_log_list.ensures c.logs_go_on.ensures.more (table_view to) (table_log w) later.count d standing.at.state.sound standing.at.quiet serial keeps.sessions c.args.oid row
+    row_lasts law c.blocks_are_a_log_list.ensures c.logs_go_on.ensures.more (table_view to) (table_log w) later.count d standing.at.state.sound standing.at.quiet serial (table_kept to later keeps.sessions) c.args.oid row
     (subst (λ (o : Option ℕ). IfSome o (IsNewestRow (table_view to) c.args.oid row)) (sym pin) (newest w.count stands.at)))
     done.newest
 

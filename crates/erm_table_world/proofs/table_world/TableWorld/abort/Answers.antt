@@ -6,6 +6,9 @@ use Rattle.erm_rule.specs.Went.{IsStillStep, Went, core_of}
 use Rattle.erm_rule.specs.Views.{view}
 use Rattle.erm_core_steps.proofs.Quiet.{active_seat}
 use Rattle.erm_table_world.proofs.Aborting.{aborted}
+use Rattle.erm_model.specs.declared.outcome.Phase.TheVariants.{Idle}
+use Rattle.erm_session.proofs.Saved.{stays_past}
+use Rattle.erm_table_world.proofs.Saving.{keeps_saves}
 use Rattle.erm_table_world.proofs.Sessions.{called, here, is_now, quiet_still}
 use Rattle.erm_table_world.proofs.Still.{went_ran, went_stayed}
 use Rattle.erm_table_world.proofs.table_world.TableWorld.abort.Goals as goal
@@ -42,5 +45,6 @@ returns g c =
             seat = c.abort.ensures.seat ∙ at.seat;
             is = is;
           });
+      saves = keeps_saves law w seat s stands c.requires.session c.index_mut.ensures.value c.abort.new.p ran c.abort.new.self c.abort.ensures.stands (stays_past s c.abort.new.self _ _ Idle c.abort.ensures.idle (λ e. absurd (cc)));
       aborted = aborted law w.count seat b e stands.at.state at.session at.seated active.active (subst (λ (n : ℕ). Went law n IsEndStep b e) at.seat c.abort.ensures.ends) ended;
     }

@@ -1,10 +1,12 @@
 use Rattle.std.proofs.Common.{ℕ, IfErr, IfOk, ◌∙◌, subst}
 use Rattle.erm_rule.specs.Books.{book}
+use Rattle.erm_session.proofs.Saved.{stays_begun}
 use Rattle.erm_seats.specs.Took.{TookBegin}
 use Rattle.erm_session.specs.Took.{TookNoBegin}
 use Rattle.erm_world.specs.declared.stops.BeginStop.TheVariants as stop
 use Rattle.erm_table_world.proofs.Beginning.{at_last, began}
 use Rattle.erm_core_steps.proofs.Results.{never}
+use Rattle.erm_table_world.proofs.Saving.{keeps_saves}
 use Rattle.erm_table_world.proofs.Sessions.{called, here, is_now}
 use Rattle.erm_table_world.proofs.table_world.TableWorld.begin.Goals as goal
 
@@ -40,6 +42,7 @@ returns g c =
             seat = c.begin.ensures.seat ∙ at.seat;
             is = is_now law e seat s.seat c.begin.new.self done.ran.state at.seated at.seat c.begin.ensures.stands;
           });
+      saves = keeps_saves law w seat s c.requires.stands c.requires.session c.index_mut.ensures.value c.begin.new.p done.ran c.begin.new.self c.begin.ensures.stands (stays_begun r s c.begin.new.self _ _ (at.phase ∙ c.requires.idle) c.begin.ensures.unsaved c.begin.ensures.idle);
       ok = done.ok;
       err = done.err;
       memory = never r (λ why. TookNoBegin law seat why b e) stop.Memory (λ none. none) none;

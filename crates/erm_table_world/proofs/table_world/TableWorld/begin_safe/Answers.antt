@@ -5,6 +5,7 @@ use Rattle.erm_seats.specs.Safe.{TookBeginSafe}
 use Rattle.erm_session.specs.Took.{TookNoBegin}
 use Rattle.erm_world.specs.declared.stops.BeginStop.TheVariants as stop
 use Rattle.erm_table_world.proofs.Beginning.{at_last}
+use Rattle.erm_table_world.proofs.Saving.{keeps_saves, past_begun_safe}
 use Rattle.erm_table_world.proofs.Sessions.{called, here, is_now, quiet_still}
 use Rattle.erm_table_world.proofs.SafeShows.{began_safe}
 use Rattle.erm_table_world.proofs.table_world.TableWorld.begin_safe.Goals as goal
@@ -43,6 +44,7 @@ returns g c =
             seat = c.begin_safe.ensures.seat ∙ at.seat;
             is = is;
           });
+      saves = keeps_saves law w seat s stands c.requires.session c.index_mut.ensures.value c.begin_safe.new.p done.ran c.begin_safe.new.self c.begin_safe.ensures.stands (λ on. absurd (past_begun_safe r _ c.begin_safe.ensures.pending c.begin_safe.ensures.idle on));
       ok = done.ok;
       err = done.err;
       memory = never r (λ why. TookNoBegin law seat why b e) stop.Memory (λ none. none) none;

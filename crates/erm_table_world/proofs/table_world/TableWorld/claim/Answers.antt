@@ -6,6 +6,7 @@ use Rattle.erm_session.specs.Calls.{ClaimsObject, RefusesClaim}
 use Rattle.erm_session.specs.Took.{TookAnyClaim, TookClaimStop}
 use Rattle.erm_table_world.proofs.Claiming.{did_claim}
 use Rattle.erm_table_world.proofs.NotClaiming.{left_of, not_claim}
+use Rattle.erm_table_world.proofs.Saving.{keeps_saves}
 use Rattle.erm_table_world.proofs.Sessions.{here, still_call}
 use Rattle.erm_table_world.proofs.table_world.TableWorld.claim.Goals as goal
 
@@ -72,3 +73,23 @@ returns-in-Err-clause-memory g c same =
     let s = c.index_mut.result.now in
     let none = subst (λ (why : RowStop). TookClaimStop law s.seat oid why (book c.args.self.now.pass) (book c.claim.new.p)) same c.in-Err.ensures.took_none in
     none.1
+
+pub returns-in-Ok-clause-saves : goal.returns-in-Ok-clause-saves
+returns-in-Ok-clause-saves g c =
+    let law = g.L.RowLaw.law in
+    let w = c.args.self.now in
+    let seat = c.args.seat in
+    let s = c.index_mut.result.now in
+    let stands = c.requires.stands in
+    let call = still_call law w seat s c.claim.new.self c.claim.new.p stands c.requires.session c.index_mut.ensures.value c.claim.ensures.fits c.claim.ensures.seat c.claim.ensures.stands c.claim.ensures.still in
+    keeps_saves law w seat s stands c.requires.session c.index_mut.ensures.value c.claim.new.p call.ran c.claim.new.self c.claim.ensures.stands c.claim.ensures.saves
+
+pub returns-in-Err-clause-saves : goal.returns-in-Err-clause-saves
+returns-in-Err-clause-saves g c =
+    let law = g.L.RowLaw.law in
+    let w = c.args.self.now in
+    let seat = c.args.seat in
+    let s = c.index_mut.result.now in
+    let stands = c.requires.stands in
+    let call = still_call law w seat s c.claim.new.self c.claim.new.p stands c.requires.session c.index_mut.ensures.value c.claim.ensures.fits c.claim.ensures.seat c.claim.ensures.stands c.claim.ensures.still in
+    keeps_saves law w seat s stands c.requires.session c.index_mut.ensures.value c.claim.new.p call.ran c.claim.new.self c.claim.ensures.stands c.claim.ensures.saves

@@ -9,6 +9,9 @@ use Rattle.erm_session.specs.Safe.{IsSnapshotPhase}
 use Rattle.erm_table_world.specs.Stands.{table_view}
 use Rattle.erm_table_world.proofs.Aborting.{aborted}
 use Rattle.erm_table_world.proofs.SafeReading.{snapshot_active, snapshot_phase}
+use Rattle.erm_model.specs.declared.outcome.Phase.TheVariants.{Idle}
+use Rattle.erm_session.proofs.Saved.{stays_past}
+use Rattle.erm_table_world.proofs.Saving.{keeps_saves}
 use Rattle.erm_table_world.proofs.Sessions.{called, here, is_now, quiet_still}
 use Rattle.erm_table_world.proofs.Still.{went_ran, went_stayed}
 use Rattle.erm_table_world.proofs.table_world.TableWorld.end_safe.Goals as goal
@@ -52,5 +55,6 @@ returns g c =
             seat = c.end_safe.ensures.seat ∙ at.seat;
             is = is;
           });
+      saves = keeps_saves law w seat s stands c.requires.session c.index_mut.ensures.value c.end_safe.new.p ran c.end_safe.new.self c.end_safe.ensures.stands (stays_past s c.end_safe.new.self _ _ Idle c.end_safe.ensures.idle (λ e. absurd (cc)));
       ended = aborted law w.count seat b e stands.at.state at.session at.seated active ends ended;
     }

@@ -8,6 +8,7 @@ use Rattle.erm_session.specs.Making.{RefusesObject}
 use Rattle.erm_session.specs.Took.{TookNoObject, TookObject}
 use Rattle.erm_table_world.proofs.Making.{made}
 use Rattle.erm_core_steps.proofs.Results.{never}
+use Rattle.erm_table_world.proofs.Saving.{keeps_saves}
 use Rattle.erm_table_world.proofs.Sessions.{called, here, is_now}
 use Rattle.erm_table_world.proofs.table_world.TableWorld.fresh.Goals as goal
 
@@ -49,6 +50,7 @@ returns g c =
             seat = c.fresh.ensures.seat ∙ at.seat;
             is = is_now law e seat s.seat c.fresh.new.self done.ran.state at.seated at.seat c.fresh.ensures.stands;
           });
+      saves = keeps_saves law w seat s stands c.requires.session c.index_mut.ensures.value c.fresh.new.p done.ran c.fresh.new.self c.fresh.ensures.stands c.fresh.ensures.saves;
       object = c.fresh.ensures.object;
       ok = done.ok;
       err = done.err;

@@ -6,6 +6,7 @@ use Rattle.erm_session.specs.Took.{TookReadStop}
 use Rattle.erm_table_world.proofs.NotReading.{not_read}
 use Rattle.erm_table_world.proofs.Reading.{did_read}
 use Rattle.erm_core_steps.proofs.Results.{both_err, never, ok_to}
+use Rattle.erm_table_world.proofs.Saving.{keeps_saves}
 use Rattle.erm_table_world.proofs.Sessions.{here, still_call}
 use Rattle.erm_table_world.proofs.table_world.TableWorld.read.Goals as goal
 
@@ -32,6 +33,7 @@ returns g c =
     let none = subst (λ (n : ℕ). IfErr r (λ why. TookReadStop law n oid why b e)) at.seat c.read.ensures.took_none in
     record {
       stands = call.stands;
+      saves = keeps_saves law w seat s stands c.requires.session c.index_mut.ensures.value c.read.new.p call.ran c.read.new.self c.read.ensures.stands c.read.ensures.saves;
       ok =
           ok_to r (λ row. ReadsRow b.view seat oid row e.view) _
           (λ row did. did_read law w.count seat b e stands.at c.requires.session c.requires.active at.seated oid row call.ran call.stayed did) reads;

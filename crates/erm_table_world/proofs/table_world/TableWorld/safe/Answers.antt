@@ -7,6 +7,7 @@ use Rattle.erm_seats.specs.Safe.{DidSurvey}
 use Rattle.erm_session.specs.Safe as session
 use Rattle.erm_session.specs.Safe.{TookNoSafe}
 use Rattle.erm_table_world.proofs.SafeReading.{not_safe_shows, pending_of}
+use Rattle.erm_table_world.proofs.Saving.{keeps_saves, past_safe}
 use Rattle.erm_table_world.proofs.Sessions.{here, still_call}
 use Rattle.erm_table_world.proofs.Surveying.{survey_shows}
 use Rattle.erm_table_world.proofs.table_world.TableWorld.safe.Goals as goal
@@ -35,6 +36,7 @@ returns g c =
     let none = subst (λ (n : ℕ). IfErr r (λ why. TookNoSafe law n why b e)) at.seat c.safe.ensures.took_none in
     record {
       stands = call.stands;
+      saves = keeps_saves law w seat s stands c.requires.session c.index_mut.ensures.value c.safe.new.p call.ran c.safe.new.self c.safe.ensures.stands (λ on. absurd (past_safe r _ c.safe.ensures.safe_phase c.safe.ensures.phase on));
       ok =
           both_on_ok r (Went law seat IsLoadStep b e) (DidSurvey b.view seat e.view) _
           (λ went did. survey_shows law w.count seat b stands.at at.session at.seated pends.active pends.next pends.looks e went did call.stands.at.quiet) loads surveys;

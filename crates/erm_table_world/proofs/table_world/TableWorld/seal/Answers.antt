@@ -9,6 +9,9 @@ use Rattle.erm_rule.specs.Views.{part_of, view}
 use Rattle.erm_rule.specs.Went.{core_of}
 use Rattle.erm_seats.specs.Took.{TookSeal}
 use Rattle.erm_table_world.proofs.Sealing.{lawful, seals}
+use Rattle.erm_model.specs.declared.outcome.Phase.TheVariants.{Sealed}
+use Rattle.erm_session.proofs.Saved.{stays_past}
+use Rattle.erm_table_world.proofs.Saving.{keeps_saves}
 use Rattle.erm_table_world.proofs.Sessions.{called, here, is_now}
 use Rattle.erm_table_world.proofs.table_world.TableWorld.seal.Goals as goal
 
@@ -53,5 +56,6 @@ returns g c =
             seat = c.seal.ensures.seat ∙ at.seat;
             is = is_now law e seat s.seat c.seal.new.self done.ran.state at.seated at.seat c.seal.ensures.stands;
           });
+      saves = keeps_saves law w seat s c.requires.stands c.requires.session c.index_mut.ensures.value c.seal.new.p done.ran c.seal.new.self c.seal.ensures.stands (stays_past s c.seal.new.self _ _ Sealed c.seal.ensures.phase (λ e. absurd (cc)));
       sealed = done.did;
     }

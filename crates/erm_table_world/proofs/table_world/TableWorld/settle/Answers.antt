@@ -18,6 +18,9 @@ use Rattle.erm_world.specs.World.{IsSession, phase_at}
 use Rattle.std.proofs.Common.{List, length, ◌≤◌}
 use Rattle.erm_table_world.specs.Stands.{StandsAt}
 use Rattle.erm_table_world.specs.Waits.{wait_of}
+use Rattle.erm_model.specs.declared.outcome.Phase.TheVariants as phase
+use Rattle.erm_session.proofs.Saved.{stays_past}
+use Rattle.erm_table_world.proofs.Saving.{keeps_saves}
 use Rattle.erm_table_world.proofs.Sessions.{called, here, is_now, quiet_still}
 use Rattle.erm_table_world.proofs.Still.{went_ran, went_stayed}
 use Rattle.erm_table_world.proofs.Waiting.{decides, waits_ring, waits_seat}
@@ -115,3 +118,27 @@ returns-in-Err-clause-err g c =
     let took = subst (λ (n : ℕ). TookWait law n why b e) at.seat c.in-Err.ensures.took_wait in
     subst (λ (r : stops.Wait). DidNotSettle (view_of w.count (core_of b)) seat r (view_of w.count (core_of e))) (sym c.wait_of.ensures)
     (waits law w.count seat b e stands.at c.requires.session c.requires.sealed at.seated ran c.stored_words_tell_the_row.ensures.short why told took)
+
+pub returns-in-Ok-clause-saves : goal.returns-in-Ok-clause-saves
+returns-in-Ok-clause-saves g c =
+    let law = g.L.RowLaw.law in
+    let w = c.args.self.now in
+    let seat = c.args.seat in
+    let s = c.index_mut.result.now in
+    let stands = c.requires.stands in
+    let at = here law w seat s stands c.requires.session c.index_mut.ensures.value in
+    let went = subst (λ (n : ℕ). Went law n IsStillStep (book w.pass) (book c.settle.new.p)) at.seat c.settle.ensures.still in
+    let ran = went_ran law w.count seat IsStillStep (book w.pass) (book c.settle.new.p) went stands.at.state in
+    keeps_saves law w seat s stands c.requires.session c.index_mut.ensures.value c.settle.new.p ran c.settle.new.self c.settle.ensures.stands (stays_past s c.settle.new.self _ _ phase.Idle c.in-Ok.ensures.idle (λ e. absurd (cc)))
+
+pub returns-in-Err-clause-saves : goal.returns-in-Err-clause-saves
+returns-in-Err-clause-saves g c =
+    let law = g.L.RowLaw.law in
+    let w = c.args.self.now in
+    let seat = c.args.seat in
+    let s = c.index_mut.result.now in
+    let stands = c.requires.stands in
+    let at = here law w seat s stands c.requires.session c.index_mut.ensures.value in
+    let went = subst (λ (n : ℕ). Went law n IsStillStep (book w.pass) (book c.settle.new.p)) at.seat c.settle.ensures.still in
+    let ran = went_ran law w.count seat IsStillStep (book w.pass) (book c.settle.new.p) went stands.at.state in
+    keeps_saves law w seat s stands c.requires.session c.index_mut.ensures.value c.settle.new.p ran c.settle.new.self c.settle.ensures.stands (stays_past s c.settle.new.self _ _ phase.Sealed c.in-Err.ensures.sealed (λ e. absurd (cc)))

@@ -6,6 +6,7 @@ use Rattle.erm_session.specs.Calls.{RefusesClaim, TidiesObject}
 use Rattle.erm_session.specs.Took.{TookAnyTidy, TookClaimStop}
 use Rattle.erm_table_world.proofs.NotClaiming.{left_of, not_claim}
 use Rattle.erm_core_steps.proofs.Results.{both_err, both_if_ok, never, ok_to}
+use Rattle.erm_table_world.proofs.Saving.{keeps_saves}
 use Rattle.erm_table_world.proofs.Sessions.{here, still_call}
 use Rattle.erm_table_world.proofs.Taking.{any_few}
 use Rattle.erm_table_world.proofs.Tidying.{did_tidy}
@@ -36,6 +37,7 @@ returns g c =
     let none = subst (λ (n : ℕ). IfErr r (λ why. TookClaimStop law n oid why b e)) at.seat c.tidy.ensures.took_none in
     record {
       stands = call.stands;
+      saves = keeps_saves law w seat s stands c.requires.session c.index_mut.ensures.value c.tidy.new.p call.ran c.tidy.new.self c.tidy.ensures.stands c.tidy.ensures.saves;
       ok =
           both_if_ok r (λ cut. TidiesObject b.view seat oid cut e.view) (λ cut. TookAnyTidy law seat oid cut b e) _
           (λ cut did steps. did_tidy law w.count seat b e stands.at c.requires.session c.requires.active at.seated oid c.requires.object cut left call.ran call.stayed did steps) tidies took;

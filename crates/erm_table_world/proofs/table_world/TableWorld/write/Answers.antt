@@ -7,6 +7,7 @@ use Rattle.erm_session.specs.Calls.{RefusesClaim, WritesRow}
 use Rattle.erm_session.specs.Took.{TookClaimStop, TookWrite}
 use Rattle.erm_table_world.proofs.NotClaiming.{left_of, not_claim}
 use Rattle.erm_core_steps.proofs.Results.{both_err, both_on_ok, never}
+use Rattle.erm_table_world.proofs.Saving.{keeps_saves}
 use Rattle.erm_table_world.proofs.Sessions.{here, still_call}
 use Rattle.erm_table_world.proofs.Writing.{did_write}
 use Rattle.erm_table_world.proofs.table_world.TableWorld.write.Goals as goal
@@ -36,6 +37,7 @@ returns g c =
     let none = subst (λ (n : ℕ). IfErr r (λ why. TookClaimStop law n oid why b e)) at.seat c.write.ensures.took_none in
     record {
       stands = call.stands;
+      saves = keeps_saves law w seat s stands c.requires.session c.index_mut.ensures.value c.write.new.p call.ran c.write.new.self c.write.ensures.stands c.write.ensures.saves;
       ok =
           both_on_ok r (WritesRow b.view seat oid c.args.row.now e.view) (TookWrite law seat oid c.args.row.now b e) _
           (λ did steps. did_write law w.count seat b e stands.at c.requires.session c.requires.active at.seated call.ran call.stayed oid c.args.row.now left did steps) writes took;
