@@ -1,4 +1,2 @@
 pub mod Logs
-pub mod Rooms
-pub mod Snapshots
 pub mod Stands

@@ -1,15 +1,12 @@
--- The log of the world in lists.
-use Rattle.erm_core.specs.Cores.{core_of}
-use Rattle.erm_core_steps.specs.Keeping as keeping
-use Rattle.erm_core_turns.specs.Turns.{log_of}
+-- The log of the world in lists, with the savepoints of its sessions' transactions.
 use Rattle.erm_model.specs.RowTransaction.{Law}
+use Rattle.erm_lists.specs.Logs as lists
 use Rattle.erm_plain.specs.declared.plain.Plain.{Plain}
-use Rattle.erm_plain.specs.Stands.{Stands, plain_view}
 use Rattle.erm_world.specs.Log.{Log}
 
 abbrev pub plain_log : {L : Type 0} → Plain L → Log
-plain_log p = log_of p.sessions (core_of p.state)
+plain_log p = lists.lists_log p.lists
 
 -- a flusher's calls leave the sessions, the opening and the end of the log
 abbrev pub KeepsSessions : {L : Type 0} → Law → Plain L → Plain L → Type 0
-KeepsSessions law p q = keeping.KeepsSessions (Stands law) plain_view p q
+KeepsSessions law p q = lists.KeepsSessions law p.lists q.lists

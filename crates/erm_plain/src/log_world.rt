@@ -1,13 +1,14 @@
 //! The world in lists as a log that a flusher sees, and as a world of sessions with such a log.
 use crate::Plain;
-use crate::world::standing_worlds_have_laws;
+use crate::plain::standing_worlds_have_laws;
 use erm_model::{Oid, Row, RowLaw, Stamp};
 use erm_world::{Gathered, LogWorld, ScriptWorld, SeatWait};
 
 impl<L: RowLaw> LogWorld for Plain<L> {
     ghost use Rattle.erm_core_steps.specs.Keeping as keeping;
+    ghost use Rattle.erm_lists.specs.Stands as lists_specs;
     ghost use Rattle.erm_plain.specs.Logs.{KeepsSessions, plain_log};
-    ghost use Rattle.erm_plain.specs.Stands.{IsWorld, Stands, plain_view};
+    ghost use Rattle.erm_plain.specs.Stands.{IsWorld};
 
     ghost rows_law = { L.law };
 
@@ -19,27 +20,27 @@ impl<L: RowLaw> LogWorld for Plain<L> {
 
     fn gather(&mut self, words: &mut [u64]) -> Gathered {
         standing_worlds_have_laws::<L>();
-        self.gather(words)
+        self.lists.gather(words)
     }
 
     fn flushed_to(&mut self, end: Stamp) {
         standing_worlds_have_laws::<L>();
-        self.flushed_to(end)
+        self.lists.flushed_to(end)
     }
 
     fn pin(&mut self) -> Stamp {
         standing_worlds_have_laws::<L>();
-        self.pin()
+        self.lists.pin()
     }
 
     fn row_at(&mut self, oid: Oid) -> Result<Row, SeatWait> {
         standing_worlds_have_laws::<L>();
-        self.row_at(oid)
+        self.lists.row_at(oid)
     }
 
     fn unpin(&mut self) {
         standing_worlds_have_laws::<L>();
-        self.unpin()
+        self.lists.unpin()
     }
 
     fn respects_rows() {
@@ -48,9 +49,9 @@ impl<L: RowLaw> LogWorld for Plain<L> {
 
     ghost is_log = { λ p world. world.log };
 
-    ghost keeps_itself = { λ p. keeping.keeps_itself (Stands L.law) plain_view p };
+    ghost keeps_itself = { λ p. keeping.keeps_itself (lists_specs.Stands L.law) lists_specs.lists_view p.lists };
 
-    ghost keeps_on = { λ p q r first second. keeping.keeps_on (Stands L.law) plain_view p q r first second };
+    ghost keeps_on = { λ p q r first second. keeping.keeps_on (lists_specs.Stands L.law) lists_specs.lists_view p.lists q.lists r.lists first second };
 }
 
 impl<L: RowLaw> ScriptWorld for Plain<L> {

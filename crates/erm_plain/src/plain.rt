@@ -1,28 +1,31 @@
-//! The world in lists.
-ghost use Rattle.std.specs.Prelude.{◌≡◌, ◌+◌, ◌<◌, ◌≤◌, ℕ, IfErr, IfOk, IsOk, ◌↔◌, length};
+//! The world in lists, with the savepoints of its sessions' transactions.
+ghost use Rattle.std.specs.Prelude.{◌≡◌, ◌<◌, ◌≤◌, ℕ, IfOk, length};
 ghost use Rattle.erm_model.specs.declared.limits.TheConstants.{LAST_RUN, MOST_CELLS, OID_LIMIT, SESSIONS, STOP};
+ghost use Rattle.erm_model.specs.History.{History, rank_of, rows_after};
+ghost use Rattle.erm_model.specs.SerialOrder.{IsSerialOrder};
 ghost use Rattle.erm_core.specs.Cores.{core_of, rows_of};
-ghost use Rattle.erm_machine.specs.declared.attempt.Attempt.{Attempt};
+ghost use Rattle.erm_core_steps.specs.Pinned.{IsNewestRow};
 ghost use Rattle.erm_machine.specs.Core.{opening_state};
-ghost use Rattle.erm_core_view.specs.Views.{shown_by};
+ghost use Rattle.erm_plain.specs.Logs.{plain_log};
 ghost use Rattle.erm_plain.specs.Stands.{IsWorld, Stands, plain_view};
-ghost use Rattle.erm_world.specs.World.{IsSession, phase_at, phase_of};
+ghost use Rattle.erm_world.specs.World.{history_of};
 
-use crate::world::standing_worlds_have_laws;
-use erm_core::State;
-use erm_machine::{Place, Task};
-use erm_model::{MOST_CELLS, Phase, Receipt, Row, RowLaw, Seat, Stamp};
-use erm_world::NotFlushed;
+use erm_lists::Lists;
+use erm_model::{Oid, Row, RowLaw, Seat, Stamp};
 use std::alloc::{AllocError, Global};
-use std::marker::PhantomData;
 
-/// A world of sessions over the core machine, in lists. Each call takes the machine's steps, one after another; its view is the
-/// machine's. Its rows keep the law of `L`.
+/// The world in lists, and the savepoints of its sessions' transactions. Its rows keep the law of `L`.
 #[derive(Drop)]
 pub struct Plain<L> {
-    pub(crate) state: State,
-    pub(crate) sessions: Seat,
-    pub(crate) law: PhantomData<L>,
+    pub(crate) lists: Lists<L>,
+}
+
+/// A world that stands between two calls has what each world of sessions has: its commits are serializable, each of its
+/// transactions is possible, each safe snapshot stands on a safe stamp, and its log is a log, that of its view.
+pub fn standing_worlds_have_laws<L: RowLaw>()
+    ensures { (p : Plain L) → Stands L.law p → IsWorld L.law p }
+{
+    erm_lists::standing_worlds_have_laws::<L>();
 }
 
 impl<L: RowLaw> Plain<L> {
@@ -49,62 +52,31 @@ impl<L: RowLaw> Plain<L> {
         requires unreached { (oid : ℕ) → first ≤ oid → L.law.reach (rows_of rows.now) oid ≡ 0 }
         ensures stands { IfOk result (Stands L.law) }
         ensures world { IfOk result (IsWorld L.law) }
-        ensures opened { IfOk result (λ p. core_of p.state ≡ opening_state sessions (rows_of rows.now) tail run first MOST_CELLS) }
-        ensures sessions { IfOk result (λ p. p.sessions ≡ sessions) }
+        ensures opened { IfOk result (λ p. core_of p.lists.state ≡ opening_state sessions (rows_of rows.now) tail run first MOST_CELLS) }
+        ensures sessions { IfOk result (λ p. p.lists.sessions ≡ sessions) }
     {
-        erm_sound::openings_are_lawful::<L>();
         standing_worlds_have_laws::<L>();
-        let state = State::open(alloc, sessions, rows, tail, run, first, MOST_CELLS)?;
-        Ok(Plain {
-            state,
-            sessions,
-            law: PhantomData,
-        })
+        let lists = Lists::open(alloc, rows, tail, run, first, sessions)?;
+        Ok(Plain { lists })
     }
 
-    /// The phase of a session.
-    pub(crate) fn phase(&self, seat: Seat) -> Phase
+    /// The place that is pinned, in words, if there is one.
+    pub fn pinned(&self) -> Option<Stamp>
+        ensures { result ≡ (plain_log self.now).pinned }
+    {
+        self.lists.pinned()
+    }
+
+    /// The row of an object, below 2^14, as all commits so far leave it: the one that the commit with the greatest stamp made of
+    /// it, or else the opening's. After all commits, one after another in their serial order, it is the object's row. What isn't
+    /// committed doesn't count.
+    pub fn row(&self, oid: Oid) -> Row
         requires stands { Stands L.law self.now }
-        requires session { IsSession (plain_view self.now) seat }
-        ensures { result ≡ phase_at (plain_view self.now) seat }
+        requires object { oid < OID_LIMIT }
+        ensures newest { IsNewestRow (plain_view self.now) oid result (plain_view self.now).tail }
+        ensures serial { (order : History) → IsSerialOrder rank_of (history_of (plain_view self.now)) order
+            → result ≡ rows_after order (plain_view self.now).opening.rows oid }
     {
-        let state = self.state.seat(seat);
-        match state.place {
-            Place::Active { .. } => active_phase(state.task),
-            Place::Sealed { .. } => Phase::Sealed,
-            _ => Phase::Idle,
-        }
-    }
-
-    /// Whether a commit is on the disk: all words of the log below the receipt's end are synced.
-    pub(crate) fn durable(&mut self, seat: Seat, receipt: &Receipt) -> Result<(), NotFlushed>
-        requires stands { Stands L.law self.old }
-        requires session { IsSession (plain_view self.old) seat }
-        ensures stands { Stands L.law self.new }
-        ensures same { plain_view self.new ≡ plain_view self.old }
-        ensures ok { IsOk result ↔ (receipt.now.end ≤ (plain_view self.old).flushed) }
-        ensures err { IfErr result (λ stop. stop.flushed ≡ (plain_view self.old).flushed) }
-    {
-        let flushed = self.state.flushed();
-        if receipt.end <= flushed {
-            Ok(())
-        } else {
-            Err(NotFlushed { flushed })
-        }
-    }
-}
-
-// The phase of an active seat, whose task may be one of a snapshot.
-fn active_phase(task: Task) -> Phase
-    ensures { (t : Attempt) → result ≡ phase_of (shown_by task t) }
-{
-    match task {
-        Task::Surveys { .. } => Phase::Pending,
-        Task::Behind { .. } => Phase::Pending,
-        Task::Safe => Phase::Safe,
-        Task::SafeWalks { .. } => Phase::Safe,
-        Task::SafePassed { .. } => Phase::Safe,
-        Task::SafeFound { .. } => Phase::Safe,
-        _ => Phase::Active,
+        self.lists.row(oid)
     }
 }

@@ -1,4 +1,4 @@
 use Rattle.erm_plain.proofs.log_world.PlainLogWorld.flushed_to.Goals as goal
 
 pub returns-clause-stands : goal.returns-clause-stands
-returns-clause-stands g c = c.standing_worlds_have_laws.ensures c.flushed_to.new.self c.flushed_to.ensures.stands
+returns-clause-stands g c = c.standing_worlds_have_laws.ensures _ (record { lists = c.flushed_to.ensures.stands })

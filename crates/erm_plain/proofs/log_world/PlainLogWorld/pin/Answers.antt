@@ -1,4 +1,4 @@
 use Rattle.erm_plain.proofs.log_world.PlainLogWorld.pin.Goals as goal
 
 pub returns-clause-stands : goal.returns-clause-stands
-returns-clause-stands g c = c.standing_worlds_have_laws.ensures c.pin.new.self c.pin.ensures.stands
+returns-clause-stands g c = c.standing_worlds_have_laws.ensures _ (record { lists = c.pin.ensures.stands })

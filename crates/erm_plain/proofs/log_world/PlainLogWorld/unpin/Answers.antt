@@ -1,4 +1,4 @@
 use Rattle.erm_plain.proofs.log_world.PlainLogWorld.unpin.Goals as goal
 
 pub returns-clause-stands : goal.returns-clause-stands
-returns-clause-stands g c = c.standing_worlds_have_laws.ensures c.unpin.new.self c.unpin.ensures.stands
+returns-clause-stands g c = c.standing_worlds_have_laws.ensures _ (record { lists = c.unpin.ensures.stands })

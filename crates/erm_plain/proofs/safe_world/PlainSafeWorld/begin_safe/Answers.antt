@@ -1,4 +1,4 @@
 use Rattle.erm_plain.proofs.safe_world.PlainSafeWorld.begin_safe.Goals as goal
 
 pub returns-clause-stands : goal.returns-clause-stands
-returns-clause-stands g c = c.standing_worlds_have_laws.ensures c.begin_safe.new.self c.begin_safe.ensures.stands
+returns-clause-stands g c = c.standing_worlds_have_laws.ensures _ (record { lists = c.begin_safe.ensures.stands })

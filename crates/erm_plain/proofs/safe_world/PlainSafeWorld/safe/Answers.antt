@@ -1,4 +1,4 @@
 use Rattle.erm_plain.proofs.safe_world.PlainSafeWorld.safe.Goals as goal
 
 pub returns-clause-stands : goal.returns-clause-stands
-returns-clause-stands g c = c.standing_worlds_have_laws.ensures c.safe.new.self c.safe.ensures.stands
+returns-clause-stands g c = c.standing_worlds_have_laws.ensures _ (record { lists = c.safe.ensures.stands })

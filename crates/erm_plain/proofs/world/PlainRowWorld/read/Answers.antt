@@ -1,4 +1,4 @@
 use Rattle.erm_plain.proofs.world.PlainRowWorld.read.Goals as goal
 
 pub returns-clause-stands : goal.returns-clause-stands
-returns-clause-stands g c = c.standing_worlds_have_laws.ensures c.read.new.self c.read.ensures.stands
+returns-clause-stands g c = c.standing_worlds_have_laws.ensures _ (record { lists = c.read.ensures.stands })

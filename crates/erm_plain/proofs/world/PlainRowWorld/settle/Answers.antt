@@ -1,4 +1,4 @@
 use Rattle.erm_plain.proofs.world.PlainRowWorld.settle.Goals as goal
 
 pub returns-clause-stands : goal.returns-clause-stands
-returns-clause-stands g c = c.standing_worlds_have_laws.ensures c.settle.new.self c.settle.ensures.stands
+returns-clause-stands g c = c.standing_worlds_have_laws.ensures _ (record { lists = c.settle.ensures.stands })

@@ -7,7 +7,7 @@ none_cut (Ok count) none = omega (arith, none)
 none_cut (Err why) none = tt
 
 pub returns-clause-stands : goal.returns-clause-stands
-returns-clause-stands g c = c.standing_worlds_have_laws.ensures c.tidy.new.self c.tidy.ensures.stands
+returns-clause-stands g c = c.standing_worlds_have_laws.ensures _ (record { lists = c.tidy.ensures.stands })
 
 pub returns-clause-count : goal.returns-clause-count
 returns-clause-count g c = none_cut c.tidy.result c.tidy.ensures.none

@@ -1,4 +1,4 @@
 use Rattle.erm_plain.proofs.world.PlainRowWorld.write.Goals as goal
 
 pub returns-clause-stands : goal.returns-clause-stands
-returns-clause-stands g c = c.standing_worlds_have_laws.ensures c.write.new.self c.write.ensures.stands
+returns-clause-stands g c = c.standing_worlds_have_laws.ensures _ (record { lists = c.write.ensures.stands })

@@ -1,0 +1,14 @@
+use Rattle.std.proofs.Common.{◌≡◌}
+use Rattle.erm_sound.specs.Kept.{SoundUnder}
+use Rattle.erm_core.specs.Cores.{core_of}
+use Rattle.erm_core_steps.proofs.Leaving.{Since, end_weight}
+use Rattle.erm_lists.proofs.lists.Lists.leave.Given as goal
+
+abbrev pub invariant-loop-kind : goal.invariant-loop-kind
+invariant-loop-kind g l =
+    SoundUnder g.L.RowLaw.law (core_of l.self.state)
+    × Since l.fn.self.sessions l.seat (core_of l.fn.self.state) (core_of l.self.state)
+    × (l.self.sessions ≡ l.fn.self.sessions)
+
+abbrev pub decreases-loop-kind : goal.decreases-loop-kind
+decreases-loop-kind g l = end_weight ((core_of l.self.state).seats l.seat)

@@ -1,0 +1,4 @@
+pub mod Logs
+pub mod Rooms
+pub mod Snapshots
+pub mod Stands
