@@ -1,4 +1,5 @@
 pub mod GatherCall
+pub mod Restoring
 pub mod Room
 pub mod SafeBegins
 pub mod SafeLooks

@@ -1,4 +1,5 @@
 pub mod Logs
+pub mod Restores
 pub mod Rooms
 pub mod Snapshots
 pub mod Stands

@@ -15,6 +15,7 @@ mod makes;
 mod passes;
 mod pins;
 mod reads;
+mod restores;
 mod rows_at;
 mod safe;
 mod safe_reads;

@@ -3,6 +3,7 @@ ghost use Rattle.std.specs.Prelude.{◌≡◌, ◌≢◌, ◌<◌, ℕ, IfErr, O
 ghost use Rattle.erm_machine.specs.Core.{claim_at, no_claim};
 ghost use Rattle.erm_machine.specs.Decided.{written_of};
 ghost use Rattle.erm_machine.specs.Words.{is_session};
+ghost use Rattle.erm_machine.specs.declared.task.Task.TheVariants.{Rest};
 ghost use Rattle.erm_model.specs.declared.TheConstants.{ROW_WORDS};
 ghost use Rattle.erm_model.specs.declared.limits.TheConstants.{OID_LIMIT};
 ghost use Rattle.erm_model.specs.declared.outcome.Phase.TheVariants as phase;
@@ -36,7 +37,7 @@ fn claim_place(claims: &[Claim], oid: Oid) -> usize
 }
 
 // The words of a row.
-fn words_of(row: &Row) -> &[u64]
+pub(crate) fn words_of(row: &Row) -> &[u64]
     ensures same { result.now ≡ row.now }
     ensures all { length result.now ≡ ROW_WORDS }
 {
@@ -62,7 +63,7 @@ impl<L: RowLaw> Lists<L> {
     }
 
     // Sets the row of an object that the transaction has claimed to these words.
-    fn set_row(&mut self, seat: Seat, oid: Oid, words: &[u64])
+    pub(crate) fn set_row(&mut self, seat: Seat, oid: Oid, words: &[u64])
         requires stands { Stands L.law self.old }
         requires session { IsSession (lists_view self.old) seat }
         requires active { phase_at (lists_view self.old) seat ≡ phase.Active }
@@ -70,6 +71,7 @@ impl<L: RowLaw> Lists<L> {
         requires all { length words.now ≡ ROW_WORDS }
         ensures stands { Stands L.law self.new }
         ensures set { Works (lists_view self.old) seat (setting oid words.now (work_at (lists_view self.old) seat)) (lists_view self.new) }
+        ensures rests { ((core_of self.new.state).seats seat).task ≡ Rest }
         ensures window { closed_window ((core_of self.new.state).seats seat).current ≡ closed_window ((core_of self.old.state).seats seat).current }
     {
         erm_core_view::writes_show_the_row();

@@ -4,6 +4,8 @@
 mod log_world;
 mod plain;
 mod safe_world;
+mod savepoints;
 mod world;
 
 pub use plain::Plain;
+pub use savepoints::Savepoints;

@@ -5,9 +5,7 @@ use erm_model::{Oid, Row, RowLaw, Stamp};
 use erm_world::{Gathered, LogWorld, ScriptWorld, SeatWait};
 
 impl<L: RowLaw> LogWorld for Plain<L> {
-    ghost use Rattle.erm_core_steps.specs.Keeping as keeping;
-    ghost use Rattle.erm_lists.specs.Stands as lists_specs;
-    ghost use Rattle.erm_plain.specs.Logs.{KeepsSessions, plain_log};
+    ghost use Rattle.erm_plain.specs.Logs.{KeepsSessions, keeps_itself, keeps_on, plain_log};
     ghost use Rattle.erm_plain.specs.Stands.{IsWorld};
 
     ghost rows_law = { L.law };
@@ -49,19 +47,20 @@ impl<L: RowLaw> LogWorld for Plain<L> {
 
     ghost is_log = { λ p world. world.log };
 
-    ghost keeps_itself = { λ p. keeping.keeps_itself (lists_specs.Stands L.law) lists_specs.lists_view p.lists };
+    ghost keeps_itself = { λ p. keeps_itself L.law p };
 
-    ghost keeps_on = { λ p q r first second. keeping.keeps_on (lists_specs.Stands L.law) lists_specs.lists_view p.lists q.lists r.lists first second };
+    ghost keeps_on = { λ p q r first second. keeps_on L.law p q r first second };
 }
 
 impl<L: RowLaw> ScriptWorld for Plain<L> {
     ghost use Rattle.erm_core_steps.specs.Keeping.{one_law};
+    ghost use Rattle.erm_plain.specs.Logs.{sessions_stay};
 
     ghost one_law = { one_law L.law };
 
     ghost may_flush = { λ p world. world };
 
-    ghost sessions_stay = { λ p q world keeps after. (after, keeps.sessions) };
+    ghost sessions_stay = { λ p q world keeps after. (after, sessions_stay L.law p q keeps) };
 
     ghost one_log = { λ p world. world.log_of_view };
 }

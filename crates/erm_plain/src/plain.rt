@@ -10,6 +10,7 @@ ghost use Rattle.erm_plain.specs.Logs.{plain_log};
 ghost use Rattle.erm_plain.specs.Stands.{IsWorld, Stands, plain_view};
 ghost use Rattle.erm_world.specs.World.{history_of};
 
+use crate::Savepoints;
 use erm_lists::Lists;
 use erm_model::{Oid, Row, RowLaw, Seat, Stamp};
 use std::alloc::{AllocError, Global};
@@ -18,6 +19,7 @@ use std::alloc::{AllocError, Global};
 #[derive(Drop)]
 pub struct Plain<L> {
     pub(crate) lists: Lists<L>,
+    pub(crate) saves: Savepoints,
 }
 
 /// A world that stands between two calls has what each world of sessions has: its commits are serializable, each of its
@@ -57,7 +59,8 @@ impl<L: RowLaw> Plain<L> {
     {
         standing_worlds_have_laws::<L>();
         let lists = Lists::open(alloc, rows, tail, run, first, sessions)?;
-        Ok(Plain { lists })
+        let saves = Savepoints::new(alloc, sessions)?;
+        Ok(Plain { lists, saves })
     }
 
     /// The place that is pinned, in words, if there is one.

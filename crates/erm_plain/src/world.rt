@@ -1,8 +1,8 @@
 //! The world in lists as a world of sessions.
 use crate::Plain;
 use crate::plain::standing_worlds_have_laws;
-use erm_model::{Oid, Outcome, Phase, Receipt, Row, RowLaw, RowStop, Seat, Stamp};
-use erm_world::{BeginStop, NotFlushed, RowWorld, Wait};
+use erm_model::{Oid, Outcome, Phase, Receipt, Row, RowLaw, RowStop, SAVES, Seat, Stamp};
+use erm_world::{BeginStop, NoSave, NotFlushed, RowWorld, SaveStop, Wait};
 
 impl<L: RowLaw> RowWorld for Plain<L> {
     ghost use Rattle.erm_plain.specs.Stands.{IsWorld, plain_view};
@@ -15,7 +15,9 @@ impl<L: RowLaw> RowWorld for Plain<L> {
 
     fn begin(&mut self, seat: Seat) -> Result<Stamp, BeginStop> {
         standing_worlds_have_laws::<L>();
-        self.lists.begin(seat)
+        let begin = self.lists.begin(seat)?;
+        self.saves.cut(seat, 0);
+        Ok(begin)
     }
 
     fn phase(&self, seat: Seat) -> Phase {
@@ -45,6 +47,30 @@ impl<L: RowLaw> RowWorld for Plain<L> {
     fn tidy(&mut self, seat: Seat, oid: Oid) -> Result<u32, RowStop> {
         standing_worlds_have_laws::<L>();
         self.lists.tidy(seat, oid)
+    }
+
+    fn save(&mut self, seat: Seat) -> Result<u32, SaveStop> {
+        standing_worlds_have_laws::<L>();
+        let held = self.saves.held(seat);
+        if held >= SAVES {
+            return Err(SaveStop::SavesFull { held: held as u32 });
+        }
+        if self.saves.save(seat, self.lists.claims_made(seat)).is_err() {
+            return Err(SaveStop::Memory);
+        }
+        Ok(held as u32 + 1)
+    }
+
+    fn back(&mut self, seat: Seat, n: u32) -> Result<(), NoSave> {
+        standing_worlds_have_laws::<L>();
+        let held = self.saves.held(seat);
+        if n == 0 || n as usize > held {
+            return Err(NoSave { held: held as u32 });
+        }
+        let saved = self.saves.saved(seat, n as usize - 1);
+        self.lists.restore(seat, saved);
+        self.saves.cut(seat, n as usize);
+        Ok(())
     }
 
     fn seal(&mut self, seat: Seat) -> Stamp {
