@@ -3,8 +3,8 @@ use Rattle.std.specs.Prelude.{◌≡◌, ℕ, zero, suc, false, List, [], ◌∷
 use Rattle.std.specs.List.{slice_get}
 use Rattle.erm_model.specs.declared.history.VersionWritten.{VersionWritten}
 use Rattle.erm_world.specs.Going.{found_by}
+use Rattle.erm_world.specs.Saves.{undone}
 use Rattle.erm_world.specs.World.{Work}
-use Rattle.erm_core_view.specs.Steps.{undone}
 
 -- a claim as it was, or with the row that it found, where it wasn't made yet
 abbrev pub restored_claim : Option VersionWritten → VersionWritten → VersionWritten
@@ -18,24 +18,20 @@ restored_upto (suc n) saved [] = []
 restored_upto (suc n) [] (c ∷ claims) = undone c ∷ restored_upto n [] claims
 restored_upto (suc n) (s ∷ saved) (c ∷ claims) = s ∷ restored_upto n saved claims
 
--- a claim found so what one does that leaves the row found where no write has set it
+-- claims that leave the row that they found where no write has set it
+abbrev pub AreKept : List VersionWritten → Type 0
+AreKept claims = (k : ℕ) (c : VersionWritten) → slice_get claims k ≡ Some c → c.is_set ≡ false → c.row ≡ c.base
+
+-- a claim found what it did at a savepoint, where it left the row found if no write had set it
 pub record IsAsFound (c s : VersionWritten) : Type 0 where
   pub found : found_by c ≡ found_by s
   pub kept : s.is_set ≡ false → s.row ≡ s.base
 
--- there was no claim, or this one was so
+-- it wasn't made yet at the savepoint, or was this one
 abbrev pub WasFound : Option VersionWritten → VersionWritten → Type 0
 WasFound (Some s) c = IsAsFound c s
 WasFound None c = Unit {0}
 
--- each claim that there was is found so
-pub record AreAsFound (saved claims : List VersionWritten) : Type 0 where
-  pub found : (k : ℕ) (s : VersionWritten) → slice_get saved k ≡ Some s → (c : VersionWritten) × (slice_get claims k ≡ Some c) × IsAsFound c s
-
 -- a transaction whose claim at a place is this one
 abbrev pub with_claim : ℕ → VersionWritten → Work → Work
 with_claim place c w = record w { claims = slice_set w.claims place c }
-
--- the transaction's claims are these
-abbrev pub with_claims : List VersionWritten → Work → Work
-with_claims claims w = record w { claims = claims }

@@ -1,9 +1,10 @@
 //! The way back of a transaction: the rows of its claims are as they were.
-ghost use Rattle.std.specs.Prelude.{◌≡◌, ◌<◌, length, slice_get, true};
+ghost use Rattle.std.specs.Prelude.{◌≡◌, ◌<◌, length, map, true};
 ghost use Rattle.std.specs.Option.{option_copied};
 ghost use Rattle.erm_core.specs.Cores.{core_of};
 ghost use Rattle.erm_core_view.specs.Steps.{undone};
-ghost use Rattle.erm_lists.specs.Restores.{AreAsFound, WasFound, restored_claim, restored_upto, with_claim, with_claims};
+ghost use Rattle.erm_lists.specs.Restores.{AreKept, WasFound, restored_claim, with_claim};
+ghost use Rattle.erm_world.specs.Saves.{HasClaimed, restored, with_claims};
 ghost use Rattle.erm_lists.specs.Stands.{Stands, lists_view};
 ghost use Rattle.erm_machine.specs.Core as machine;
 ghost use Rattle.erm_machine.specs.Decided.{written_of};
@@ -19,6 +20,24 @@ use erm_machine::{Claim, Kind};
 use erm_model::{Row, RowLaw, Seat, VersionWritten};
 
 impl<L: RowLaw> Lists<L> {
+    // What the seat's transaction writes.
+    fn writes(&self, seat: Seat) -> &[Claim]
+        requires session { is_session seat ≡ true }
+        ensures { result.now ≡ ((core_of self.now.state).seats seat).current.writes }
+    {
+        self.state.seat(seat).current.writes.as_slice()
+    }
+
+    /// The claims of the seat's transaction, in order.
+    pub fn claims_made(&self, seat: Seat) -> &[Claim]
+        requires stands { Stands L.law self.now }
+        requires session { IsSession (lists_view self.now) seat }
+        requires active { phase_at (lists_view self.now) seat ≡ Active }
+        ensures { map written_of result.now ≡ (work_at (lists_view self.now) seat).claims }
+    {
+        self.writes(seat)
+    }
+
     // A claim of the seat's transaction.
     fn claim_made(&self, seat: Seat, place: usize) -> Claim
         requires session { is_session seat ≡ true }
@@ -83,11 +102,11 @@ impl<L: RowLaw> Lists<L> {
         requires stands { Stands L.law self.old }
         requires session { IsSession (lists_view self.old) seat }
         requires active { phase_at (lists_view self.old) seat ≡ Active }
-        requires found { AreAsFound saved.now (work_at (lists_view self.old) seat).claims }
+        requires claimed { HasClaimed saved.now (work_at (lists_view self.old) seat).claims }
+        requires kept { AreKept saved.now }
         ensures stands { Stands L.law self.new }
         ensures restored { Works (lists_view self.old) seat
-            (with_claims (restored_upto (length (work_at (lists_view self.old) seat).claims) saved.now (work_at (lists_view self.old) seat).claims)
-            (work_at (lists_view self.old) seat)) (lists_view self.new) }
+            (with_claims (restored saved.now (work_at (lists_view self.old) seat).claims) (work_at (lists_view self.old) seat)) (lists_view self.new) }
     {
         for place in 0..self.claims(seat) {
             self.restore_at(seat, place, saved.get(place));

@@ -1,9 +1,11 @@
 use Rattle.std.proofs.Common.{List, ◌≡◌, length, get_or, ap, ◌∙◌, sym, subst, refl, arith}
 use Rattle.erm_machine.specs.declared.event.Kind.TheVariants as kind
 use Rattle.erm_machine.specs.declared.version.CellWord.TheVariants as word
+use Rattle.erm_machine.specs.Core.{Core}
 use Rattle.erm_core.specs.Cores.{core_of}
 use Rattle.erm_core_view.specs.Steps.{MayWrite}
 use Rattle.erm_core_view.specs.Views.{IsQuiet, view_of}
+use Rattle.erm_core_view.proofs.Rows.{writes_rest}
 use Rattle.erm_model.specs.declared.TheConstants.{ROW_WORDS}
 use Rattle.erm_world.specs.Calls.{Works}
 use Rattle.erm_world.specs.World.{work_at}
@@ -104,3 +106,19 @@ pub own_cell-cell-requires : goal.own_cell-cell-requires
 own_cell-cell-requires g c =
     let at = active_seat c.args.self.now.sessions c.args.seat (core_of c.args.self.now.state) c.requires.stands.quiet c.requires.session c.requires.active in
     record { session = at.session }
+
+pub returns-clause-rests : goal.returns-clause-rests
+returns-clause-rests g c =
+    let before = core_of c.args.self.now.state in
+    let place = c.place_claimed-claim.result in
+    let cell = c.own_cell-cell.result in
+    let row = c.args.words.now in
+    let at = active_seat c.args.self.now.sessions c.args.seat before c.requires.stands.quiet c.requires.session c.requires.active in
+    let may = may_write c.args.seat c.args.oid place before c.requires.stands.sound.sound at c.place_claimed-claim.ensures in
+    let here = subst (λ n. MayWrite (before.seats c.args.seat) place n) (sym c.own_cell-cell.ensures) may in
+    let inv = c.loop-k.invariant in
+    let after = core_of c.loop-k.self.state in
+    let words : length row ≡ ROW_WORDS = c.requires.all in
+    let last = c.loop-k-test.false in
+    let is = stored_all c.args.seat place cell c.loop-k.k row before after inv.runs (omega (arith, words, last)) in
+    ap (λ (to : Core). (to.seats c.args.seat).task) (sym is) ∙ (writes_rest c.args.seat place cell row before here words).rests
