@@ -1,5 +1,5 @@
 -- The savepoints that sessions hold, where one of them goes on.
-use Rattle.std.proofs.Common.{◌≡◌, ◌≢◌, ℕ, ◌+◌, ◌<◌, ◌≤◌, List, [], Result, Ok, Err, IfOk, IfErr, OnOk, length, set, Some, inl, inr, refl, sym, ap, ◌∙◌, subst, arith, get_or-set_other, get_or-set_same, length-set}
+use Rattle.std.proofs.Common.{◌≡◌, ◌≢◌, ℕ, ◌+◌, false, true, ◌<◌, ◌≤◌, List, [], Result, Ok, Err, IfOk, IfErr, OnOk, length, set, Some, inl, inr, refl, sym, ap, ◌∙◌, subst, arith, get_or-set_other, get_or-set_same, length-set}
 use Rattle.std.proofs.lemmas.Bool.{cases_eq}
 use Rattle.erm_model.specs.declared.history.VersionWritten.{VersionWritten}
 use Rattle.erm_model.specs.declared.outcome.Outcome.{Outcome}
@@ -20,7 +20,7 @@ use Rattle.erm_world.specs.Snapshots.{snapshot_not_active}
 use Rattle.erm_world.specs.Whole.{KeepsSessions}
 use Rattle.erm_world.specs.World.{IsSession, Opening, Session, Stand, View, Work, phase_at, phase_of, work_of}
 use Rattle.erm_world.specs.World as world
-use Rattle.erm_world.proofs.Saves.{AreSavesOf-extended, AreSavesOf-none}
+use Rattle.erm_world.proofs.Restored.{AreSavesOf-extended, AreSavesOf-none}
 use Rattle.erm_world.proofs.Txns.{stopped, went}
 use Rattle.erm_lists.specs.declared.lists.Lists.{Lists}
 use Rattle.erm_lists.specs.Stands as lists
@@ -119,7 +119,8 @@ module _ (v t : View) (seat : ℕ) (held : ℕ → List (List VersionWritten)) w
   not_begun begin.Memory did = same_keeps did
 
   pub begin_safe_keeps : (r : Result ℕ BeginStop) → IfOk r (λ at. DidBeginSafe v seat at t) → IfErr r (λ why. MayNotBegin v seat why t) → Keeps v t held
-  begin_safe_keeps (Ok at) did refused = becomes_keeps _ (λ active. snapshot_not_active _ active) did.3
+  begin_safe_keeps (Ok at) did refused =
+      becomes_keeps _ (λ active. snapshot_not_active (record { number = length (v.session seat).over + 1; begin = at; is_safe = false }) active) did.3
   begin_safe_keeps (Err why) did refused = not_begun why refused
 
   not_safe : (why : SafeStop) → DidNotSafe v seat why t → Keeps v t held
@@ -127,7 +128,7 @@ module _ (v t : View) (seat : ℕ) (held : ℕ → List (List VersionWritten)) w
   not_safe (safe.Unsafe other stamp) did = becomes_keeps _ (λ active. absurd (cc)) did.0
 
   pub safe_keeps : {A : Type 0} (r : Result A SafeStop) → OnOk r (DidSafe v seat t) → IfErr r (λ why. DidNotSafe v seat why t) → Keeps v t held
-  safe_keeps (Ok a) did refused = becomes_keeps _ (λ active. snapshot_not_active _ active) did.2
+  safe_keeps (Ok a) did refused = becomes_keeps _ (λ active. snapshot_not_active (record did.0 { is_safe = true }) active) did.2
   safe_keeps (Err why) did refused = not_safe why refused
 
 -- A FLUSHER'S CALL leaves the sessions.

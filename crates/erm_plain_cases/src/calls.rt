@@ -7,7 +7,7 @@ ghost use Rattle.erm_world.specs.World.{IsSession, Work, phase_at};
 
 use crate::snapshots::ask_snapshot;
 use erm_model::{OID_LIMIT, Oid, Outcome, Phase, ROW_WORDS, Receipt, Row, RowStop, Seat, Stamp};
-use erm_world::{BeginStop, NotFlushed, RowWorld, SafeStop, SafeWorld, Wait};
+use erm_world::{BeginStop, NoSave, NotFlushed, RowWorld, SafeStop, SafeWorld, SaveStop, Wait};
 
 // A call of a session; a row that is written has this first word, and zeros behind it, or, where it is filled, this word everywhere. A receipt
 // has this end.
@@ -20,6 +20,8 @@ pub(crate) enum Call {
     Fill(Oid, u64),
     Tidy(Oid),
     Fresh,
+    Save,
+    Back(u32),
     Seal,
     Settle,
     Abort,
@@ -32,7 +34,7 @@ pub(crate) enum Call {
 }
 
 // Its answer: of a begin, a snapshot's begin or a seal, the stamp; of an object made, its number; of a row, the first word, where zeros stand behind
-// it, or the one that it has everywhere; of a tidy, how many versions were cut off; of a commit, its number, stamp, end, successor and predecessor
+// it, or the one that it has everywhere; of a tidy, how many versions were cut off; of a savepoint, how many are held; of a commit, its number, stamp, end, successor and predecessor
 // stamp; of an exclusion, the three stamps.
 #[derive(Clone, Copy, PartialEq, Eq)]
 pub(crate) enum Reply {
@@ -44,6 +46,9 @@ pub(crate) enum Reply {
     Filled(u64),
     OtherRow,
     Cut(u32),
+    Saved(u32),
+    NotSaved(SaveStop),
+    NotBack(NoSave),
     NotBegun(BeginStop),
     Stopped(RowStop),
     Commits([u64; 5]),
@@ -166,6 +171,36 @@ fn fresh<W: RowWorld>(world: &mut W, seat: Seat) -> Reply
     }
 }
 
+// What a session that saves is answered.
+fn save<W: RowWorld>(world: &mut W, seat: Seat) -> Reply
+    requires stands { W.stands world.old }
+    requires sessions { (W.view world.old).opening.sessions ≡ 3 }
+    requires session { IsSession (W.view world.old) seat }
+    requires phase { phase_at (W.view world.old) seat ≡ Active }
+    ensures stands { W.stands world.new }
+    ensures sessions { (W.view world.new).opening.sessions ≡ 3 }
+{
+    match world.save(seat) {
+        Ok(held) => Reply::Saved(held),
+        Err(stop) => Reply::NotSaved(stop),
+    }
+}
+
+// What a session that goes back to a savepoint is answered.
+fn back<W: RowWorld>(world: &mut W, seat: Seat, n: u32) -> Reply
+    requires stands { W.stands world.old }
+    requires sessions { (W.view world.old).opening.sessions ≡ 3 }
+    requires session { IsSession (W.view world.old) seat }
+    requires phase { phase_at (W.view world.old) seat ≡ Active }
+    ensures stands { W.stands world.new }
+    ensures sessions { (W.view world.new).opening.sessions ≡ 3 }
+{
+    match world.back(seat, n) {
+        Ok(()) => Reply::Done,
+        Err(stop) => Reply::NotBack(stop),
+    }
+}
+
 // What an active session is answered.
 fn ask_active<W: RowWorld>(world: &mut W, seat: Seat, call: Call) -> Reply
     requires stands { W.stands world.old }
@@ -183,6 +218,8 @@ fn ask_active<W: RowWorld>(world: &mut W, seat: Seat, call: Call) -> Reply
         Call::Fill(oid, word) if oid < OID_LIMIT => write(world, seat, oid, word, word),
         Call::Tidy(oid) if oid < OID_LIMIT => tidy(world, seat, oid),
         Call::Fresh => fresh(world, seat),
+        Call::Save => save(world, seat),
+        Call::Back(n) => back(world, seat, n),
         Call::Seal => Reply::At(world.seal(seat)),
         Call::Abort => {
             world.abort(seat);

@@ -18,6 +18,8 @@ pub(crate) enum Each {
     Fills,
     Reads,
     Makes,
+    // As many are held then as the object's number.
+    Saves,
 }
 
 // A step, with what it is to answer.
@@ -45,6 +47,7 @@ fn turn_on(each: Each, oid: Oid) -> Turn {
         Each::Fills => Turn(1, Call::Fill(oid, 7), Reply::Done),
         Each::Reads => Turn(1, Call::Read(oid), Reply::First(0)),
         Each::Makes => Turn(1, Call::Fresh, Reply::Made(oid)),
+        Each::Saves => Turn(1, Call::Save, Reply::Saved(oid)),
     }
 }
 
