@@ -1,13 +1,11 @@
 -- Rows of claims are as they were, one claim after another.
-use Rattle.std.proofs.Common.{◌≡◌, ◌≢◌, ℕ, zero, suc, ◌+◌, ◌<◌, ◌≤◌, ⊎_elim, Bool, true, false, eqb, List, [], ◌∷◌, length, get_or, set, take, map, Option, Some, None, refl, sym, ap, ◌∙◌, subst, arith, add-one, length-set, get_or-set_same, get_or-set_other}
+use Rattle.std.proofs.Common.{◌≡◌, ◌≢◌, ℕ, zero, suc, ◌+◌, ◌<◌, ◌≤◌, Bool, true, false, eqb, List, [], ◌∷◌, length, get_or, set, take, map, Option, Some, None, refl, sym, ap, ◌∙◌, subst, arith, add-one, length-set, get_or-set_same}
 use Rattle.std.specs.Prelude.{if◌then◌else◌, nat_eq, slice_get}
-use Rattle.std.proofs.Math.ListN as listn
-use Rattle.std.proofs.lemmas.Bool.{and_from, cases_eq, cases_lt, cond-true, eq-eqb, lt-ltb}
-use Rattle.std.proofs.lemmas.List.{ext_get_or, get_or-map, length-map, set-set, take_all}
+use Rattle.std.proofs.lemmas.Bool.{and_from, cond-true, eq-eqb, lt-ltb}
+use Rattle.std.proofs.lemmas.List.{get_or-map, length-map, set-set, take_all}
 use Rattle.std.specs.Cmp.Lexicographic.{pointwise}
 use Rattle.erm_model.specs.declared.history.VersionWritten.{VersionWritten}
 use Rattle.erm_model.specs.declared.outcome.Phase.TheVariants as phase
-use Rattle.erm_machine.specs.declared.attempt.Attempt.{Attempt}
 use Rattle.erm_machine.specs.declared.attempt.Claim.{Claim}
 use Rattle.erm_machine.specs.declared.attempt.OwnCell.{OwnCell}
 use Rattle.erm_machine.specs.declared.event.Kind.TheVariants as kind
@@ -16,9 +14,9 @@ use Rattle.erm_machine.specs.declared.place.Place.{Place}
 use Rattle.erm_machine.specs.declared.place.Place.TheVariants.{Active}
 use Rattle.erm_machine.specs.declared.task.Task.{Task}
 use Rattle.erm_machine.specs.declared.task.Task.TheVariants as task
-use Rattle.erm_machine.specs.Core.{Core, claim_at, no_claim, spot_of, word_at}
+use Rattle.erm_machine.specs.Core.{Core, claim_at, no_claim}
 use Rattle.erm_machine.specs.Decided.{written_of}
-use Rattle.erm_machine.specs.Reading.{has_base, unset, without_row}
+use Rattle.erm_machine.specs.Reading.{has_base, without_row}
 use Rattle.erm_machine.specs.Seat.{is_active, is_own, is_rest, last_claim, may_start}
 use Rattle.erm_machine.specs.Sound.{Sound}
 use Rattle.erm_machine.specs.Step.{after_event}
@@ -29,12 +27,11 @@ use Rattle.erm_model.specs.RowTransaction.{Law}
 use Rattle.erm_sound.specs.Kept.{SoundUnder}
 use Rattle.erm_core.specs.Cores.{core_of}
 use Rattle.erm_core_calls.specs.Going.{own_at}
-use Rattle.erm_core_view.specs.Steps.{undone}
 use Rattle.erm_core_view.specs.Views.{IsQuiet, session_of, view_of}
 use Rattle.erm_core_view.specs.Views as views
 use Rattle.erm_core_view.proofs.Chained.{Alone, alone_put, alone_shows, goes, pin_same}
+use Rattle.erm_core_view.proofs.Onces.{works_once}
 use Rattle.erm_core_view.proofs.Parts.{current_stands}
-use Rattle.erm_core_view.proofs.Rows.{hit, miss}
 use Rattle.erm_core_view.proofs.Shown.{work_active, working}
 use Rattle.erm_core_view.proofs.Snapshots.{starts_new}
 use Rattle.erm_core_view.proofs.Words.{undo_shows}
@@ -47,73 +44,16 @@ use Rattle.erm_core_steps.proofs.Stored.{may_write}
 use Rattle.erm_core_turns.proofs.Turns.{one_after}
 use Rattle.erm_lists.specs.declared.lists.Lists.{Lists}
 use Rattle.erm_lists.specs.Stands.{Stands, lists_view}
-use Rattle.erm_lists.specs.Restores.{AreKept, IsAsFound, WasFound, restored_claim, restored_upto, with_claim}
-use Rattle.erm_world.specs.Saves.{HasClaimed, restored, with_claims}
+use Rattle.erm_lists.specs.Restores.{AreKept, IsAsFound, WasFound, restored_claim, with_claim}
+use Rattle.erm_world.specs.Saves.{HasClaimed, undone, with_claims}
+use Rattle.erm_world.proofs.Halfway.{halfway, halfway-at, halfway-length, halfway-none, halfway-set, setting-once}
+use Rattle.erm_world.proofs.Saves.{works_nowhere, works_then}
 use Rattle.erm_world.specs.Calls.{Works}
 use Rattle.erm_world.specs.Going.{found_by}
 use Rattle.erm_world.specs.Snapshots.{snapshot_not_active}
 use Rattle.erm_world.specs.Works.{setting, with_row}
-use Rattle.erm_world.specs.World.{Finished, IsSession, Session, Stand, View, Work, phase_at, phase_of, work_at, work_of}
+use Rattle.erm_world.specs.World.{IsSession, Stand, View, Work, phase_at, phase_of, work_at, work_of}
 use Rattle.erm_world.specs.World as world
-
--- ONE CLAIM of an object: its row alone is set
-module _ (cs : List VersionWritten) (place : ℕ) (row : List ℕ) (d : VersionWritten) (within : place < length cs)
-    (apart : (j k : ℕ) → j < length cs → k < length cs → j ≢ k → (get_or cs j d).oid ≢ (get_or cs k d).oid) where
-  abbrev here : VersionWritten
-  here = get_or cs place d
-
-  abbrev new : VersionWritten
-  new = record here { row = row; is_set = true }
-
-  at_one : (i : ℕ) → i < length cs → with_row here.oid row (get_or cs i d) ≡ get_or (set cs place new) i d
-  at_one i inside =
-      ⊎_elim
-      (λ (same : i ≡ place).
-      subst (λ (n : ℕ). with_row here.oid row (get_or cs n d) ≡ get_or (set cs place new) n d) (sym same)
-      (hit here.oid row here refl ∙ sym (get_or-set_same cs place new d within)))
-      (λ (other : i ≡ place → ⊥). miss here.oid row (get_or cs i d) (apart i place inside within other) ∙ sym (get_or-set_other cs place i new d other))
-      (cases_eq i place)
-
-  pub set_one : map (with_row here.oid row) cs ≡ set cs place new
-  set_one =
-      let left : length (map (with_row here.oid row) cs) ≡ length cs = length-map cs (with_row here.oid row) in
-      let right : length (set cs place new) ≡ length cs = length-set cs place new in
-      ext_get_or d (map (with_row here.oid row) cs) (set cs place new) (left ∙ sym right)
-      (λ i inside.
-      let inside_too : i < length cs = omega (arith, left, inside) in
-      get_or-map (with_row here.oid row) cs i d d inside_too ∙ at_one i inside_too)
-
--- THE FIRST CLAIMS, so many, are as they were.
-pub upto_all : (saved claims : List VersionWritten) (n : ℕ) → length claims ≤ n → restored_upto n saved claims ≡ restored saved claims
-upto_all [] [] zero all = refl
-upto_all (s ∷ saved) [] zero all = refl
-upto_all [] [] (suc n) all = refl
-upto_all (s ∷ saved) [] (suc n) all = refl
-upto_all saved (c ∷ claims) zero all = absurd (omega (arith, all))
-upto_all [] (c ∷ claims) (suc n) all = ap (λ (cs : List VersionWritten). undone c ∷ cs) (upto_all [] claims n (omega (arith, all)))
-upto_all (s ∷ saved) (c ∷ claims) (suc n) all = ap (λ (cs : List VersionWritten). s ∷ cs) (upto_all saved claims n (omega (arith, all)))
-
-pub upto_length : (n : ℕ) (saved claims : List VersionWritten) → length (restored_upto n saved claims) ≡ length claims
-upto_length zero saved claims = refl
-upto_length (suc n) saved [] = refl
-upto_length (suc n) [] (c ∷ claims) = ap suc (upto_length n [] claims)
-upto_length (suc n) (s ∷ saved) (c ∷ claims) = ap suc (upto_length n saved claims)
-
--- the next one is as it is
-pub upto_next : (n : ℕ) (saved claims : List VersionWritten) (d : VersionWritten) → get_or (restored_upto n saved claims) n d ≡ get_or claims n d
-upto_next zero saved claims d = refl
-upto_next (suc n) saved [] d = refl
-upto_next (suc n) [] (c ∷ claims) d = upto_next n [] claims d
-upto_next (suc n) (s ∷ saved) (c ∷ claims) d = upto_next n saved claims d
-
--- and then it is as it was
-pub upto_more : (n : ℕ) (saved claims : List VersionWritten) (d : VersionWritten) → n < length claims
-    → set (restored_upto n saved claims) n (restored_claim (slice_get saved n) (get_or claims n d)) ≡ restored_upto (suc n) saved claims
-upto_more n saved [] d within = absurd (omega (arith, within))
-upto_more zero [] (c ∷ claims) d within = refl
-upto_more zero (s ∷ saved) (c ∷ claims) d within = refl
-upto_more (suc n) [] (c ∷ claims) d within = ap (λ (cs : List VersionWritten). undone c ∷ cs) (upto_more n [] claims d (omega (arith, within)))
-upto_more (suc n) (s ∷ saved) (c ∷ claims) d within = ap (λ (cs : List VersionWritten). s ∷ cs) (upto_more n saved claims d (omega (arith, within)))
 
 -- A CLAIM AS IT WAS
 same_claim : (o p m n : ℕ) (a b r q : List ℕ) (x y : Bool) → o ≡ p → m ≡ n → a ≡ b → r ≡ q → x ≡ y
@@ -131,21 +71,7 @@ as_kept c s is unset_it =
     same_claim c.oid s.oid c.stamp s.stamp c.base s.base c.base s.row false s.is_set (ap (λ (f : ℕ × ℕ × List ℕ). f.0) is.found) (ap (λ (f : ℕ × ℕ × List ℕ). f.1) is.found) base
     (base ∙ sym (is.kept unset_it)) (sym unset_it)
 
--- ONE CALL AFTER ANOTHER on one transaction
-pub works_then : (v t s : View) (seat : ℕ) (w u : Work) → Works v seat w t → Works t seat u s → Works v seat u s
-works_then v t s seat w u first second =
-    let over : (t.session seat).over ≡ (v.session seat).over = ap (λ (x : Session). x.over) first.own in
-    record {
-      own = second.own ∙ ap (λ (fs : List Finished). let x : Session = record { over = fs; stand = world.active u } in x) over;
-      others = λ q other. second.others q other ∙ first.others q other;
-      opening = second.opening ∙ first.opening;
-      tail = second.tail ∙ first.tail;
-      flushed = second.flushed ∙ first.flushed;
-      pinned = second.pinned ∙ first.pinned;
-      given_up = second.given_up ∙ first.given_up;
-    }
-
--- set, and then undone
+-- A CLAIM is set, and then undone.
 pub set_then_undone : (v t s : View) (seat place : ℕ) (c : VersionWritten) → Works v seat (with_claim place (record c { row = c.base; is_set = true }) (work_at v seat)) t
     → Works t seat (with_claim place (undone c) (work_at t seat)) s → Works v seat (with_claim place (undone c) (work_at v seat)) s
 set_then_undone v t s seat place c first second =
@@ -197,32 +123,17 @@ module _ (sessions seat place : ℕ) (c : Core) (sound : Sound c) (at : IsActive
       ap (λ (cs : List VersionWritten). get_or cs place d) (claims_shown sessions seat c (view_of sessions c) at refl)
       ∙ get_or-map written_of x.current.writes place no_claim d within
 
-  apart_shown : (d : VersionWritten) (j k : ℕ) → j < length (work_at (view_of sessions c) seat).claims → k < length (work_at (view_of sessions c) seat).claims → j ≢ k
-      → (get_or (work_at (view_of sessions c) seat).claims j d).oid ≢ (get_or (work_at (view_of sessions c) seat).claims k d).oid
-  apart_shown d j k within_j within_k differ same =
-      let shown = claims_shown sessions seat c (view_of sessions c) at refl in
-      let n = ap (λ (cs : List VersionWritten). length cs) shown in
-      let m = length-map x.current.writes written_of in
-      let inside_j : j < length x.current.writes = omega (arith, n, m, within_j) in
-      let inside_k : k < length x.current.writes = omega (arith, n, m, within_k) in
-      let at_j : get_or (work_at (view_of sessions c) seat).claims j d ≡ written_of (get_or x.current.writes j no_claim) =
-      ap (λ (cs : List VersionWritten). get_or cs j d) shown ∙ get_or-map written_of x.current.writes j no_claim d inside_j in
-      let at_k : get_or (work_at (view_of sessions c) seat).claims k d ≡ written_of (get_or x.current.writes k no_claim) =
-      ap (λ (cs : List VersionWritten). get_or cs k d) shown ∙ get_or-map written_of x.current.writes k no_claim d inside_k in
-      let one : (get_or x.current.writes j no_claim).version.oid ≡ (get_or x.current.writes k no_claim).version.oid =
-      ap (λ (v : VersionWritten). v.oid) (sym at_j) ∙ same ∙ ap (λ (v : VersionWritten). v.oid) at_k in
-      let once = (sound.own seat).claims.once in
-      ⊎_elim (λ (less : j < k). once j k less inside_k one) (λ (more : k ≤ j). once k j (omega (arith, more, differ)) inside_j (sym one)) (cases_lt j k)
-
   -- a write of the object sets the row of this claim
   pub set_works : (row : List ℕ) (t : View) → Works (view_of sessions c) seat (setting w.version.oid row (work_at (view_of sessions c) seat)) t
       → Works (view_of sessions c) seat (with_claim place (record (written_of w) { row = row; is_set = true }) (work_at (view_of sessions c) seat)) t
   set_works row t now =
       let v = view_of sessions c in
       let d = written_of w in
+      let once = works_once sessions c sound seat in
+      let here = claim_shown d in
       let one : map (with_row d.oid row) (work_at v seat).claims ≡ set (work_at v seat).claims place (record d { row = row; is_set = true }) =
-      subst (λ (u : VersionWritten). map (with_row u.oid row) (work_at v seat).claims ≡ set (work_at v seat).claims place (record u { row = row; is_set = true })) (claim_shown d)
-      (set_one (work_at v seat).claims place row d within_shown (apart_shown d))
+      setting-once (work_at v seat).claims place d.oid row d once within_shown (ap (λ (u : VersionWritten). u.oid) here)
+      ∙ ap (λ (u : VersionWritten). set (work_at v seat).claims place (record u { row = row; is_set = true })) here
       in
       subst (λ (cs : List VersionWritten). Works v seat (with_claims cs (work_at v seat)) t) one now
 
@@ -377,7 +288,7 @@ was_found saved claims k d has kept = found_at saved claims k d has kept (slice_
 -- THE FIRST CLAIMS of a world are restored, and then one more.
 pub record IsRestored {L : Type 0} (law : Law) (p q : Lists L) (seat n : ℕ) (saved : List VersionWritten) : Type 0 where
   pub stands : Stands law q
-  pub works : Works (lists_view p) seat (with_claims (restored_upto n saved (work_at (lists_view p) seat).claims) (work_at (lists_view p) seat)) (lists_view q)
+  pub works : Works (lists_view p) seat (with_claims (halfway saved (work_at (lists_view p) seat).claims n) (work_at (lists_view p) seat)) (lists_view q)
 
 active_work : (stand : Stand) → phase_of stand ≡ phase.Active → stand ≡ world.active (work_of stand)
 active_work world.idle active = absurd (cc)
@@ -386,18 +297,14 @@ active_work (world.sealed w stamp) active = absurd (cc)
 active_work (world.snapshot s) active = absurd (snapshot_not_active s active)
 
 pub none_restored : {L : Type 0} (law : Law) (p : Lists L) (seat : ℕ) (saved : List VersionWritten) → Stands law p → phase_at (lists_view p) seat ≡ phase.Active → IsRestored law p p seat 0 saved
-none_restored law p seat saved stands active = record {
-  stands = stands;
-  works = record {
-    own = ap (λ (at : Stand). let s : Session = record { over = ((lists_view p).session seat).over; stand = at } in s) (active_work ((lists_view p).session seat).stand active);
-    others = λ q other. refl;
-    opening = refl;
-    tail = refl;
-    flushed = refl;
-    pinned = refl;
-    given_up = refl;
-  };
-}
+none_restored law p seat saved stands active =
+    let v = lists_view p in
+    record {
+      stands = stands;
+      works =
+          subst (λ (claims : List VersionWritten). Works v seat (with_claims claims (work_at v seat)) v) (sym (halfway-none saved (work_at v seat).claims))
+          (works_nowhere v seat (work_at v seat) (active_work (v.session seat).stand active));
+    }
 
 module _ {L : Type 0} (law : Law) (p q : Lists L) (seat n : ℕ) (saved : List VersionWritten) (stands : Stands law p) (session : IsSession (lists_view p) seat)
     (active : phase_at (lists_view p) seat ≡ phase.Active) (so_far : IsRestored law p q seat n saved) (below : n < length (work_at (lists_view p) seat).claims) where
@@ -413,22 +320,22 @@ module _ {L : Type 0} (law : Law) (p q : Lists L) (seat n : ℕ) (saved : List V
   at_so_far : IsActive seat (core_of q.state)
   at_so_far = active_seat q.sessions seat (core_of q.state) so_far.stands.quiet session_so_far active_so_far
 
-  claims_so_far : map written_of ((core_of q.state).seats seat).current.writes ≡ restored_upto n saved claims
+  claims_so_far : map written_of ((core_of q.state).seats seat).current.writes ≡ halfway saved claims n
   claims_so_far =
       sym (claims_shown q.sessions seat (core_of q.state) (lists_view q) at_so_far refl)
-      ∙ ap (λ (w : Work). w.claims) (works_work (lists_view p) (lists_view q) seat (with_claims (restored_upto n saved claims) (work_at (lists_view p) seat)) so_far.works)
+      ∙ ap (λ (w : Work). w.claims) (works_work (lists_view p) (lists_view q) seat (with_claims (halfway saved claims n) (work_at (lists_view p) seat)) so_far.works)
 
   pub within_so_far : n < length ((core_of q.state).seats seat).current.writes
   within_so_far =
       let k = ap (λ (list : List VersionWritten). length list) claims_so_far in
       let m = length-map ((core_of q.state).seats seat).current.writes written_of in
-      let j = upto_length n saved claims in
+      let j = halfway-length saved claims n in
       omega (arith, k, m, j, below)
 
   pub next_claim : written_of (claim_at ((core_of q.state).seats seat).current n) ≡ get_or claims n (written_of no_claim)
   next_claim =
       sym (get_or-map written_of ((core_of q.state).seats seat).current.writes n no_claim (written_of no_claim) within_so_far)
-      ∙ ap (λ (list : List VersionWritten). get_or list n (written_of no_claim)) claims_so_far ∙ upto_next n saved claims (written_of no_claim)
+      ∙ ap (λ (list : List VersionWritten). get_or list n (written_of no_claim)) claims_so_far ∙ halfway-at saved claims n (written_of no_claim)
 
   pub next_found : HasClaimed saved claims → AreKept saved → WasFound (slice_get saved n) (written_of (claim_at ((core_of q.state).seats seat).current n))
   next_found has kept = subst (WasFound (slice_get saved n)) (sym next_claim) (was_found saved claims n (written_of no_claim) has kept)
@@ -439,13 +346,13 @@ module _ {L : Type 0} (law : Law) (p q : Lists L) (seat n : ℕ) (saved : List V
     stands = now;
     works =
         let w = work_at (lists_view p) seat in
-        let before = restored_upto n saved claims in
+        let before = halfway saved claims n in
         let more = restored_claim (slice_get saved n) (get_or claims n (written_of no_claim)) in
         let one : Works (lists_view p) seat (with_claim n more (with_claims before w)) (lists_view r) =
         works_then (lists_view p) (lists_view q) (lists_view r) seat (with_claims before w) (with_claim n more (with_claims before w)) so_far.works
         (subst (λ (u : Work). Works (lists_view q) seat (with_claim n more u) (lists_view r)) (works_work (lists_view p) (lists_view q) seat (with_claims before w) so_far.works)
         (subst (λ (c : VersionWritten). Works (lists_view q) seat (with_claim n (restored_claim (slice_get saved n) c) (work_at (lists_view q) seat)) (lists_view r)) next_claim works))
         in
-        subst (λ (k : ℕ). Works (lists_view p) seat (with_claims (restored_upto k saved claims) w) (lists_view r)) (sym (add-one n))
-        (subst (λ (cs : List VersionWritten). Works (lists_view p) seat (with_claims cs w) (lists_view r)) (upto_more n saved claims (written_of no_claim) below) one);
+        subst (λ (k : ℕ). Works (lists_view p) seat (with_claims (halfway saved claims k) w) (lists_view r)) (sym (add-one n))
+        (subst (λ (cs : List VersionWritten). Works (lists_view p) seat (with_claims cs w) (lists_view r)) (halfway-set saved claims n (written_of no_claim) below) one);
   }

@@ -1,22 +1,15 @@
--- Going back: the claims whose rows are as they were, so far.
-use Rattle.std.specs.Prelude.{◌≡◌, ℕ, zero, suc, false, List, [], ◌∷◌, slice_set, Option, Some, None}
+-- Going back, one claim after another.
+use Rattle.std.specs.Prelude.{◌≡◌, ℕ, false, List, slice_set, Option, Some, None}
 use Rattle.std.specs.List.{slice_get}
 use Rattle.erm_model.specs.declared.history.VersionWritten.{VersionWritten}
 use Rattle.erm_world.specs.Going.{found_by}
 use Rattle.erm_world.specs.Saves.{undone}
 use Rattle.erm_world.specs.World.{Work}
 
--- a claim as it was, or with the row that it found, where it wasn't made yet
+-- a claim as it was at a savepoint, or with the row that it found, where it wasn't made yet
 abbrev pub restored_claim : Option VersionWritten → VersionWritten → VersionWritten
 restored_claim (Some s) c = s
 restored_claim None c = undone c
-
--- the first claims, so many, as they were, and the others as they are
-abbrev pub restored_upto : ℕ → (saved claims : List VersionWritten) → List VersionWritten
-restored_upto zero saved claims = claims
-restored_upto (suc n) saved [] = []
-restored_upto (suc n) [] (c ∷ claims) = undone c ∷ restored_upto n [] claims
-restored_upto (suc n) (s ∷ saved) (c ∷ claims) = s ∷ restored_upto n saved claims
 
 -- claims that leave the row that they found where no write has set it
 abbrev pub AreKept : List VersionWritten → Type 0

@@ -2,9 +2,8 @@
 ghost use Rattle.std.specs.Prelude.{◌≡◌, ◌<◌, length, map, true};
 ghost use Rattle.std.specs.Option.{option_copied};
 ghost use Rattle.erm_core.specs.Cores.{core_of};
-ghost use Rattle.erm_core_view.specs.Steps.{undone};
 ghost use Rattle.erm_lists.specs.Restores.{AreKept, WasFound, restored_claim, with_claim};
-ghost use Rattle.erm_world.specs.Saves.{HasClaimed, restored, with_claims};
+ghost use Rattle.erm_world.specs.Saves.{HasClaimed, restored, undone, with_claims};
 ghost use Rattle.erm_lists.specs.Stands.{Stands, lists_view};
 ghost use Rattle.erm_machine.specs.Core as machine;
 ghost use Rattle.erm_machine.specs.Decided.{written_of};

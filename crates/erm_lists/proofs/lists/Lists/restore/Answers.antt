@@ -13,7 +13,8 @@ use Rattle.erm_world.specs.World.{work_at}
 use Rattle.erm_lists.specs.Restores.{WasFound, restored_claim, with_claim}
 use Rattle.erm_world.specs.Saves.{with_claims}
 use Rattle.erm_lists.specs.Stands.{lists_view}
-use Rattle.erm_lists.proofs.Restoring.{next_found, next_restored, none_restored, upto_all, within_so_far}
+use Rattle.erm_lists.proofs.Restoring.{next_found, next_restored, none_restored, within_so_far}
+use Rattle.erm_world.proofs.Halfway.{halfway-all}
 use Rattle.erm_lists.proofs.lists.Lists.restore.Goals as goal
 
 -- what `get` finds
@@ -70,4 +71,4 @@ returns-clause-restored g c =
     let count = claims_count p.sessions c.args.seat (core_of p.state) (lists_view p) at refl in
     let all : length (work_at (lists_view p) c.args.seat).claims ≤ c.loop-place.place = let last = c.loop-place-test.false in let end = c.claims-place-end.ensures in omega (arith, last, end, count) in
     subst (λ (claims : List VersionWritten). Works (lists_view p) c.args.seat (with_claims claims (work_at (lists_view p) c.args.seat)) (lists_view c.loop-place.self))
-    (upto_all c.args.saved.now (work_at (lists_view p) c.args.seat).claims c.loop-place.place all) c.loop-place.invariant.works
+    (halfway-all c.args.saved.now (work_at (lists_view p) c.args.seat).claims c.loop-place.place all) c.loop-place.invariant.works
