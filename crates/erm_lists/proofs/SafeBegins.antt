@@ -124,6 +124,7 @@ raise_done sessions seat begin v c d sound quiet session at did e =
           flushed = change.flushed ∙ works.flushed;
           pinned = change.pinned (no_flusher seat at.session) ∙ works.pinned;
           given_up = works.given_up;
+          saves = record { own = tt; others = works.saves.others };
         },
       ),
     )

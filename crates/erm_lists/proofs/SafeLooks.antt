@@ -20,6 +20,7 @@ use Rattle.erm_machine.specs.Words.{is_session}
 use Rattle.erm_machine.proofs.Backs.{new_is, safe_snapshot, snapshot_ends}
 use Rattle.erm_machine.proofs.QuietKinds.{moves}
 use Rattle.erm_world.specs.Calls.{Becomes}
+use Rattle.erm_world.proofs.Saves.{without}
 use Rattle.erm_world.specs.Safe.{HasSnapshot}
 use Rattle.erm_world.specs.World.{IsSession, Opening, Session, Snapshot, Stand, View, Work, phase_at, phase_of, size_of}
 use Rattle.erm_world.specs.World as world
@@ -104,6 +105,7 @@ looks_become sessions seat b c s session looks shows = record {
   flushed = ap (λ (h : Shared). h.flushed) looks.shared;
   pinned = ap (λ (x : Part). pin_of x.place x.current) (looks.others FLUSH_SEAT (λ same. no_flusher seat session (sym same)));
   given_up = refl;
+  saves = record { own = without s.stand (session_of (b.seats seat)).stand; others = λ q other. refl };
 }
 
 becomes_same : (v t : View) (seat : ℕ) → Becomes v seat (v.session seat) t → t ≡ v
