@@ -8,6 +8,7 @@ ghost use Rattle.erm_plain.specs.Stands.{IsWorld, plain_view};
 ghost use Rattle.erm_world_cases.specs.Sessions.{AllRun};
 
 mod lines;
+mod saves;
 mod tree;
 
 use crate::sessions;

@@ -10,7 +10,7 @@ ghost use Rattle.erm_world_cases.specs.Sessions.{AllRun};
 
 use super::{value, world};
 use erm_lines::{answer_durable, answer_line, lines_keep_runs};
-use erm_model::{Receipt, Reply, Seat, Stamp, TABLES};
+use erm_model::{Receipt, Reply, Seat, Stamp, TABLES, Value};
 use erm_report::Answer;
 use erm_script::{Command, ScriptLine};
 use erm_world::SafeWorld;
@@ -69,32 +69,34 @@ fn line<W: SafeWorld>(
     kept_line(alloc, world, session, command, &mut receipt)
 }
 
-// A line that puts a value of one byte for the key 5 of a table.
-fn put(table: u8, byte: u8) -> Command
+// A line that puts a value of one byte for a key of a table.
+fn put(table: u8, key: u64, byte: u8) -> Command
     requires { table < TABLES }
     ensures asks { IsSome (need_of result) }
     ensures table { IfSome (table_of result) (λ table. table < TABLES) }
 {
     Command::Put {
         table,
-        key: 5,
+        key,
         value: value(byte),
     }
 }
 
-// What a session's line asks for: where it names a key, the key 5 of a table.
+// What a session's line asks for: first the table, where it names one, and then the key.
 #[derive(Clone, Copy)]
-enum Asked {
+pub(super) enum Asked {
     Begin,
-    Get(u8),
+    Get(u8, u64),
     // It is to have this byte.
-    Put(u8, u8),
-    Del(u8),
-    // For one from 6 on.
-    Next(u8),
-    // For those from 5 to 9.
-    Scan(u8),
-    Tidy(u8),
+    Put(u8, u64, u8),
+    Del(u8, u64),
+    // For one from this on.
+    Next(u8, u64),
+    // For those from one to the other.
+    Scan(u8, u64, u64),
+    Tidy(u8, u64),
+    Save,
+    Back(u32),
     Seal,
     Settle,
     Commit,
@@ -104,16 +106,25 @@ enum Asked {
 
 // What it is answered.
 #[derive(Clone, Copy, PartialEq, Eq)]
-enum Told {
+pub(super) enum Told {
     Began(Stamp),
     Done,
-    // The key has no value.
+    // The key has this byte.
+    Value(u8),
+    // It has no value.
     NoValue,
     // No key has one.
     NoPair,
     // So many keys have one.
     Pairs(usize),
     Cut(u32),
+    // So many savepoints are held.
+    Saved(u32),
+    SavesFull,
+    Back(u32),
+    NoSave(u32),
+    // The session of this seat owns the key, in the transaction of this number.
+    Owned(Seat, u32),
     Sealed(Stamp),
     // It committed, with this stamp.
     Committed(Stamp),
@@ -133,10 +144,19 @@ enum Told {
     Other,
 }
 
+// What a value tells.
+fn told_by_value(value: &Value) -> Told {
+    match value.as_slice() {
+        [byte] => Told::Value(*byte),
+        _ => Told::Other,
+    }
+}
+
 // What a reply tells.
 fn told_by_reply(reply: Reply) -> Told {
     match reply {
         Reply::Done => Told::Done,
+        Reply::Value(Some(value)) => told_by_value(&value),
         Reply::Value(None) => Told::NoValue,
         Reply::Pair(None) => Told::NoPair,
         Reply::Found(found) => Told::Pairs(found.as_slice().len()),
@@ -150,6 +170,11 @@ fn told_by_answer(answer: Answer) -> Told {
         Answer::Began(stamp) => Told::Began(stamp),
         Answer::Replied(reply) => told_by_reply(reply),
         Answer::Cut(count) => Told::Cut(count),
+        Answer::Saved { held } => Told::Saved(held),
+        Answer::SavesFull => Told::SavesFull,
+        Answer::Back { n } => Told::Back(n),
+        Answer::NoSave { held } => Told::NoSave(held),
+        Answer::Owned { seat, number } => Told::Owned(seat, number),
         Answer::Sealed(stamp) => Told::Sealed(stamp),
         Answer::Committed { stamp, .. } => Told::Committed(stamp),
         Answer::Excluded { .. } => Told::Excluded,
@@ -172,18 +197,13 @@ fn of_table(asked: Asked) -> Option<Command>
     ensures asks { IfSome result (λ command. IsSome (need_of command)) }
     ensures table { IfSome result (λ command. IfSome (table_of command) (λ table. table < TABLES)) }
 {
-    let key = 5;
     match asked {
-        Asked::Get(table) if table < TABLES => Some(Command::Get { table, key }),
-        Asked::Put(table, byte) if table < TABLES => Some(put(table, byte)),
-        Asked::Del(table) if table < TABLES => Some(Command::Del { table, key }),
-        Asked::Next(table) if table < TABLES => Some(Command::Next { table, from: 6 }),
-        Asked::Scan(table) if table < TABLES => Some(Command::Scan {
-            table,
-            low: key,
-            high: 9,
-        }),
-        Asked::Tidy(table) if table < TABLES => Some(Command::Tidy { table, key }),
+        Asked::Get(table, key) if table < TABLES => Some(Command::Get { table, key }),
+        Asked::Put(table, key, byte) if table < TABLES => Some(put(table, key, byte)),
+        Asked::Del(table, key) if table < TABLES => Some(Command::Del { table, key }),
+        Asked::Next(table, from) if table < TABLES => Some(Command::Next { table, from }),
+        Asked::Scan(table, low, high) if table < TABLES => Some(Command::Scan { table, low, high }),
+        Asked::Tidy(table, key) if table < TABLES => Some(Command::Tidy { table, key }),
         _ => None,
     }
 }
@@ -195,6 +215,8 @@ fn command_of(asked: Asked) -> Option<Command>
 {
     match asked {
         Asked::Begin => Some(Command::Begin),
+        Asked::Save => Some(Command::Save),
+        Asked::Back(n) => Some(Command::Back { n }),
         Asked::Seal => Some(Command::Seal),
         Asked::Settle => Some(Command::Settle),
         Asked::Commit => Some(Command::Commit),
@@ -229,10 +251,10 @@ fn ask<W: SafeWorld>(
 }
 
 // A line of a session, and what it is to be answered.
-type Exchange = (Seat, Asked, Told);
+pub(super) type Exchange = (Seat, Asked, Told);
 
 // The place of the first line that is answered otherwise.
-fn first_other<W: SafeWorld>(
+pub(super) fn first_other<W: SafeWorld>(
     alloc: Global,
     world: &mut W,
     lines: &[Exchange],
@@ -254,10 +276,10 @@ fn first_other<W: SafeWorld>(
 const WRITE_SKEW: [Exchange; 9] = [
     (1, Asked::Begin, Told::Began(13)),
     (2, Asked::Begin, Told::Began(13)),
-    (1, Asked::Get(0), Told::NoValue),
-    (2, Asked::Get(1), Told::NoValue),
-    (1, Asked::Put(1, 7), Told::Done),
-    (2, Asked::Put(0, 8), Told::Done),
+    (1, Asked::Get(0, 5), Told::NoValue),
+    (2, Asked::Get(1, 5), Told::NoValue),
+    (1, Asked::Put(1, 5, 7), Told::Done),
+    (2, Asked::Put(0, 5, 8), Told::Done),
     (1, Asked::Commit, Told::Committed(13)),
     (2, Asked::Commit, Told::Excluded),
     // It was aborted.
@@ -275,13 +297,13 @@ fn write_skew_by_lines(rt: HostRuntime) -> Result<(), AllocError> {
 const FOUND: [Exchange; 11] = [
     (1, Asked::Settle, Told::NotSealed),
     (1, Asked::Begin, Told::Began(13)),
-    (1, Asked::Put(0, 7), Told::Done),
+    (1, Asked::Put(0, 5, 7), Told::Done),
     (1, Asked::Begin, Told::NotIdle),
     // The key and its value.
-    (1, Asked::Scan(0), Told::Pairs(1)),
-    (1, Asked::Next(0), Told::NoPair),
-    (1, Asked::Tidy(0), Told::Cut(0)),
-    (1, Asked::Del(0), Told::Done),
+    (1, Asked::Scan(0, 5, 9), Told::Pairs(1)),
+    (1, Asked::Next(0, 6), Told::NoPair),
+    (1, Asked::Tidy(0, 5), Told::Cut(0)),
+    (1, Asked::Del(0, 5), Told::Done),
     (1, Asked::Seal, Told::Sealed(13)),
     (1, Asked::Abort, Told::IsSealed),
     (1, Asked::Settle, Told::Committed(13)),
@@ -297,22 +319,22 @@ fn keys_are_found_by_lines(rt: HostRuntime) -> Result<(), AllocError> {
 
 const SNAPSHOTS: [Exchange; 16] = [
     (1, Asked::Begin, Told::Began(13)),
-    (1, Asked::Put(0, 7), Told::Done),
+    (1, Asked::Put(0, 5, 7), Told::Done),
     // Nothing had begun before it.
     (2, Asked::Safe, Told::Safe(13)),
     (1, Asked::Commit, Told::Committed(13)),
     // As it was.
-    (2, Asked::Get(0), Told::NoValue),
-    (2, Asked::Put(0, 8), Told::ReadOnly),
+    (2, Asked::Get(0, 5), Told::NoValue),
+    (2, Asked::Put(0, 5, 8), Told::ReadOnly),
     (2, Asked::Commit, Told::Ended),
     (1, Asked::Begin, Told::Began(33)),
-    (1, Asked::Put(1, 8), Told::Done),
+    (1, Asked::Put(1, 5, 8), Told::Done),
     (1, Asked::Seal, Told::Sealed(33)),
     (2, Asked::Safe, Told::Waits(1)),
-    (2, Asked::Get(1), Told::NotSafe),
+    (2, Asked::Get(1, 5), Told::NotSafe),
     (1, Asked::Settle, Told::Committed(33)),
     (2, Asked::Safe, Told::Safe(53)),
-    (2, Asked::Scan(1), Told::Pairs(1)),
+    (2, Asked::Scan(1, 5, 9), Told::Pairs(1)),
     (2, Asked::Abort, Told::Aborted),
 ];
 
@@ -344,7 +366,7 @@ fn commit<W: SafeWorld>(alloc: Global, world: &mut W) -> Result<Option<Receipt>,
 {
     let mut receipt = None;
     kept_line(alloc, world, 1, Command::Begin, &mut receipt)?;
-    kept_line(alloc, world, 1, put(0, 7), &mut receipt)?;
+    kept_line(alloc, world, 1, put(0, 5, 7), &mut receipt)?;
     kept_line(alloc, world, 1, Command::Commit, &mut receipt)?;
     Ok(receipt)
 }
