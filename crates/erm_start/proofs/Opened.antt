@@ -16,6 +16,9 @@ use Rattle.erm_world.specs.World as world
 use Rattle.erm_world.specs.World.{View}
 use Rattle.erm_core.specs.Cores.{core_of}
 use Rattle.erm_lines.specs.Executions.{is_zero}
+use Rattle.erm_world.proofs.Restored.{AreSavesOf-none}
+use Rattle.erm_world.proofs.WithSaves.{serializable}
+use Rattle.erm_lists.specs.Stands.{lists_view}
 use Rattle.erm_plain.specs.Logs.{plain_log}
 use Rattle.erm_plain.specs.Stands.{IsWorld, plain_view}
 use Rattle.erm_plain.specs.declared.plain.Plain.{Plain}
@@ -93,15 +96,38 @@ module _ (found : Rows) (sessions : ℕ) (rows : Rows) (same_rows : SameRows row
   log_is many c same at =
       subst (λ (n : ℕ). IsOpenedLog found tail run (log_of n c)) (sym same) (subst (λ (d : Core). IsOpenedLog found tail run (log_of sessions d)) (sym at) log_at)
 
--- the world in lists
+-- the world in lists, which holds no savepoint
 module _ (sessions : ℕ) (rows : Rows) (tail run first : ℕ) where
+  held_beside : {L : Type 0} (p : Plain L) → IsSerializable sound_law (plain_view p) → IsOpenedOn rows tail run sessions (lists_view p.lists) → IsOpenedOn rows tail run sessions (plain_view p)
+  held_beside p serializable is = record {
+    opened = record {
+      idle = is.opened.idle;
+      tail = is.opened.tail;
+      flushed = is.opened.flushed;
+      pinned = is.opened.pinned;
+      given_up = is.opened.given_up;
+      serializable = serializable;
+    };
+    rows = is.rows;
+    tail = is.tail;
+    run = is.run;
+    sessions = is.sessions;
+    first = is.first;
+    cells = is.cells;
+    cuts = is.cuts;
+    unreached = is.unreached;
+  }
+
   pub opened_on : {L E : Type 0} (r : Result (Plain L) E) → IsFirstObject rows first → IfOk r (λ p. IsWorld sound_law p)
-      → IfOk r (λ p. core_of p.state ≡ opening_state sessions rows tail run first MOST_CELLS) → IfOk r (λ p. p.sessions ≡ sessions) → IfOk r (λ p. IsOpenedOn rows tail run sessions (plain_view p))
+      → IfOk r (λ p. core_of p.lists.state ≡ opening_state sessions rows tail run first MOST_CELLS) → IfOk r (λ p. p.lists.sessions ≡ sessions)
+      → IfOk r (λ p. IsOpenedOn rows tail run sessions (plain_view p))
   opened_on (Ok p) is world opened many =
-      view_is rows sessions rows (λ oid below. refl) tail run first MOST_CELLS p.sessions (core_of p.state) many opened is world.serializable world.stands.sound.lawful.below
+      held_beside p world.serializable
+      (view_is rows sessions rows (λ oid below. refl) tail run first MOST_CELLS p.lists.sessions (core_of p.lists.state) many opened is
+      (serializable (λ q. []) sound_law (plain_view p) (λ seat w session stand. AreSavesOf-none w) (λ seat session active. omega arith) world.serializable) world.stands.lists.sound.lawful.below)
   opened_on (Err e) is world opened many = tt
 
-  pub opened_log : {L E : Type 0} (r : Result (Plain L) E) → IfOk r (λ p. core_of p.state ≡ opening_state sessions rows tail run first MOST_CELLS) → IfOk r (λ p. p.sessions ≡ sessions)
+  pub opened_log : {L E : Type 0} (r : Result (Plain L) E) → IfOk r (λ p. core_of p.lists.state ≡ opening_state sessions rows tail run first MOST_CELLS) → IfOk r (λ p. p.lists.sessions ≡ sessions)
       → IfOk r (λ p. IsOpenedLog rows tail run (plain_log p))
-  opened_log (Ok p) opened many = log_is rows sessions rows (λ oid below. refl) tail run first MOST_CELLS p.sessions (core_of p.state) many opened
+  opened_log (Ok p) opened many = log_is rows sessions rows (λ oid below. refl) tail run first MOST_CELLS p.lists.sessions (core_of p.lists.state) many opened
   opened_log (Err e) opened many = tt

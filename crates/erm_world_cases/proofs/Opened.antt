@@ -10,7 +10,7 @@ use Rattle.erm_machine.specs.declared.task.Task.TheVariants as task
 use Rattle.erm_machine.specs.Core.{Core, blank, is_taken, opening_state}
 use Rattle.erm_core_view.specs.Views.{stand_of, view_of}
 use Rattle.erm_node.specs.Sound.{IsSound, reached}
-use Rattle.erm_world.specs.World.{phase_of}
+use Rattle.erm_world.specs.World.{phase_at, phase_of}
 use Rattle.erm_core.specs.Cores.{core_of}
 use Rattle.erm_plain.specs.Stands.{plain_view}
 use Rattle.erm_plain.specs.declared.plain.Plain.{Plain}
@@ -35,16 +35,17 @@ never : (b : Bool) → phase_of (stand_of (if b then Idle else Vacant) task.Rest
 never true active = cc
 never false active = cc
 
-pub opened_runs : (sessions : ℕ) (rows : Rows) (tail run first cells : ℕ) (c : Core) → c ≡ opening_state sessions rows tail run first cells → (n : ℕ) → AllRun (view_of n c)
-opened_runs sessions rows tail run first cells c is n =
-    subst (λ (at : Core). AllRun (view_of n at)) (sym is) (λ seat session active. absurd (never (is_taken sessions seat) active))
+opened_idle : (sessions : ℕ) (rows : Rows) (tail run first cells : ℕ) (c : Core) → c ≡ opening_state sessions rows tail run first cells → (n seat : ℕ) → phase_at (view_of n c) seat ≡ Active → ⊥
+opened_idle sessions rows tail run first cells c is n seat =
+    subst (λ (at : Core). phase_at (view_of n at) seat ≡ Active → ⊥) (sym is) (λ active. never (is_taken sessions seat) active)
 
-pub opened_in : {L E : Type 0} (r : Result (Plain L) E) (sessions : ℕ) (rows : Rows) (tail run first cells : ℕ) → IfOk r (λ p. core_of p.state ≡ opening_state sessions rows tail run first cells) → IfOk r (λ p. AllRun (plain_view p))
-opened_in (Ok p) sessions rows tail run first cells is = opened_runs sessions rows tail run first cells (core_of p.state) is p.sessions
+pub opened_in : {L E : Type 0} (r : Result (Plain L) E) (sessions : ℕ) (rows : Rows) (tail run first cells : ℕ) → IfOk r (λ p. core_of p.lists.state ≡ opening_state sessions rows tail run first cells)
+    → IfOk r (λ p. AllRun (plain_view p))
+opened_in (Ok p) sessions rows tail run first cells is = λ seat session active. absurd (opened_idle sessions rows tail run first cells (core_of p.lists.state) is p.lists.sessions seat active)
 opened_in (Err e) sessions rows tail run first cells is = tt
 
 -- and the first has committed nothing
-pub over_in : {L E : Type 0} (r : Result (Plain L) E) (sessions : ℕ) (rows : Rows) (tail run first cells : ℕ) → IfOk r (λ p. core_of p.state ≡ opening_state sessions rows tail run first cells)
+pub over_in : {L E : Type 0} (r : Result (Plain L) E) (sessions : ℕ) (rows : Rows) (tail run first cells : ℕ) → IfOk r (λ p. core_of p.lists.state ≡ opening_state sessions rows tail run first cells)
     → IfOk r (λ p. ((plain_view p).session 1).over ≡ [])
-over_in (Ok p) sessions rows tail run first cells is = ap (λ (c : Core). ((view_of p.sessions c).session 1).over) is
+over_in (Ok p) sessions rows tail run first cells is = ap (λ (c : Core). ((view_of p.lists.sessions c).session 1).over) is
 over_in (Err e) sessions rows tail run first cells is = tt

@@ -1,12 +1,13 @@
 -- The transactions in progress stay runs of operations, whatever a session does.
-use Rattle.std.proofs.Common.{◌≡◌, ◌≢◌, ◌≤◌, refl, sym, ap, ◌∙◌, subst, arith, inl, inr, ℕ, Bool, true, false, List, [], ◌∷◌, ◌++◌, Result, Ok, Err, IfOk, IfErr}
+use Rattle.std.proofs.Common.{◌≡◌, ◌≢◌, ◌≤◌, refl, sym, ap, ◌∙◌, subst, arith, inl, inr, ℕ, Bool, true, false, List, [], ◌∷◌, ◌++◌, ◌+◌, length, Result, Ok, Err, IfOk, IfErr}
 use Rattle.std.proofs.lemmas.Bool.{cases_eq}
+use Rattle.erm_model.specs.declared.history.VersionWritten.{VersionWritten}
 use Rattle.erm_model.specs.declared.operation.Op.{Op}
-use Rattle.erm_model.specs.declared.operation.Op.TheVariants.{Get, Put, Del, Next, Scan}
+use Rattle.erm_model.specs.declared.operation.Op.TheVariants.{Get, Put, Del, Next, Scan, Save, Back}
 use Rattle.erm_model.specs.declared.operation.Reply.{Reply}
 use Rattle.erm_model.specs.declared.outcome.Outcome.{Outcome}
 use Rattle.erm_model.specs.declared.outcome.Outcome.TheVariants.{Committed, Excluded}
-use Rattle.erm_model.specs.declared.outcome.Phase.TheVariants.{Active}
+use Rattle.erm_model.specs.declared.outcome.Phase.TheVariants.{Active, Idle}
 use Rattle.erm_model.specs.declared.row_stop.RowStop.{RowStop}
 use Rattle.erm_model.specs.RowTransaction.{Asked, Event, Face, IsStopped, Law, SameLaw, ends}
 use Rattle.erm_model.specs.Rows.{Rows}
@@ -22,7 +23,8 @@ use Rattle.erm_world.specs.Laws.{FitsWork, IsLawfulWork}
 use Rattle.erm_world.specs.Works.{seen_by}
 use Rattle.erm_world.specs.World.{IsSession, Opening, Session, View, Work, begun, phase_at, phase_of, work_at, work_of}
 use Rattle.erm_world.specs.World as world
-use Rattle.erm_maps.specs.Runs.{IsRunOf}
+use Rattle.erm_world.proofs.Saves.{begins_without}
+use Rattle.erm_maps.specs.Runs.{IsRunOf, kept_at}
 use Rattle.erm_world_cases.specs.Sessions.{AllRun, IsReplyTo, KeepsRun, Leads, RunsOn}
 
 -- CALLS. One that is cut off where the transaction goes on leads on, and answers nothing.
@@ -38,42 +40,51 @@ module _ {S : Type 0} (face : Face S) (may : RowStop → Type 0) (kind : List Ev
   cut_offs_lead s t stop stopped active = leads_where s t stop stopped active (ends stop) refl
 
 -- SESSIONS. Where one changes, and its transaction is a run if it is in progress, all are.
-abbrev IsRun : Session → Type 0
-IsRun s = phase_of s.stand ≡ Active → (steps : List Step) × IsRunOf (work_of s.stand) steps
+abbrev IsRun : Session → List (List VersionWritten) → Type 0
+IsRun s held = phase_of s.stand ≡ Active → (steps : List Step) × IsRunOf (record { work = work_of s.stand; saves = held }) steps
 
 abbrev pub Kept : View → View → Type 0
 Kept v t = AllRun t × (t.opening ≡ v.opening)
 
-module _ (v t : View) (seat : ℕ) (s : Session) (own : t.session seat ≡ s) (others : (q : ℕ) → q ≢ seat → t.session q ≡ v.session q) (opening : t.opening ≡ v.opening) where
-  changed : IsRun s → AllRun v → AllRun t
-  changed now runs q session = elim (cases_eq q seat) as (λ _. IsRun (t.session q)) [
-    | inl is ↦ subst IsRun (sym (ap t.session is ∙ own)) now
-    | inr another ↦ subst IsRun (sym (others q another)) (runs q (session.0, subst (λ (o : Opening). q ≤ o.sessions) opening session.1))
+module _ (v t : View) (seat : ℕ) (s : Session) (own : t.session seat ≡ s) (others : (q : ℕ) → q ≢ seat → t.session q ≡ v.session q) (opening : t.opening ≡ v.opening)
+    (saves : (q : ℕ) → q ≢ seat → t.saves q ≡ v.saves q) where
+  changed : IsRun s (t.saves seat) → AllRun v → AllRun t
+  changed now runs q session = elim (cases_eq q seat) as (λ _. IsRun (t.session q) (t.saves q)) [
+    | inl is ↦ subst (λ (at : ℕ). IsRun (t.session at) (t.saves at)) (sym is) (subst (λ (x : Session). IsRun x (t.saves seat)) (sym own) now)
+    | inr another ↦ subst (λ (held : List (List VersionWritten)). IsRun (t.session q) held) (sym (saves q another))
+    (subst (λ (x : Session). IsRun x (v.saves q)) (sym (others q another)) (runs q (session.0, subst (λ (o : Opening). q ≤ o.sessions) opening session.1)))
   ]
 
 unchanged : (v t : View) → t ≡ v → AllRun v → Kept v t
 unchanged v t same runs = (subst AllRun (sym same) runs, ap (λ (x : View). x.opening) same)
 
-idle_runs : (over : List world.Finished) → IsRun (record { over = over; stand = world.idle })
-idle_runs over active = cc
+idle_runs : (over : List world.Finished) (held : List (List VersionWritten)) → IsRun (record { over = over; stand = world.idle }) held
+idle_runs over held active = cc
 
-sealed_runs : (over : List world.Finished) (w : Work) (stamp : ℕ) → IsRun (record { over = over; stand = world.sealed w stamp })
-sealed_runs over w stamp active = cc
+sealed_runs : (over : List world.Finished) (w : Work) (stamp : ℕ) (held : List (List VersionWritten)) → IsRun (record { over = over; stand = world.sealed w stamp }) held
+sealed_runs over w stamp held active = cc
 
-pub begun_kept : (v t : View) (seat : ℕ) (r : Result ℕ BeginStop) → ((number begin : ℕ) → IsRunOf (begun number begin) []) → AllRun v
+pub begun_kept : (v t : View) (seat : ℕ) (r : Result ℕ BeginStop) → phase_at v seat ≡ Idle → ((number begin : ℕ) → IsRunOf (record { work = begun number begin; saves = [] }) []) → AllRun v
     → IfOk r (λ begin. DidBegin v seat begin t) → IfErr r (λ stop. MayNotBegin v seat stop t) → Kept v t
-begun_kept v t seat (Ok stamp) none runs did not =
-    (changed v t seat _ did.3.own did.3.others did.3.opening (λ active. ([], none _ stamp)) runs, did.3.opening)
-begun_kept v t seat (Err begin.NumbersEnd) none runs did not = unchanged v t not.0 runs
-begun_kept v t seat (Err (begin.LogEnd tail)) none runs did not = unchanged v t not.0 runs
-begun_kept v t seat (Err begin.Memory) none runs did not = unchanged v t not runs
+begun_kept v t seat (Ok stamp) idle none runs did not = (
+  changed v t seat _ did.3.own did.3.others did.3.opening did.3.saves.others
+      (λ active. (
+        [],
+        subst (λ (held : List (List VersionWritten)). IsRunOf (record { work = begun (length (v.session seat).over + 1) stamp; saves = held }) []) (sym (begins_without v t seat _ idle did.3)) (none _ stamp),
+      )) runs,
+  did.3.opening,
+)
+begun_kept v t seat (Err begin.NumbersEnd) idle none runs did not = unchanged v t not.0 runs
+begun_kept v t seat (Err (begin.LogEnd tail)) idle none runs did not = unchanged v t not.0 runs
+begun_kept v t seat (Err begin.Memory) idle none runs did not = unchanged v t not runs
 
 pub sealed_kept : (v t : View) (seat stamp : ℕ) → AllRun v → DidSeal v seat stamp t → Kept v t
 sealed_kept v t seat stamp runs did =
-    (changed v t seat _ did.own did.others did.opening (sealed_runs (v.session seat).over (work_at v seat) stamp) runs, did.opening)
+    (changed v t seat _ did.own did.others did.opening did.saves (sealed_runs (v.session seat).over (work_at v seat) stamp (t.saves seat)) runs, did.opening)
 
 done_kept : (v t : View) (seat : ℕ) (w : Work) (fate : world.Fate) → AllRun v → IsDone v seat w fate t → Kept v t
-done_kept v t seat w fate runs did = (changed v t seat _ did.own did.others did.opening (idle_runs ((v.session seat).over ++ record { work = w; fate = fate } ∷ [])) runs, did.opening)
+done_kept v t seat w fate runs did =
+    (changed v t seat _ did.own did.others did.opening did.saves.others (idle_runs ((v.session seat).over ++ record { work = w; fate = fate } ∷ []) (t.saves seat)) runs, did.opening)
 
 outcome_kept : (v t : View) (seat : ℕ) (w : Work) (stamp : ℕ) (outcome : Outcome) → AllRun v → Settled v seat w stamp outcome t → Kept v t
 outcome_kept v t seat w stamp (Committed r) runs did = done_kept v t seat w _ runs did.0
@@ -109,15 +120,17 @@ goes_on face s t (Put table key value) reply did = did.1.goes_on.active
 goes_on face s t (Del table key) reply did = did.1.goes_on.active
 goes_on face s t (Next table from) reply did = did.2.goes_on.active
 goes_on face s t (Scan table low high) reply did = absurd did
+goes_on face s t Save reply did = absurd did
+goes_on face s t (Back n) reply did = absurd did
 
 -- THE FACE. Tree calls of one session keep all transactions runs, its own of the operations answered.
 module _ {S : Type 0} (law : Law) (view : S → View) (seat : S → ℕ) (stands : S → Type 0) (one : S → S → Type 0)
-    (are_runs : (s t : S) (calls : List Call) (before : List Step) → IsRunOf (work_at (view s) (seat s)) before → AreCalled (world_face law view seat stands one) s calls t
-    → IsRunOf (work_at (view t) (seat t)) (before ++ answered_steps calls)) (s t : S) (active : (world_face law view seat stands one).active s) (follows : (world_face law view seat stands one).follows s t) where
+    (are_runs : (s t : S) (calls : List Call) (before : List Step) → IsRunOf (kept_at (view s) (seat s)) before → AreCalled (world_face law view seat stands one) s calls t
+    → IsRunOf (kept_at (view t) (seat t)) (before ++ answered_steps calls)) (s t : S) (active : (world_face law view seat stands one).active s) (follows : (world_face law view seat stands one).follows s t) where
   leads_on : (more : List Step) → Leads (world_face law view seat stands one) s more t → RunsOn (view s) (seat s) more (view t)
   leads_on more leads steps is =
-      subst (λ (q : ℕ). IsRunOf (work_at (view t) q) (steps ++ more)) follows.1
-      (subst (λ (found : List Step). IsRunOf (work_at (view t) (seat t)) (steps ++ found)) leads.2 (are_runs s t leads.0 steps is leads.1))
+      subst (λ (q : ℕ). IsRunOf (kept_at (view t) q) (steps ++ more)) follows.1
+      (subst (λ (found : List Step). IsRunOf (kept_at (view t) (seat t)) (steps ++ found)) leads.2 (are_runs s t leads.0 steps is leads.1))
 
   answer_on : (op : Op) (reply : Reply) → IsAnswered (world_face law view seat stands one) s op reply t → IsReplyTo (view s) (seat s) op reply (view t)
   answer_on op reply did =
@@ -140,8 +153,8 @@ module _ {S : Type 0} (law : Law) (view : S → View) (seat : S → ℕ) (stands
         → IfErr r (λ stop. (world_face law view seat stands one).active t → Leads (world_face law view seat stands one) s [] t) → AllRun (view t)
     called_kept runs r did not =
         let before = runs (seat s) active.1 active.2 in
-        let now : IsRun ((view t).session (seat s)) = (λ (is : phase_at (view t) (seat s) ≡ Active). let on = more_of r did not is in (before.0 ++ on.0, on.1 before.0 before.1)) in
-        changed (view s) (view t) (seat s) ((view t).session (seat s)) refl follows.3.others follows.3.opening now runs
+        let now : IsRun ((view t).session (seat s)) ((view t).saves (seat s)) = (λ (is : phase_at (view t) (seat s) ≡ Active). let on = more_of r did not is in (before.0 ++ on.0, on.1 before.0 before.1)) in
+        changed (view s) (view t) (seat s) ((view t).session (seat s)) refl follows.3.others follows.3.opening follows.3.saves_of_others now runs
 
     pub call_answers : (r : Result Reply RowStop) → IfOk r (λ reply. IsAnswered (world_face law view seat stands one) s op reply t) → IfOk r (λ reply. IsReplyTo (view s) (seat s) op reply (view t))
     call_answers (Ok reply) did = answer_on op reply did
