@@ -1,52 +1,35 @@
 -- Rows of claims are as they were, one claim after another.
 use Rattle.std.proofs.Common.{◌≡◌, ◌≢◌, ℕ, zero, suc, ◌+◌, ◌<◌, ◌≤◌, Bool, true, false, eqb, List, [], ◌∷◌, length, get_or, set, take, map, Option, Some, None, refl, sym, ap, ◌∙◌, subst, arith, add-one, length-set, get_or-set_same}
-use Rattle.std.specs.Prelude.{if◌then◌else◌, nat_eq, slice_get}
-use Rattle.std.proofs.lemmas.Bool.{and_from, cond-true, eq-eqb, lt-ltb}
-use Rattle.std.proofs.lemmas.List.{get_or-map, length-map, set-set, take_all}
-use Rattle.std.specs.Cmp.Lexicographic.{pointwise}
+use Rattle.std.specs.List.{slice_get}
+use Rattle.std.proofs.lemmas.List.{get_or-map, length-map, set-set}
 use Rattle.erm_model.specs.declared.history.VersionWritten.{VersionWritten}
 use Rattle.erm_model.specs.declared.outcome.Phase.TheVariants as phase
 use Rattle.erm_machine.specs.declared.attempt.Claim.{Claim}
-use Rattle.erm_machine.specs.declared.attempt.OwnCell.{OwnCell}
 use Rattle.erm_machine.specs.declared.event.Kind.TheVariants as kind
 use Rattle.erm_machine.specs.declared.part.Part.{Part}
-use Rattle.erm_machine.specs.declared.place.Place.{Place}
-use Rattle.erm_machine.specs.declared.place.Place.TheVariants.{Active}
-use Rattle.erm_machine.specs.declared.task.Task.{Task}
 use Rattle.erm_machine.specs.declared.task.Task.TheVariants as task
 use Rattle.erm_machine.specs.Core.{Core, claim_at, no_claim}
 use Rattle.erm_machine.specs.Decided.{written_of}
-use Rattle.erm_machine.specs.Reading.{has_base, without_row}
-use Rattle.erm_machine.specs.Seat.{is_active, is_own, is_rest, last_claim, may_start}
 use Rattle.erm_machine.specs.Sound.{Sound}
 use Rattle.erm_machine.specs.Step.{after_event}
-use Rattle.erm_machine.specs.Words.{put}
-use Rattle.erm_machine.specs.Written.{copied, copied_at}
-use Rattle.erm_machine.proofs.Holders.{stands_in}
 use Rattle.erm_model.specs.RowTransaction.{Law}
 use Rattle.erm_sound.specs.Kept.{SoundUnder}
 use Rattle.erm_core.specs.Cores.{core_of}
 use Rattle.erm_core_calls.specs.Going.{own_at}
-use Rattle.erm_core_view.specs.Views.{IsQuiet, session_of, view_of}
-use Rattle.erm_core_view.specs.Views as views
-use Rattle.erm_core_view.proofs.Chained.{Alone, alone_put, alone_shows, goes, pin_same}
+use Rattle.erm_core_view.specs.Views.{IsQuiet, view_of}
 use Rattle.erm_core_view.proofs.Onces.{works_once}
-use Rattle.erm_core_view.proofs.Parts.{current_stands}
-use Rattle.erm_core_view.proofs.Shown.{work_active, working}
-use Rattle.erm_core_view.proofs.Snapshots.{starts_new}
-use Rattle.erm_core_view.proofs.Words.{undo_shows}
 use Rattle.erm_core_steps.specs.Steps.{IsTaken}
-use Rattle.erm_core_steps.proofs.Early.{quiet_since, works_work}
+use Rattle.erm_core_steps.proofs.Backs.{MayUnset, back_once, quiet_unset, unset_shows, unset_taken}
+use Rattle.erm_core_steps.proofs.Early.{works_work}
 use Rattle.erm_core_steps.proofs.Exchanges.{claims_shown}
 use Rattle.erm_core_steps.proofs.Quiet.{IsActive, active_seat}
 use Rattle.erm_core_steps.proofs.Readings.{still_active, still_session}
 use Rattle.erm_core_steps.proofs.Stored.{may_write}
-use Rattle.erm_core_turns.proofs.Turns.{one_after}
 use Rattle.erm_lists.specs.declared.lists.Lists.{Lists}
 use Rattle.erm_lists.specs.Stands.{Stands, lists_view}
 use Rattle.erm_lists.specs.Restores.{AreKept, IsAsFound, WasFound, restored_claim, with_claim}
 use Rattle.erm_world.specs.Saves.{HasClaimed, undone, with_claims}
-use Rattle.erm_world.proofs.Halfway.{halfway, halfway-at, halfway-length, halfway-none, halfway-set, setting-once}
+use Rattle.erm_world.proofs.Halfway.{halfway, halfway-at, halfway-length, halfway-none, setting-once}
 use Rattle.erm_world.proofs.Saves.{works_nowhere, works_then}
 use Rattle.erm_world.specs.Calls.{Works}
 use Rattle.erm_world.specs.Going.{found_by}
@@ -82,28 +65,7 @@ set_then_undone v t s seat place c first second =
     subst (λ (list : List VersionWritten). Works v seat (with_claims list (work_at v seat)) s) twice
     (subst (λ (w : Work). Works v seat (with_claim place (undone c) w) s) (works_work v t seat (with_claim place d (work_at v seat)) first) there)
 
--- AT REST all words of the newest claim's row are copied
-all_at : (pl : Place) (u : Task) → u ≡ task.Rest → copied pl u ≡ 16
-all_at pl u e = ap (λ (t : Task). copied pl t) e ∙ at_rest pl
-  where
-    at_rest : (p : Place) → copied p task.Rest ≡ 16
-    at_rest (Active tail) = refl
-    at_rest _ = refl
-
-all_copied : (pl : Place) (u : Task) (b : Bool) → u ≡ task.Rest → (if b then copied pl u else 16) ≡ 16
-all_copied pl u true e = all_at pl u e
-all_copied pl u false e = refl
-
--- a cell with the row of the version overwritten
-same_words : (xs : List ℕ) → pointwise nat_eq xs xs ≡ true
-same_words [] = refl
-same_words (n ∷ xs) = and_from _ _ (eq-eqb n n refl) (same_words xs)
-
-has_base_from : (base : List ℕ) (o : Option OwnCell) (cell : ℕ) → is_own cell o ≡ true → ((own : OwnCell) → o ≡ Some own → own.words.row ≡ base) → has_base base o ≡ true
-has_base_from base None cell e rows = absurd (cc)
-has_base_from base (Some own) cell e rows = subst (λ (row : List ℕ). pointwise nat_eq row base ≡ true) (sym (rows own refl)) (same_words base)
-
--- AN UNSET CLAIM
+-- THE CLAIM at a place, as it shows
 module _ (sessions seat place : ℕ) (c : Core) (sound : Sound c) (at : IsActive seat c) (within : place < length (c.seats seat).current.writes) where
   abbrev x : Part
   x = c.seats seat
@@ -136,53 +98,6 @@ module _ (sessions seat place : ℕ) (c : Core) (sound : Sound c) (at : IsActive
       ∙ ap (λ (u : VersionWritten). set (work_at v seat).claims place (record u { row = row; is_set = true })) here
       in
       subst (λ (cs : List VersionWritten). Works v seat (with_claims cs (work_at v seat)) t) one now
-
-  -- at rest its own cell has its row
-  own_row : x.task ≡ task.Rest → (own : OwnCell) → w.own ≡ Some own → own.words.row ≡ w.row
-  own_row rest own is =
-      let fits = (sound.own seat).written.cells place within own is in
-      let all : copied_at x place ≡ 16 = all_copied x.place x.task (eqb place (last_claim x.current)) rest in
-      let size : length w.row ≡ 16 = ((sound.own seat).written.rows x.current w (current_stands x) (stands_in x.current place within)).size in
-      let long : length own.words.row ≡ 16 = fits.size in
-      sym (take_all 16 own.words.row (omega (arith, long))) ∙ subst (λ (n : ℕ). take n own.words.row ≡ take n w.row) all fits.row ∙ take_all 16 w.row (omega (arith, size))
-
-  abbrev y : Part
-  y = record x { current = without_row place x.current }
-
-  abbrev after : Core
-  after = record { shared = c.shared; seats = put c.seats seat y }
-
-  -- where its row is that of the version overwritten, its writes may be undone
-  undoes : x.task ≡ task.Rest → w.row ≡ w.base → after_event c seat (kind.Unset place) ≡ Some after
-  undoes rest row =
-      let may = may_write seat w.version.oid place c sound at (record { within = within; oid_is = refl }) in
-      let base : has_base w.base w.own ≡ true = has_base_from w.base w.own (own_at x.current place) may.own (λ own is. own_row rest own is ∙ row) in
-      let resting : is_rest x.task ≡ true = ap is_rest rest in
-      goes c seat (kind.Unset place) y tt refl (cond-true _ _ _ (and_from _ _ (and_from _ _ (and_from _ _ at.active resting) (lt-ltb _ _ within)) base))
-
-  pub undo_taken : x.task ≡ task.Rest → w.row ≡ w.base → IsTaken c seat (kind.Unset place)
-  undo_taken rest row = (after, undoes rest row)
-
-  -- and what that leaves
-  module _ (rest : x.task ≡ task.Rest) (row : w.row ≡ w.base) (d : Core) (e : after_event c seat (kind.Unset place) ≡ Some d) where
-    left : Alone seat c y d
-    left = subst (λ (to : Core). Alone seat c y to) (sym (one_after c d after seat (kind.Unset place) (undoes rest row) e)) (alone_put seat c y)
-
-    pub undo_others : (q : ℕ) → q ≢ seat → d.seats q ≡ c.seats q
-    undo_others q other = left.others q other
-
-    pub undo_stands : is_active (d.seats seat).place ≡ true
-    undo_stands = ap (λ (z : Part). is_active z.place) left.own ∙ at.active
-
-    pub undo_starts : may_start (d.seats seat).task ≡ true
-    undo_starts = ap (λ (z : Part). may_start z.task) left.own ∙ at.starts
-
-    pub undo_works : Works (view_of sessions c) seat (with_claim place (undone (written_of w)) (work_at (view_of sessions c) seat)) (view_of sessions d)
-    undo_works =
-        let work : work_at (view_of sessions c) seat ≡ views.work_of x.current = work_active x.place x.task x.current at.active (starts_new x.task x.current at.starts) in
-        subst (λ (u : Work). Works (view_of sessions c) seat (with_claim place (undone (written_of w)) u) (view_of sessions d)) (sym work)
-        (alone_shows sessions seat c y d (working x (with_claim place (undone (written_of w)) (views.work_of x.current))) left (λ _. pin_same x.place x.current y.current refl)
-        (ap session_of (sym left.own) ∙ undo_shows seat place c d e))
 
 -- THE CLAIM that a write has set, in the state after
 pub record IsSetTo (seat place : ℕ) (c : Core) (v : VersionWritten) : Type 0 where
@@ -232,32 +147,33 @@ module _ {L : Type 0} (law : Law) (p q : Lists L) (seat place : ℕ) (stands : S
     set_there : IsSetTo seat place (core_of q.state) (record made { row = made.base; is_set = true })
     set_there = set_to p.sessions q.sessions seat place (core_of p.state) (core_of q.state) (record made { row = made.base; is_set = true }) at_first within at_then set_it
 
-    row_there : (claim_at ((core_of q.state).seats seat).current place).row ≡ (claim_at ((core_of q.state).seats seat).current place).base
-    row_there = ap (λ (v : VersionWritten). v.row) set_there.is ∙ sym (ap (λ (v : VersionWritten). v.base) set_there.is)
+    may : MayUnset (core_of q.state) seat place (own_at ((core_of q.state).seats seat).current place)
+    may = record {
+      active = at_then.active;
+      rests = rest;
+      within = set_there.within;
+      own = (may_write seat _ place (core_of q.state) later.sound.sound at_then (record { within = set_there.within; oid_is = refl })).own;
+      row = ap (λ (v : VersionWritten). v.row) set_there.is ∙ sym (ap (λ (v : VersionWritten). v.base) set_there.is);
+    }
 
     pub may_undo : IsTaken (core_of q.state) seat (kind.Unset place)
-    may_undo = undo_taken q.sessions seat place (core_of q.state) later.sound.sound at_then set_there.within rest row_there
+    may_undo = unset_taken seat place (own_at ((core_of q.state).seats seat).current place) (core_of q.state) later.sound.sound may
 
     module _ (r : Lists L) (many : r.sessions ≡ q.sessions) (sound : SoundUnder law (core_of r.state)) (e : after_event (core_of q.state) seat (kind.Unset place) ≡ Some (core_of r.state)) where
-      last : Works (lists_view q) seat (with_claim place (undone (written_of (claim_at ((core_of q.state).seats seat).current place))) (work_at (lists_view q) seat)) (view_of q.sessions (core_of r.state))
-      last = undo_works q.sessions seat place (core_of q.state) later.sound.sound at_then set_there.within rest row_there (core_of r.state) e
-
       pub undo_done : Stands law r
       undo_done = record {
         sound = sound;
         quiet =
             subst (λ (n : ℕ). IsQuiet n (core_of r.state)) (sym many)
-            (quiet_since q.sessions seat (core_of q.state) (core_of r.state) later.quiet session_then sound.sound
-            (undo_others q.sessions seat place (core_of q.state) later.sound.sound at_then set_there.within rest row_there (core_of r.state) e) last.opening last.tail last.flushed
-            (undo_stands q.sessions seat place (core_of q.state) later.sound.sound at_then set_there.within rest row_there (core_of r.state) e)
-            (undo_starts q.sessions seat place (core_of q.state) later.sound.sound at_then set_there.within rest row_there (core_of r.state) e));
+            (quiet_unset q.sessions seat place (own_at ((core_of q.state).seats seat).current place) (core_of q.state) (core_of r.state) later.sound.sound sound.sound later.quiet session_then at_then may e);
       }
 
       pub undo_shown : Works (lists_view p) seat (with_claim place (undone made) (work_at (lists_view p) seat)) (lists_view r)
       undo_shown =
           subst (λ (n : ℕ). Works (lists_view p) seat (with_claim place (undone made) (work_at (lists_view p) seat)) (view_of n (core_of r.state))) (sym many)
           (set_then_undone (lists_view p) (lists_view q) (view_of q.sessions (core_of r.state)) seat place made set_it
-          (subst (λ (v : VersionWritten). Works (lists_view q) seat (with_claim place (undone v) (work_at (lists_view q) seat)) (view_of q.sessions (core_of r.state))) set_there.is last))
+          (subst (λ (v : VersionWritten). Works (lists_view q) seat (with_claim place (undone v) (work_at (lists_view q) seat)) (view_of q.sessions (core_of r.state))) set_there.is
+          (unset_shows q.sessions seat place (core_of q.state) (core_of r.state) later.sound.sound at_then e)))
 
 -- what a claim becomes
 pub restored_set : (o : Option VersionWritten) (s c : VersionWritten) → o ≡ Some s → WasFound o c → s.is_set ≡ true → ◌≡◌ {A = VersionWritten} (record c { row = s.row; is_set = true }) (restored_claim o c)
@@ -345,14 +261,9 @@ module _ {L : Type 0} (law : Law) (p q : Lists L) (seat n : ℕ) (saved : List V
   next_restored r now works = record {
     stands = now;
     works =
-        let w = work_at (lists_view p) seat in
-        let before = halfway saved claims n in
-        let more = restored_claim (slice_get saved n) (get_or claims n (written_of no_claim)) in
-        let one : Works (lists_view p) seat (with_claim n more (with_claims before w)) (lists_view r) =
-        works_then (lists_view p) (lists_view q) (lists_view r) seat (with_claims before w) (with_claim n more (with_claims before w)) so_far.works
-        (subst (λ (u : Work). Works (lists_view q) seat (with_claim n more u) (lists_view r)) (works_work (lists_view p) (lists_view q) seat (with_claims before w) so_far.works)
-        (subst (λ (c : VersionWritten). Works (lists_view q) seat (with_claim n (restored_claim (slice_get saved n) c) (work_at (lists_view q) seat)) (lists_view r)) next_claim works))
-        in
-        subst (λ (k : ℕ). Works (lists_view p) seat (with_claims (halfway saved claims k) w) (lists_view r)) (sym (add-one n))
-        (subst (λ (cs : List VersionWritten). Works (lists_view p) seat (with_claims cs w) (lists_view r)) (halfway-set saved claims n (written_of no_claim) below) one);
+        let v = lists_view p in
+        let w = work_at v seat in
+        let d = written_of no_claim in
+        subst (λ (k : ℕ). Works v seat (with_claims (halfway saved claims k) w) (lists_view r)) (sym (add-one n))
+        (back_once v (lists_view q) (lists_view r) seat n w saved d _ below (ap (λ (c : VersionWritten). restored_claim (slice_get saved n) c) next_claim) so_far.works works);
   }
