@@ -1,11 +1,12 @@
 -- The log of the world in lists, with the savepoints of its sessions' transactions.
-use Rattle.std.proofs.Common.{◌≡◌, refl, ◌∙◌}
+use Rattle.std.proofs.Common.{◌≡◌, List, ap, refl, ◌∙◌}
+use Rattle.erm_model.specs.declared.history.VersionWritten.{VersionWritten}
 use Rattle.erm_model.specs.RowTransaction.{Law}
 use Rattle.erm_core_steps.specs.Keeping as keeping
 use Rattle.erm_lists.specs.Logs as lists
 use Rattle.erm_lists.specs.Stands as lists_stands
 use Rattle.erm_lists.specs.Stands.{lists_view}
-use Rattle.erm_plain.specs.Stands.{plain_view}
+use Rattle.erm_plain.specs.Stands.{held_by, plain_view}
 use Rattle.erm_plain.specs.declared.plain.Plain.{Plain}
 use Rattle.erm_world.specs.Log.{Log}
 use Rattle.erm_world.specs.Whole as whole
@@ -30,4 +31,9 @@ keeps_on law p q r first second = record {
 
 -- they leave the view's sessions
 pub sessions_stay : {L : Type 0} (law : Law) (p q : Plain L) → KeepsSessions law p q → whole.KeepsSessions (plain_view p) (plain_view q)
-sessions_stay law p q keeps = record { session = keeps.lists.sessions.session; opening = keeps.lists.sessions.opening; tail = keeps.lists.sessions.tail }
+sessions_stay law p q keeps = record {
+  session = keeps.lists.sessions.session;
+  opening = keeps.lists.sessions.opening;
+  tail = keeps.lists.sessions.tail;
+  saves = λ seat session. ap (λ (held : List (List (List VersionWritten))). held_by held seat) keeps.saves;
+}
