@@ -1,5 +1,5 @@
 -- What a flusher's calls leave lasts: the sessions stay, and a row read as of a pin is the newest below it of what they have committed.
-use Rattle.std.proofs.Common.{◌≡◌, ℕ, List, Option, Some, IfSome, sym, ap, ◌∙◌, subst}
+use Rattle.std.proofs.Common.{◌≡◌, ℕ, List, Option, Some, IfSome, refl, sym, ap, ◌∙◌, subst}
 use Rattle.std.specs.Prelude.{is_some}
 use Rattle.erm_model.specs.History.{History, IsNewestBelow}
 use Rattle.erm_model.specs.RowTransaction.{Law}
