@@ -1,25 +1,23 @@
 -- The snapshots of a good report only read: so the map that it prints is the one behind its commits alone.
 use Rattle.std.proofs.Common.{◌≡◌, ℕ, ◌+◌, ◌*◌, ◌<◌, ◌≤◌, ⊎_elim, Bool, true, false, nat_lt, cond, List, [], ◌∷◌, ◌++◌, length, filter, Option, Some, None, IfSome, refl, sym, ap, ◌∙◌, subst, arith}
 use Rattle.std.specs.FinMap.{from_entries}
-use Rattle.std.specs.List.{All, AllByRecursion, cons_option, filter_map}
+use Rattle.std.specs.List.{All, cons_option, filter_map}
 use Rattle.std.specs.Option.{option_map}
 use Rattle.std.proofs.lemmas.Bool.{cases_Bool, cond-false, cond-true, lt-ltb, ltb-false, ltb-true}
-use Rattle.std.proofs.lemmas.List.Elements.{recursion_from_All}
 use Rattle.std.proofs.lemmas.List.Sorted.{IsPermutation-sym}
 use Rattle.std.proofs.lemmas.List.Sums.{sum_by-cons}
 use Rattle.erm_model.specs.declared.limits.TheConstants.{GREATEST_BLOCK, LAST_NUMBER, LEAST_BLOCK, LOG_END, SESSIONS, STOP}
-use Rattle.erm_model.specs.declared.operation.Op.{Op}
-use Rattle.erm_model.specs.declared.operation.Op.TheVariants.{Get, Put, Del, Next, Scan}
 use Rattle.erm_model.specs.Committed.{Committed, rank_of, state_after}
 use Rattle.erm_model.specs.Database.{Database, entries_of}
 use Rattle.erm_model.specs.Member.{◌∈◌}
-use Rattle.erm_model.specs.Run.{Step, after, after_all, ops_of}
+use Rattle.erm_model.specs.Run.{Step, after_all, ops_of}
 use Rattle.erm_model.specs.SerialOrder.{IsSerialOrder}
 use Rattle.erm_model.proofs.Members.{none_in_nil, ∈-behind}
 use Rattle.erm_machine.proofs.Listed.{∈-cons, ∈-either, ∈-filter, ∈-filter_from, ∈-first, ∈-head}
 use Rattle.erm_core_ssn.proofs.Members.{∈-permutation}
 use Rattle.erm_core_ssn.proofs.OneOrder.{Ascends-once}
 use Rattle.erm_core_ssn.proofs.Orders.{Ascends, Ascends-from_AllPairs}
+use Rattle.erm_invariant.proofs.Reading.{reads_leave}
 use Rattle.erm_invariant.specs.Invariant.{IsRead}
 use Rattle.erm_maps.proofs.Commits.{run_ends}
 use Rattle.erm_report.specs.declared.line.Line.{Line}
@@ -40,23 +38,9 @@ use Rattle.erm_report_invariant.proofs.Looks.{only_read}
 use Rattle.erm_told.proofs.Differing.{of_history, stamps_differ}
 use Rattle.erm_told_order.proofs.Places.{stands_at}
 
--- ---- what only reads leaves the map
+-- ---- what only reads
 abbrev Reads : Step → Type 0
 Reads step = IsRead step.op
-
-read_stays : (op : Op) (m : Database) → IsRead op → after op m ≡ m
-read_stays (Get table key) m is = refl
-read_stays (Next table from) m is = refl
-read_stays (Scan table low high) m is = refl
-read_stays (Put table key value) m is = absurd is
-read_stays (Del table key) m is = absurd is
-
-reads_stay : (steps : List Step) (m : Database) → All Reads steps → after_all (ops_of steps) m ≡ m
-reads_stay steps m all = by steps m (recursion_from_All Reads steps all)
-  where
-    by : (ss : List Step) (n : Database) → AllByRecursion Reads ss → after_all (ops_of ss) n ≡ n
-    by [] n are = refl
-    by (s ∷ ss) n are = ap (λ (x : Database). after_all (ops_of ss) x) (read_stays s.op n are.0) ∙ by ss n are.1
 
 -- ---- the order of all, and that of the commits alone
 ascends_filter : (p : Committed → Bool) (xs : List Committed) → Ascends rank_of xs → Ascends rank_of (filter p xs)
@@ -108,7 +92,7 @@ module _ (commits others own order : List Committed) (low : (c : Committed) → 
         ⊎_elim
         (λ (is : is_commit c ≡ true). rest ∙ ap (λ (ds : List Committed). state_after ds m) (sym (cond-true (is_commit c) (c ∷ filter is_commit cs) (filter is_commit cs) is)))
         (λ (is : is_commit c ≡ false).
-        rest ∙ ap (λ (n : Database). state_after (filter is_commit cs) n) (reads_stay c.steps m (reads c (other_by c there is)))
+        rest ∙ ap (λ (n : Database). state_after (filter is_commit cs) n) (reads_leave c.steps m (reads c (other_by c there is)))
         ∙ ap (λ (ds : List Committed). state_after ds m) (sym (cond-false (is_commit c) (c ∷ filter is_commit cs) (filter is_commit cs) is)))
         (cases_Bool (is_commit c))
 

@@ -58,6 +58,7 @@ nothing_owed opening whole told none = record {
   looks = λ session begin s m. absurd (none_in_nil s m);
   waits = λ i l a at answered is. absurd (cc);
   refusals = λ i l a at answered own. absurd (cc);
+  saves = λ i l a at answered t current. absurd (cc);
   reads = λ i l at answered t own. absurd (cc);
 }
 

@@ -1,5 +1,6 @@
 -- The windows of the transactions that the report of an execution at once tells are tight.
 use Rattle.std.proofs.Common.{◌≡◌, ℕ, true, List, [], ◌∷◌, fold, map, inl, inr, refl, sym, ap, ◌∙◌, subst}
+use Rattle.erm_model.specs.declared.history.VersionWritten.{VersionWritten}
 use Rattle.erm_model.specs.declared.outcome.Phase.TheVariants.{Active, Idle}
 use Rattle.erm_model.specs.History.{Makes}
 use Rattle.erm_model.specs.Member.{◌∈◌}
@@ -39,7 +40,7 @@ use Rattle.erm_tight.proofs.Undecided.{IsOrderly, none_claimed}
 use Rattle.erm_tight.proofs.Whole.{KeyLaws}
 use Rattle.erm_tight_at_once.specs.Laws.{RunsAtOnceHaveTightWindows}
 use Rattle.erm_tight_at_once.proofs.Bounded.{bounded}
-use Rattle.erm_tight_at_once.proofs.Marked.{AreMarks, MarksOver}
+use Rattle.erm_tight_at_once.proofs.Marked.{AreMarks, MarksOver, now_rests}
 use Rattle.erm_tight_at_once.proofs.Walked.{run_marks}
 
 -- with their versions bounded
@@ -70,29 +71,32 @@ module _ (keys : KeyLaws) (laws : Laws) (histories : HistoryLaws) (begun : NoneR
   goes_last : (seat : ℕ) (session : IsSession v seat) → Continues ((run.own seat session).last.session seat) (f.session seat)
   goes_last seat session = let part = run.own seat session in continues_itself (part.last.session seat) (f.session seat) (sym part.ends)
 
-  first_marks : (seat : ℕ) → IsSession v seat → AreMarks nothing (v.session seat)
-  first_marks seat session = subst (λ (s : Session). AreMarks nothing s) (sym (run.opened.idle seat session)) (record { over = refl; now = tt })
+  first_marks : (seat : ℕ) → IsSession v seat → AreMarks nothing (v.saves seat) (v.session seat)
+  first_marks seat session = subst (λ (s : Session). AreMarks nothing (v.saves seat) s) (sym (run.opened.idle seat session)) (record { over = refl; now = tt })
 
   -- each session's transactions, as they are told
-  marks : (seat : ℕ) → IsSession f seat → AreMarks (progress_of seat said) (f.session seat)
+  held : (seat : ℕ) → IsSession f seat → List (List VersionWritten)
+  held seat session = (run.own seat (session_first seat session)).last.saves seat
+
+  marks : (seat : ℕ) (session : IsSession f seat) → AreMarks (progress_of seat said) (held seat session) (f.session seat)
   marks seat session =
       let first = session_first seat session in
       let part = run.own seat first in
       let range = lines_range script answers (map close_of closed) run.ranges (closes_range closed) in
       let all = run_marks keys laws begun stay f seat session holds (all_moves script answers closed) nothing Idle v part.last part.run range (goes_last seat first)
       (knows_start v seat (run.opened.idle seat first)) (first_marks seat first) in
-      subst (λ (list : List Said). AreMarks (progress_of seat list) (f.session seat)) (all_say script answers closed)
-      (subst (λ (s : Session). AreMarks (fold (hears seat) nothing (said_in (all_moves script answers closed))) s) part.ends all)
-
-  marked : (seat : ℕ) → IsSession f seat → IsMarked (progress_of seat said) (f.session seat)
-  marked seat session =
-      let its = marks seat session in record {
-        over = marked_over (progress_of seat said).over (f.session seat).over its.over (λ g m. bounded f run.ends seat session g.work g.fate m);
-        now = its.now;
-      }
+      subst (λ (list : List Said). AreMarks (progress_of seat list) (part.last.saves seat) (f.session seat)) (all_say script answers closed)
+      (subst (λ (s : Session). AreMarks (fold (hears seat) nothing (said_in (all_moves script answers closed))) (part.last.saves seat) s) part.ends all)
 
   idle_at : (seat : ℕ) → IsSession f seat → (f.session seat).stand ≡ world.idle
   idle_at seat session = idle_with (f.session seat).stand (run.idle seat session)
+
+  marked : (seat : ℕ) → IsSession f seat → IsMarked (progress_of seat said) (f.saves seat) (f.session seat)
+  marked seat session =
+      let its = marks seat session in record {
+        over = marked_over (progress_of seat said).over (f.session seat).over its.over (λ g m. bounded f run.ends seat session g.work g.fate m);
+        now = now_rests (progress_of seat said).current (held seat session) (f.saves seat) (f.session seat).stand (never_active (f.session seat).stand (idle_at seat session)) its.now;
+      }
 
   -- In the end no transaction is in progress, and one that was excluded has its numbers.
   orderly : IsOrderly f

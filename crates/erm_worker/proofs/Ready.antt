@@ -1,12 +1,17 @@
 -- What the next line finds, by how the last one was answered; and lines, as their commands were.
 use Rattle.std.proofs.Common.{◌≡◌, ℕ, true, Option, Some, None, Result, Ok, Err, IfOk, IfErr, IfSome, OnOk, refl, sym, ap, ◌∙◌, subst}
 use Rattle.erm_model.specs.declared.outcome.Receipt.{Receipt}
+use Rattle.erm_model.specs.declared.outcome.Phase.TheVariants.{Active}
+use Rattle.erm_model.specs.RowTransaction.{Law, SameLaw}
+use Rattle.erm_node.specs.Sound.{sound_law}
 use Rattle.erm_report.specs.declared.answer.Answer.{Answer}
 use Rattle.erm_script.specs.declared.script.Command.{Command}
 use Rattle.erm_script.specs.declared.script.Command.TheVariants as command
 use Rattle.erm_script.specs.declared.script.ScriptLine.{ScriptLine}
 use Rattle.erm_world.specs.Face.{Grows, same}
-use Rattle.erm_world.specs.World.{Session, View, phase_at}
+use Rattle.erm_world.specs.Laws.{IsLawfulWork}
+use Rattle.erm_world.specs.World.{Session, View, bare, phase_at, work_at}
+use Rattle.erm_world.proofs.Commits.{SameLaw-lawful}
 use Rattle.erm_good_report.specs.Phases.{HasNoSnapshot, refusal_of}
 use Rattle.erm_lines.specs.Answers.{KeepsReceipt}
 use Rattle.erm_lines.specs.Whole.{is_snapshot}
@@ -17,6 +22,10 @@ use Rattle.erm_worker.specs.Work.{GaveUp, IsReady, IsRunNow, RanLine, WasAsked, 
 use Rattle.erm_worker.proofs.Kept.{begun_snapshot_ready, decided_runs, grown_receipt, watched_ready}
 use Rattle.erm_worker.proofs.Left.{left_waiting, stood_left}
 use Rattle.erm_worker.proofs.Waits.{passes_phase}
+
+-- a transaction that is the run of some operations is lawful
+pub lawful_now : (law : Law) → SameLaw law sound_law → (v : View) (seat : ℕ) → phase_at v seat ≡ Active → IsRunNow v seat → IsLawfulWork law (work_at v seat)
+lawful_now law same v seat active run = (SameLaw-lawful law sound_law same (bare (work_at v seat))).1 (run active).1.lawful
 
 pub settled_ready : (seat : ℕ) (answered : Option Answer) (v t : View) (r x : Option Receipt) → WasSettled seat answered v t → KeepsReceipt v seat r t x → IsReady v seat r
     → IfSome answered (λ _. IsReady t seat x)
