@@ -36,6 +36,7 @@ up_from law v log serial of (inr busy) seat stamp w session sealed least =
 pub did_flush : (v t : View) (l m : Log) → IsLogOf v l → IsLogOf t m → KeepsSessions v t → l.flushed ≤ m.flushed → DidFlush v t
 did_flush v t l m before after keeps goes = record {
   session = keeps.session;
+  saves = keeps.saves;
   opening = keeps.opening;
   tail = keeps.tail;
   above = let old = before.flushed in let new = after.flushed in omega (arith, old, new, goes);
@@ -45,6 +46,7 @@ did_flush v t l m before after keeps goes = record {
 pub flushed_then : (v u t : View) → DidFlush v u → DidFlush u t → DidFlush v t
 flushed_then v u t first second = record {
   session = λ seat session. second.session seat (subst (λ (o : Opening). IsSession (record v { opening = o }) seat) (sym first.opening) session) ∙ first.session seat session;
+  saves = λ seat session. second.saves seat (subst (λ (o : Opening). IsSession (record v { opening = o }) seat) (sym first.opening) session) ∙ first.saves seat session;
   opening = second.opening ∙ first.opening;
   tail = second.tail ∙ first.tail;
   above = let low = first.above in let high = second.above in omega (arith, low, high);

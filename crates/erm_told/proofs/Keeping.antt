@@ -1,31 +1,19 @@
 -- Snapshots that were told safe stay so: the rows below their begin stamps stay, and each look is on these.
-use Rattle.std.proofs.Common.{◌≡◌, ◌⊎◌, ◌≢◌, ℕ, ◌==◌, ◌<◌, ◌≤◌, Bool, true, cond, fold, is_some, List, [], ◌∷◌, ◌++◌, Option, Some, None, IfSome, option_map, option_to_list, refl, sym, ap, ◌∙◌, subst, inl, inr, ⊎_elim, arith, eq-eqb, ne_eqb}
-use Rattle.std.proofs.lemmas.Bool.{cases_eq}
-use Rattle.erm_model.specs.declared.history.TransactionRecord.{TransactionRecord}
+use Rattle.std.proofs.Common.{◌≡◌, ℕ, ◌<◌, ◌≤◌, List, [], ◌∷◌, ◌++◌, Some, refl, sym, ap, ◌∙◌, subst, inl, inr, ⊎_elim, arith}
 use Rattle.erm_model.specs.declared.operation.Op.{Op}
 use Rattle.erm_model.specs.declared.operation.Op.TheVariants.{Get, Next, Scan}
-use Rattle.erm_model.specs.declared.operation.Reply.{Reply}
-use Rattle.erm_model.specs.declared.outcome.Phase.{Phase}
 use Rattle.erm_model.specs.Database.{Database}
-use Rattle.erm_model.specs.History.{HasNewestRows, History, IsNewestBelow, IsSnapshot, IsVersion}
+use Rattle.erm_model.specs.History.{HasNewestRows, IsNewestBelow, IsSnapshot, IsVersion}
 use Rattle.erm_model.specs.Member.{◌∈◌}
 use Rattle.erm_model.specs.Rows.{Rows}
 use Rattle.erm_model.specs.Run.{IsReply, IsReplyOn, RunsOne, Saving, Step, after, after_from, begins, ops_of}
-use Rattle.erm_model.proofs.Members.{none_in_nil}
 use Rattle.erm_model.proofs.Runs.{RunsOne-push}
-use Rattle.erm_machine.proofs.Listed.{∈-either, ∈-first, ∈-second}
-use Rattle.erm_node.specs.Sound.{IsSound, sound_law}
+use Rattle.erm_node.specs.Sound.{IsSound}
 use Rattle.erm_node.specs.TreeMap.{map_of_rows}
-use Rattle.erm_report.specs.declared.answer.Answer.{Answer}
-use Rattle.erm_report.specs.declared.answer.Answer.TheVariants as answer
-use Rattle.erm_script.specs.declared.script.Command.{Command}
-use Rattle.erm_script.specs.declared.script.Command.TheVariants as command
-use Rattle.erm_script.specs.declared.script.ScriptLine.{ScriptLine}
 use Rattle.erm_safe_laws.specs.Safe.{AreReadings, IsReading}
 use Rattle.erm_safe_world.specs.Moves.{IsOfNow, MovesOn}
 use Rattle.erm_world.specs.Safe.{IsSafeIn}
 use Rattle.erm_world.specs.World.{IsSession, IsWorking, Opening, View, Work, history_of}
-use Rattle.erm_lines.specs.Told.{StaysSafe}
 use Rattle.erm_told.specs.Snapshots.{IsKeptSafe}
 use Rattle.erm_good_report.specs.Transactions.{Snapshot, looks_of}
 

@@ -1,5 +1,5 @@
 -- Each move of an execution moves its world on.
-use Rattle.std.proofs.Common.{◌≡◌, ℕ, List, [], ◌∷◌, Option, Some, None, refl, sym, ap, ◌∙◌, subst, inl, arith, ⊎_elim}
+use Rattle.std.proofs.Common.{◌≡◌, ℕ, List, [], ◌∷◌, Option, Some, None, refl, sym, ap, subst, inl}
 use Rattle.erm_model.specs.declared.history.TransactionRecord.{TransactionRecord}
 use Rattle.erm_model.specs.declared.outcome.Outcome.{Outcome}
 use Rattle.erm_model.specs.declared.outcome.Outcome.TheVariants as outcome
@@ -23,13 +23,12 @@ use Rattle.erm_world.specs.Calls.{DidAbort, DidBegin, DidClaim, DidMake, DidNotC
 use Rattle.erm_world.specs.Safe.{DidBeginSafe, DidNotSafe, DidSafe, IsSafeIn}
 use Rattle.erm_world.specs.Saves.{DidSave, WentBack}
 use Rattle.erm_world.specs.World.{Finished, IsSession, IsWorking, Session, View, history_of, phase_at, phase_of}
-use Rattle.erm_world.specs.Laws.{IsCommitOf}
 use Rattle.erm_world.specs.World as world
 use Rattle.erm_world.proofs.Commits.{tells_commits}
 use Rattle.erm_world.proofs.Txns.{went}
 use Rattle.erm_safe_world.specs.Moves.{MovesOn}
-use Rattle.erm_good_report.specs.Phases.{HasNoSnapshot, NeedsAny, NeedsReader, NeedsWriter, refusal_of}
-use Rattle.erm_lines.specs.Answers.{DidAskBack, DidAskDurable, DidAskSave, DidAskSafe, DidAskSnapshot, DidAsked, DidClose, DidCommand, DidCommit, DidDecide, DidLine, DidOfSnapshot, DidOperation, WasRefusedAs}
+use Rattle.erm_good_report.specs.Phases.{HasNoSnapshot, NeedsReader, NeedsWriter, refusal_of}
+use Rattle.erm_lines.specs.Answers.{DidAskBack, DidAskSave, DidAskSafe, DidAskSnapshot, DidAsked, DidClose, DidCommand, DidCommit, DidDecide, DidLine, DidOfSnapshot, DidOperation, WasRefusedAs}
 use Rattle.erm_lines.specs.Executions.{DidEnd, DidFlush, DidMove, Move, close, flush, line, log}
 use Rattle.erm_lines.specs.Operations.{Ran}
 use Rattle.erm_lines.proofs.Moved.{active_where, asked_still, log_flushes}

@@ -19,10 +19,10 @@ use Rattle.erm_world.proofs.Txns.{stopped}
 use Rattle.erm_maps.specs.Runs.{IsAnswered, IsRunOf, WasRun, kept_at}
 use Rattle.erm_maps.proofs.GoingOn.{WasRun-from}
 use Rattle.erm_good_report.specs.Phases.{asks_safe, phase_after, phase_after_wait}
-use Rattle.erm_good_report.specs.Transactions.{Aborts, Ending, Excludes, Progress, Snapshot, Transaction, ended, goes_on, heard, held_of, op_of, reply_in, snapshot_after, steps_of, table_of, with_line, with_look}
+use Rattle.erm_good_report.specs.Transactions.{Aborts, Ending, Excludes, Progress, Snapshot, Transaction, ended, goes_on, heard, held_of, reply_in, snapshot_after, steps_of, table_of, with_line, with_look}
 use Rattle.erm_lines.specs.Answers.{DidOperation, WasRefusedAs, stop_told}
 use Rattle.erm_lines.specs.Operations.{AsksOf, DidCalls, FrontOf, WereCutOff, WholeOf}
-use Rattle.erm_lines.specs.Told.{EndsAs, Tells, TellsNow, TellsOver, TellsWatched}
+use Rattle.erm_lines.specs.Told.{EndsAs, TellsNow, TellsOver, TellsWatched}
 use Rattle.erm_told.proofs.Going.{continues_from}
 use Rattle.erm_told.proofs.Running.{GoesOn, active_in, over_still, over_then, ran_on, ran_saves}
 use Rattle.erm_told.proofs.Sessions.{aborted_told, active_told, look_after, none_watched, unchanged_told}
@@ -198,7 +198,7 @@ module _ (stay : (w u : Work) (steps : List Step) → Extends w u → IsAnswered
     refused_so a (stop.Excluded succ pred) told cut =
         subst At (the_answer (answer.ExcludedEarly succ pred) a told)
         (ends_so (answer.ExcludedEarly succ pred) (stop.Excluded succ pred) (Excludes None succ pred) cut refl refl tt refl (λ p. refl))
-    refused_so a stop.Memory told cut = cc
+    refused_so a stop.Memory told cut = absurd (cc (told))
 
     refused_as : (a : Answer) → WasRefusedAs v seat c a t → At a
     refused_as a (why, told, cut) = refused_so a why told cut

@@ -1,5 +1,5 @@
 -- In each execution the snapshots that were told safe stay so.
-use Rattle.std.proofs.Common.{◌≡◌, ◌≢◌, ℕ, ◌==◌, Bool, true, false, if◌then◌else◌, cond, fold, is_some, List, [], ◌∷◌, ◌++◌, Option, Some, None, IfSome, option_map, option_to_list, refl, sym, ap, ◌∙◌, subst, inl, inr, ⊎_elim, eq-eqb, ne_eqb}
+use Rattle.std.proofs.Common.{◌≡◌, ℕ, ◌==◌, Bool, true, false, if◌then◌else◌, cond, fold, is_some, List, [], ◌∷◌, ◌++◌, Option, Some, None, IfSome, option_map, option_to_list, refl, sym, ap, ◌∙◌, subst, inl, inr, ⊎_elim, eq-eqb, ne_eqb}
 use Rattle.std.specs.Option.{option_map_or}
 use Rattle.std.proofs.lemmas.Bool.{cases_eq}
 use Rattle.erm_model.specs.declared.operation.Op.{Op}
@@ -12,7 +12,6 @@ use Rattle.erm_model.specs.Member.{◌∈◌}
 use Rattle.erm_model.specs.Run.{Step}
 use Rattle.erm_model.proofs.Members.{none_in_nil}
 use Rattle.erm_machine.proofs.Listed.{∈-either}
-use Rattle.erm_node.specs.Sound.{sound_law}
 use Rattle.erm_report.specs.declared.answer.Answer.{Answer}
 use Rattle.erm_report.specs.declared.answer.Answer.TheVariants as answer
 use Rattle.erm_script.specs.declared.script.Command.{Command}
@@ -21,7 +20,7 @@ use Rattle.erm_script.specs.declared.script.ScriptLine.{ScriptLine}
 use Rattle.erm_safe_laws.specs.Safe.{IsReading}
 use Rattle.erm_safe_world.specs.Moves.{MovesOn}
 use Rattle.erm_world.specs.Going.{Extends}
-use Rattle.erm_world.specs.Safe.{HasSnapshot, IsSafeIn}
+use Rattle.erm_world.specs.Safe.{IsSafeIn}
 use Rattle.erm_world.specs.World.{IsSession, Session, Stand, View, Work, history_of, phase_at, phase_of, work_at, work_of}
 use Rattle.erm_world.specs.World as world
 use Rattle.erm_maps.specs.Runs.{IsAnswered}
@@ -31,12 +30,12 @@ use Rattle.erm_good_report.proofs.Phases.{answers_so}
 use Rattle.erm_lines.specs.Answers.{DidAskSafe, DidAsked, DidIn, DidLine, DidOfSnapshot}
 use Rattle.erm_lines.specs.Executions.{DidEnd, IsExecution, Move, close, flush, line, log, said_in}
 use Rattle.erm_lines.specs.Looks.{DidLook}
-use Rattle.erm_lines.specs.Told.{Tells, TellsWatch, TellsWatched}
+use Rattle.erm_lines.specs.Told.{Tells, TellsWatched}
 use Rattle.erm_lines.proofs.Keeping.{NoneRuns}
 use Rattle.erm_lines.proofs.Moved.{log_flushes, log_of_none}
 use Rattle.erm_lines.proofs.Watched.{has_phase, pending_where}
 use Rattle.erm_told.specs.Snapshots.{ExecutionsKeepSafe, IsKeptSafe}
-use Rattle.erm_told.proofs.Comes.{Comes, back_none, first_is, hears_comes, IsPlain, looks_with, replied_none, saved_none}
+use Rattle.erm_told.proofs.Comes.{Comes, back_none, hears_comes, IsPlain, looks_with, replied_none, saved_none}
 use Rattle.erm_told.proofs.Executed.{Knows, hears, knows_logged, knows_start, knows_still, knows_turn, still_session, turns}
 use Rattle.erm_told.proofs.Keeping.{kept_like, kept_new, kept_on, kept_with}
 use Rattle.erm_told.proofs.Lines.{in_either, turn_end, turn_line}

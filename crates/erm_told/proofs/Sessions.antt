@@ -10,7 +10,7 @@ use Rattle.erm_world.specs.World as world
 use Rattle.erm_maps.specs.Runs.{IsAnswered, WasRun}
 use Rattle.erm_good_report.specs.Phases.{asks_safe}
 use Rattle.erm_good_report.specs.Transactions.{Ending, Progress, Snapshot, Transaction, heard, next_number, snapshot_after, steps_of, with_ending, with_line, with_look, with_seal}
-use Rattle.erm_lines.specs.Told.{EndsAs, RanAs, Tells, TellsCurrent, TellsEnded, TellsNow, TellsOne, TellsOver, TellsSnapshot, TellsWatch, TellsWatched, TellsWork}
+use Rattle.erm_lines.specs.Told.{EndsAs, RanAs, Tells, TellsCurrent, TellsEnded, TellsNow, TellsOne, TellsOver, TellsSnapshot, TellsWatched, TellsWork}
 use Rattle.erm_told.proofs.Steps.{added, steps_with}
 
 -- as many are told as are over

@@ -117,7 +117,7 @@ named_on_map c asked named is = absurd (cc)
 
 pub held_on_map : (asked : Option Command) (a : Answer) (t : Transaction) (step : Step) → added asked a ≡ step ∷ [] → IsOnMap step.op → held_of (with_line asked a t) ≡ held_of t
 held_on_map asked a t step one on =
-    let then = held_then asked a t step one in then.1 ∙ ap length (on_map_saved step.op then.0 (staying_from op_done t.lines (begins [])) on)
+    let after = held_then asked a t step one in after.1 ∙ ap length (on_map_saved step.op after.0 (staying_from op_done t.lines (begins [])) on)
 
 -- a savepoint more, and a way back to one that is held
 pub held_saved : (t : Transaction) (held : ℕ) → held_of (with_line (Some command.Save) (answer.Saved held) t) ≡ held_of t + 1

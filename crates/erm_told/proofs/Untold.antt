@@ -15,7 +15,7 @@ use Rattle.erm_good_report.specs.Stamps.{DrawsUntold, IsWait, LiesAbove, LiesBel
 use Rattle.erm_good_report.specs.Transactions.{Said, Transaction, progress_of, said_of, stamp_of}
 use Rattle.erm_good_report.proofs.Phases.{phase_refuses}
 use Rattle.erm_good_report.proofs.Places.{Place, place_at, said_by}
-use Rattle.erm_lines.specs.Answers.{DidAsked, DidCommand, DidCommit, DidDecide, DidIn, DidLine, DidOfSnapshot}
+use Rattle.erm_lines.specs.Answers.{DidAsked, DidCommit, DidDecide, DidIn, DidLine, DidOfSnapshot}
 use Rattle.erm_lines.specs.Executions.{AreClosed, DidLog, DidLogLine, DidMove, IsCourse, line_moves, move_of}
 use Rattle.erm_lines.specs.Laws.{ExecutionsGoOn, ExecutionsTell}
 use Rattle.erm_lines.specs.Told.{TellsNow, TellsWork}

@@ -14,10 +14,9 @@ use Rattle.erm_world.specs.Snapshots.{snapshot_not_active}
 use Rattle.erm_world.specs.World.{Finished, Session, Stand, View, Work, phase_at, phase_of, work_at, work_of}
 use Rattle.erm_world.specs.World as world
 use Rattle.erm_good_report.specs.Phases.{phase_after, refusal_of}
-use Rattle.erm_good_report.specs.Transactions.{Aborts, Progress, Snapshot, Transaction, ended, goes_on, heard, next_number, own_snapshot, with_begin, with_end, with_ending, with_line, with_look}
+use Rattle.erm_good_report.specs.Transactions.{Aborts, Progress, Snapshot, Transaction, ended, heard, next_number, own_snapshot, with_end, with_ending, with_line, with_look}
 use Rattle.erm_lines.specs.Answers.{DidAskDurable, DidAskSafe, DidAskSnapshot, DidBeginAndAsk, DidOfSnapshot}
 use Rattle.erm_lines.specs.Told.{Tells, TellsNow, TellsOver, TellsSnapshot, TellsWatch, TellsWatched}
-use Rattle.erm_lines.specs.Whole.{is_snapshot}
 use Rattle.erm_lines.proofs.Watched.{begun_pending, has_phase, pending_where}
 use Rattle.erm_told.proofs.Going.{continues_from, continues_then}
 use Rattle.erm_told.proofs.Sessions.{ended_told, look_watched, next_is, now_none, now_watching, unchanged_told, watched_none}

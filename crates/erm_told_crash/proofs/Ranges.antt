@@ -22,9 +22,10 @@ use Rattle.erm_good_report.specs.Phases.{HasNoSnapshot, NeedsReader, NeedsWriter
 use Rattle.erm_lines.specs.Answers.{DidAskSafe, DidAskSnapshot, DidAsked, DidClose, DidCommand, DidDecide, DidLine, DidOfSnapshot, DidOperation, WasRefusedAs}
 use Rattle.erm_lines.specs.Executions.{DidFlush, IsExecution, IsOpened, Move, close, flush, line, log}
 use Rattle.erm_lines.proofs.Moved.{active_where, asked_still, log_flushes}
+use Rattle.erm_lines.proofs.Saved.{Saves, saved, went_back}
 use Rattle.erm_lines.proofs.Watched.{in_phase}
 use Rattle.erm_told.proofs.Executed.{still_session}
-use Rattle.erm_told.proofs.Running.{ran_on}
+use Rattle.erm_told.proofs.Running.{active_in, ran_on}
 use Rattle.erm_told_crash.specs.Laws.{RangesStandApart, StandApart}
 
 -- the session's transaction of this stamp
@@ -184,6 +185,12 @@ operated v seat c (answer.Replied r) t active (op, is, did) = went v seat t (ran
 operated v seat c (answer.Cut cells) t active (is, few, did) = went v seat t (ran_on v seat did.events t active did.ran).goes
 operated v seat c a t active did = cut v seat c a t active did
 
+-- a savepoint was made, or gone back to
+savepoint : (v : View) (seat : ℕ) (t : View) → phase_at v seat ≡ Active → Saves v seat t → Draws v t
+savepoint v seat t active goes =
+    of_one v seat t goes.others goes.opening (omega (arith, goes.tail))
+    (λ w stamp has. inl (works_keeps (v.session seat) (t.session seat) (work_at t seat) goes.over (active_in (t.session seat).stand (goes.active active)) w stamp has))
+
 decides : (v : View) (seat : ℕ) (a : Answer) (t : View) → DidDecide v seat a t → Draws v t
 decides v seat (answer.Committed at succ pred) t (r, at_is, after, before, (w, own, stand, ready, settled)) =
     decided v seat w (world.commits own r.succ r.pred) own t stand refl settled.0
@@ -235,6 +242,8 @@ command_apart v seat (command.Del table key) a t none plain did = apart_then v t
 command_apart v seat (command.Next table from) a t none plain did = apart_then v t (operated v seat (command.Next table from) a t (active_where NeedsReader (phase_at v seat) tt plain none) did)
 command_apart v seat (command.Scan table low high) a t none plain did = apart_then v t (operated v seat (command.Scan table low high) a t (active_where NeedsReader (phase_at v seat) tt plain none) did)
 command_apart v seat (command.Tidy table key) a t none plain did = apart_then v t (operated v seat (command.Tidy table key) a t (active_where NeedsWriter (phase_at v seat) tt plain none) did)
+command_apart v seat command.Save a t none plain did = apart_then v t (savepoint v seat t (active_where NeedsWriter (phase_at v seat) tt plain none) (saved v t seat a did))
+command_apart v seat (command.Back n) a t none plain did = apart_then v t (savepoint v seat t (active_where NeedsWriter (phase_at v seat) tt plain none) (went_back v t seat n a did))
 command_apart v seat command.Durable a t none plain did = apart_then v t (still v t (asked_still v t seat a did))
 command_apart v seat c a t none plain did = absurd did
 
