@@ -1,7 +1,6 @@
 -- The snapshots that ended run among the commits told.
-use Rattle.std.proofs.Common.{◌≡◌, ℕ, zero, suc, ◌+◌, ◌*◌, ◌-◌, ◌^◌, ◌<◌, ◌≤◌, Bool, true, false, if◌then◌else◌, List, [], ◌∷◌, ◌++◌, Option, Some, None, IfSome, option_map, filter_map, slice_get, refl, sym, ap, ◌∙◌, subst, inl, ⊎_elim, arith}
+use Rattle.std.proofs.Common.{◌≡◌, ℕ, ◌<◌, ◌≤◌, Bool, true, false, if◌then◌else◌, List, [], ◌∷◌, ◌++◌, Option, Some, None, IfSome, option_map, filter_map, refl, ap, ◌∙◌, subst, inl, ⊎_elim, arith}
 use Rattle.std.specs.List.{cons_option}
-use Rattle.erm_model.specs.declared.history.TransactionRecord.{TransactionRecord}
 use Rattle.erm_model.specs.declared.limits.TheConstants.{LAST_NUMBER, LOG_END, SESSIONS}
 use Rattle.erm_model.specs.Committed.{Committed, RunsInOrder, rank_of, state_after}
 use Rattle.erm_model.specs.Database.{Database}
@@ -9,15 +8,13 @@ use Rattle.erm_model.specs.Member.{◌∈◌}
 use Rattle.erm_model.specs.SerialOrder.{IsSerialOrder}
 use Rattle.erm_model.proofs.Members.{none_in_nil, ∈-behind}
 use Rattle.erm_machine.proofs.Listed.{∈-cons, ∈-first, ∈-head, ∈-map}
-use Rattle.erm_node.specs.Sound.{sound_law}
-use Rattle.erm_node.specs.TreeMap.{map_of_rows}
 use Rattle.erm_safe_laws.specs.Safe.{AreCommits, IsSafeSnapshot}
 use Rattle.erm_world.specs.World.{IsSession, View}
 use Rattle.erm_world.specs.World as world
-use Rattle.erm_maps.specs.Runs.{Told, told_commit, told_commits}
+use Rattle.erm_maps.specs.Runs.{told_commit, told_commits}
 use Rattle.erm_good_report.specs.Transactions.{Said, Snapshot, ended_as, ended_of, history_of, placed_at, progress_of, rank_stamp}
 use Rattle.erm_told.proofs.Reported.{ended_at}
-use Rattle.erm_told_order.specs.Told.{AreKeptSafe, IsTold, ToldAreSerial, ToldAreSerialWithSnapshots, ToldHaveSafeSnapshots, told_in}
+use Rattle.erm_told_order.specs.Told.{IsTold, ToldAreSerial, ToldAreSerialWithSnapshots, ToldHaveSafeSnapshots, told_in}
 use Rattle.erm_told_order.proofs.Orders.{commits_told}
 use Rattle.erm_told_order.proofs.Places.{stands_at, told_by}
 use Rattle.std.specs.Option.{option_to_list}

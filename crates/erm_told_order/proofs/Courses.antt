@@ -9,25 +9,22 @@ use Rattle.erm_report.specs.declared.answer.Answer.{Answer}
 use Rattle.erm_report.specs.declared.answer.Answer.TheVariants as answer
 use Rattle.erm_script.specs.declared.script.Command.{Command}
 use Rattle.erm_script.specs.declared.script.Command.TheVariants as command
-use Rattle.erm_script.specs.declared.script.ScriptLine.{ScriptLine}
 use Rattle.erm_world.specs.Laws.{IsSerializable}
 use Rattle.erm_world.specs.World.{IsCurrent, IsSession, Opening, Session, Stand, View, Work}
 use Rattle.erm_world.specs.World as world
 use Rattle.erm_good_report.specs.GoodReport.{places_of}
-use Rattle.erm_good_report.specs.Phases.{Closed}
-use Rattle.erm_good_report.specs.Transactions.{HasSnapshot, Progress, Said, Snapshot, heard, history_of, nothing, progress_of, said_of, transactions_of}
-use Rattle.erm_lines.specs.Executions.{AreClosed, DidLog, IsCourse, IsExecution, IsOpeningOf, Move, close, flush, line, line_moves, log, said_in}
-use Rattle.erm_lines.specs.Laws.{ExecutionsGoOn, ExecutionsTell, OfCourses}
+use Rattle.erm_good_report.specs.Transactions.{HasSnapshot, Progress, Said, Snapshot, heard, history_of, nothing, progress_of, transactions_of}
+use Rattle.erm_lines.specs.Executions.{DidLog, IsExecution, Move, close, flush, line, line_moves, log, said_in}
+use Rattle.erm_lines.specs.Laws.{ExecutionsGoOn, ExecutionsTell}
 use Rattle.erm_lines.specs.Told.{Tells, TellsWatched}
 use Rattle.erm_told.specs.Snapshots.{ExecutionsKeepSafe, IsKeptSafe}
-use Rattle.erm_told.proofs.Ended.{at_end, end_tells, opening_is}
+use Rattle.erm_told.proofs.Ended.{opening_is}
 use Rattle.erm_told.proofs.Executed.{hears, still_session}
 use Rattle.erm_told.proofs.Keeping.{kept_on}
 use Rattle.erm_told.proofs.Moving.{MovingLaws, move_moves}
 use Rattle.erm_told.proofs.Reported.{ended_at, in_option}
 use Rattle.erm_told.proofs.Runs.{said_lines, serializable_then}
-use Rattle.erm_told.proofs.Watching.{watching}
-use Rattle.erm_told_order.specs.Told.{CoursesKeepSnapshots, IsRepliedSafely, IsTold, ToldHaveSafeSnapshots}
+use Rattle.erm_told_order.specs.Told.{CoursesKeepSnapshots, IsRepliedSafely, ToldHaveSafeSnapshots}
 use Rattle.erm_told_order.proofs.Ends.{end_map, is_told}
 
 -- NONE ELSE. Nothing is told of a number that is no session's.

@@ -1,10 +1,8 @@
 -- Snapshots that are kept safe: they are safe among the commits told, and are replied to as on the state below their begin stamps.
-use Rattle.std.proofs.Common.{◌≡◌, ℕ, ◌<◌, ◌≤◌, List, refl, sym, ap, ◌∙◌, subst, arith}
-use Rattle.erm_model.specs.declared.history.TransactionRecord.{TransactionRecord}
+use Rattle.std.proofs.Common.{◌≡◌, ℕ, ◌<◌, List, sym, ap, subst, arith}
 use Rattle.erm_model.specs.Committed.{Committed, HasSnapshotReplies}
 use Rattle.erm_model.specs.Database.{Database}
 use Rattle.erm_model.specs.History.{HasNewestRows, History, IsCertified, IsSnapshot}
-use Rattle.erm_model.specs.Member.{◌∈◌}
 use Rattle.erm_model.specs.Rows.{Rows}
 use Rattle.erm_model.specs.Run.{RunsOne, Step}
 use Rattle.erm_model.specs.Safe.{IsSafeAt}
@@ -17,10 +15,8 @@ use Rattle.erm_world.specs.World.{IsSession, View}
 use Rattle.erm_world.specs.World as world
 use Rattle.erm_maps.specs.Runs.{AreRuns, Told, told_commit, told_commits}
 use Rattle.erm_good_report.specs.Snapshots.{IsSafeAmong}
-use Rattle.erm_good_report.specs.Transactions.{Progress, Snapshot, history_of, looks_of, progress_of}
-use Rattle.erm_lines.specs.Told.{Tells}
-use Rattle.erm_told.specs.Snapshots.{IsKeptSafe}
-use Rattle.erm_told_order.specs.Told.{IsRepliedSafely, IsTold, ToldHaveSafeSnapshots, told_in}
+use Rattle.erm_good_report.specs.Transactions.{history_of, looks_of, progress_of}
+use Rattle.erm_told_order.specs.Told.{IsRepliedSafely, ToldHaveSafeSnapshots, told_in}
 use Rattle.erm_told_order.proofs.Orders.{are_runs, commits_told}
 use Rattle.erm_told_order.proofs.Places.{told_by}
 
