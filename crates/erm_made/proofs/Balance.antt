@@ -206,6 +206,8 @@ module _ (m : ℕ) where
     step (command.Next table from) known w st fits looks calm go = absurd w
     step (command.Scan table low high) known w st fits looks calm go = absurd w
     step (command.Tidy table key) known w st fits looks calm go = absurd w
+    step command.Save known w st fits looks calm go = absurd w
+    step (command.Back n) known w st fits looks calm go = absurd w
     step command.Seal known w st fits looks calm go = absurd w
     step command.Settle known w st fits looks calm go = absurd w
     step command.Abort known w st fits looks calm go = absurd w

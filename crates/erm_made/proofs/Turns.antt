@@ -54,6 +54,8 @@ not_stuck m answer.ReadOnly cause calm = calm
 not_stuck m answer.NotSafe cause calm = calm
 not_stuck m (answer.Replied x) cause calm = calm
 not_stuck m (answer.Cut x) cause calm = calm
+not_stuck m (answer.Saved x) cause calm = calm
+not_stuck m (answer.Back x) cause calm = calm
 not_stuck m (answer.Sealed x) cause calm = calm
 not_stuck m (answer.Committed x y z) cause calm = calm
 not_stuck m (answer.Excluded x y z) cause calm = calm
@@ -77,6 +79,8 @@ not_stuck m answer.ReadsFull cause calm = calm
 not_stuck m answer.WritesFull cause calm = calm
 not_stuck m (answer.CellsFull x) cause calm = calm
 not_stuck m (answer.OidsFull x) cause calm = calm
+not_stuck m answer.SavesFull cause calm = calm
+not_stuck m (answer.NoSave x) cause calm = calm
 not_stuck m (answer.NotFlushed x) cause calm = calm
 not_stuck m answer.NoReceipt cause calm = calm
 not_stuck m (answer.Unfilled x) cause calm = calm
@@ -93,6 +97,8 @@ get_active table key answer.ReadOnly is = record { unsealed = tt; balance = refl
 get_active table key answer.NotSafe is = record { unsealed = tt; balance = refl }
 get_active table key (answer.Replied x) is = record { unsealed = tt; balance = refl }
 get_active table key (answer.Cut x) is = record { unsealed = tt; balance = refl }
+get_active table key (answer.Saved x) is = absurd is
+get_active table key (answer.Back x) is = absurd is
 get_active table key (answer.Sealed x) is = absurd is
 get_active table key (answer.Committed x y z) is = record { unsealed = tt; balance = refl }
 get_active table key (answer.Excluded x y z) is = record { unsealed = tt; balance = refl }
@@ -116,6 +122,8 @@ get_active table key answer.ReadsFull is = record { unsealed = tt; balance = ref
 get_active table key answer.WritesFull is = record { unsealed = tt; balance = refl }
 get_active table key (answer.CellsFull x) is = record { unsealed = tt; balance = refl }
 get_active table key (answer.OidsFull x) is = record { unsealed = tt; balance = refl }
+get_active table key answer.SavesFull is = record { unsealed = tt; balance = refl }
+get_active table key (answer.NoSave x) is = record { unsealed = tt; balance = refl }
 get_active table key (answer.NotFlushed x) is = record { unsealed = tt; balance = refl }
 get_active table key answer.NoReceipt is = record { unsealed = tt; balance = refl }
 get_active table key (answer.Unfilled x) is = record { unsealed = tt; balance = refl }
@@ -130,6 +138,8 @@ put_active table key value answer.ReadOnly is = record { unsealed = tt; balance 
 put_active table key value answer.NotSafe is = record { unsealed = tt; balance = refl }
 put_active table key value (answer.Replied x) is = record { unsealed = tt; balance = refl }
 put_active table key value (answer.Cut x) is = record { unsealed = tt; balance = refl }
+put_active table key value (answer.Saved x) is = absurd is
+put_active table key value (answer.Back x) is = absurd is
 put_active table key value (answer.Sealed x) is = absurd is
 put_active table key value (answer.Committed x y z) is = record { unsealed = tt; balance = refl }
 put_active table key value (answer.Excluded x y z) is = record { unsealed = tt; balance = refl }
@@ -153,6 +163,8 @@ put_active table key value answer.ReadsFull is = record { unsealed = tt; balance
 put_active table key value answer.WritesFull is = record { unsealed = tt; balance = refl }
 put_active table key value (answer.CellsFull x) is = record { unsealed = tt; balance = refl }
 put_active table key value (answer.OidsFull x) is = record { unsealed = tt; balance = refl }
+put_active table key value answer.SavesFull is = record { unsealed = tt; balance = refl }
+put_active table key value (answer.NoSave x) is = record { unsealed = tt; balance = refl }
 put_active table key value (answer.NotFlushed x) is = record { unsealed = tt; balance = refl }
 put_active table key value answer.NoReceipt is = record { unsealed = tt; balance = refl }
 put_active table key value (answer.Unfilled x) is = record { unsealed = tt; balance = refl }
@@ -167,6 +179,8 @@ begin_idle answer.Ended is calm = absurd is
 begin_idle answer.ReadOnly is calm = absurd is
 begin_idle answer.NotSafe is calm = absurd is
 begin_idle (answer.Cut x) is calm = absurd is
+begin_idle (answer.Saved x) is calm = absurd is
+begin_idle (answer.Back x) is calm = absurd is
 begin_idle (answer.Sealed x) is calm = absurd is
 begin_idle (answer.Committed x y z) is calm = absurd is
 begin_idle (answer.Excluded x y z) is calm = absurd is
@@ -190,6 +204,8 @@ begin_idle answer.ReadsFull is calm = absurd is
 begin_idle answer.WritesFull is calm = absurd is
 begin_idle (answer.CellsFull x) is calm = absurd is
 begin_idle (answer.OidsFull x) is calm = absurd is
+begin_idle answer.SavesFull is calm = absurd is
+begin_idle (answer.NoSave x) is calm = absurd is
 begin_idle (answer.NotFlushed x) is calm = absurd is
 begin_idle answer.NoReceipt is calm = absurd is
 begin_idle (answer.Unfilled x) is calm = absurd is
@@ -209,6 +225,8 @@ commit_active answer.Ended is looks calm = absurd looks
 commit_active answer.ReadOnly is looks calm = absurd is
 commit_active answer.NotSafe is looks calm = absurd is
 commit_active (answer.Cut x) is looks calm = absurd is
+commit_active (answer.Saved x) is looks calm = absurd is
+commit_active (answer.Back x) is looks calm = absurd is
 commit_active (answer.Sealed x) is looks calm = absurd is
 commit_active (answer.Committed x y z) is looks calm = record { turn = record { unsealed = tt; balance = refl }; idle = refl }
 commit_active (answer.Excluded x y z) is looks calm = record { turn = record { unsealed = tt; balance = refl }; idle = refl }
@@ -232,6 +250,8 @@ commit_active answer.ReadsFull is looks calm = absurd is
 commit_active answer.WritesFull is looks calm = absurd is
 commit_active (answer.CellsFull x) is looks calm = absurd is
 commit_active (answer.OidsFull x) is looks calm = absurd is
+commit_active answer.SavesFull is looks calm = absurd is
+commit_active (answer.NoSave x) is looks calm = absurd is
 commit_active (answer.NotFlushed x) is looks calm = absurd is
 commit_active answer.NoReceipt is looks calm = absurd is
 commit_active (answer.Unfilled x) is looks calm = absurd is
@@ -251,6 +271,8 @@ flush_answered phase answer.Ended unsealed_yet is = absurd is
 flush_answered phase answer.ReadOnly unsealed_yet is = absurd is
 flush_answered phase answer.NotSafe unsealed_yet is = absurd is
 flush_answered phase (answer.Cut x) unsealed_yet is = absurd is
+flush_answered phase (answer.Saved x) unsealed_yet is = absurd is
+flush_answered phase (answer.Back x) unsealed_yet is = absurd is
 flush_answered phase (answer.Sealed x) unsealed_yet is = absurd is
 flush_answered phase (answer.Committed x y z) unsealed_yet is = absurd is
 flush_answered phase (answer.Excluded x y z) unsealed_yet is = absurd is
@@ -274,6 +296,8 @@ flush_answered phase answer.ReadsFull unsealed_yet is = absurd is
 flush_answered phase answer.WritesFull unsealed_yet is = absurd is
 flush_answered phase (answer.CellsFull x) unsealed_yet is = absurd is
 flush_answered phase (answer.OidsFull x) unsealed_yet is = absurd is
+flush_answered phase answer.SavesFull unsealed_yet is = absurd is
+flush_answered phase (answer.NoSave x) unsealed_yet is = absurd is
 flush_answered phase (answer.NotFlushed x) unsealed_yet is = absurd is
 flush_answered phase answer.NoReceipt unsealed_yet is = absurd is
 flush_answered phase (answer.Unfilled x) unsealed_yet is = record { turn = record { unsealed = unsealed_yet; balance = omega arith }; same = refl }

@@ -52,6 +52,8 @@ module _ (m total : ℕ) where
   anew_on (command.Next table from) s k begun rs more w = absurd w
   anew_on (command.Scan table low high) s k begun rs more w = absurd w
   anew_on (command.Tidy table key) s k begun rs more w = absurd w
+  anew_on command.Save s k begun rs more w = absurd w
+  anew_on (command.Back n) s k begun rs more w = absurd w
   anew_on command.Seal s k begun rs more w = absurd w
   anew_on command.Settle s k begun rs more w = absurd w
   anew_on command.Abort s k begun rs more w = absurd w

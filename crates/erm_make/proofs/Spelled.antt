@@ -63,6 +63,8 @@ given_lack c (command.Next table from) apart ok = (table_lacks c table apart ok.
 given_lack c (command.Scan table low high) apart ok =
     (table_lacks c table apart ok.0.0, (number_lacks c low apart ok.0.1, (number_lacks c high apart ok.1, tt)))
 given_lack c (command.Tidy table key) apart ok = (table_lacks c table apart ok.0, (number_lacks c key apart ok.1, tt))
+given_lack c command.Save apart ok = tt
+given_lack c (command.Back n) apart ok = (number_lacks c n apart (omega (arith, ok)), tt)
 given_lack c command.Seal apart ok = tt
 given_lack c command.Settle apart ok = tt
 given_lack c command.Commit apart ok = tt
@@ -92,6 +94,8 @@ wordly keyword.Del = record { space = refl; end = refl; kept = λ rest. refl }
 wordly keyword.Next = record { space = refl; end = refl; kept = λ rest. refl }
 wordly keyword.Scan = record { space = refl; end = refl; kept = λ rest. refl }
 wordly keyword.Tidy = record { space = refl; end = refl; kept = λ rest. refl }
+wordly keyword.Save = record { space = refl; end = refl; kept = λ rest. refl }
+wordly keyword.Back = record { space = refl; end = refl; kept = λ rest. refl }
 wordly keyword.Seal = record { space = refl; end = refl; kept = λ rest. refl }
 wordly keyword.Settle = record { space = refl; end = refl; kept = λ rest. refl }
 wordly keyword.Commit = record { space = refl; end = refl; kept = λ rest. refl }
@@ -135,6 +139,8 @@ lone_given (command.Del table key) unnamed = cc
 lone_given (command.Next table from) unnamed = cc
 lone_given (command.Scan table low high) unnamed = cc
 lone_given (command.Tidy table key) unnamed = cc
+lone_given command.Save unnamed = cc
+lone_given (command.Back n) unnamed = cc
 lone_given command.Seal unnamed = cc
 lone_given command.Settle unnamed = cc
 lone_given command.Commit unnamed = cc

@@ -74,6 +74,8 @@ fn word(command: &Command) -> &'static [u8]
         Command::Next { .. } => b"next".as_slice(),
         Command::Scan { .. } => b"scan".as_slice(),
         Command::Tidy { .. } => b"tidy".as_slice(),
+        Command::Save => b"save".as_slice(),
+        Command::Back { .. } => b"back".as_slice(),
         Command::Seal => b"seal".as_slice(),
         Command::Settle => b"settle".as_slice(),
         Command::Commit => b"commit".as_slice(),
@@ -101,6 +103,7 @@ fn push_arguments(text: &mut Vec<u8>, command: &Command) -> Result<(), AllocErro
             push_number(text, *high)
         }
         Command::Tidy { table, key } => push_key(text, *table, *key),
+        Command::Back { n } => push_number(text, u64::from(*n)),
         _ => Ok(()),
     }
 }
