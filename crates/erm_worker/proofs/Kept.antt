@@ -1,11 +1,9 @@
 -- A session's transaction in progress stays the run of some operations, and its receipt that of its last commit, whatever a line does.
-use Rattle.std.proofs.Common.{◌≡◌, ℕ, true, false, Bool, List, [], ◌∷◌, ◌++◌, Option, Some, None, Result, Ok, Err, IfOk, OnOk, refl, sym, ap, ◌∙◌, subst}
-use Rattle.erm_model.specs.declared.history.VersionWritten.{VersionWritten}
+use Rattle.std.proofs.Common.{◌≡◌, ℕ, ◌+◌, true, false, Bool, List, [], ◌∷◌, ◌++◌, length, Option, Some, None, Result, Ok, Err, IfOk, OnOk, refl, sym, ap, ◌∙◌, subst}
 use Rattle.erm_model.specs.declared.outcome.Phase.TheVariants.{Active, Idle}
 use Rattle.erm_model.specs.declared.outcome.Receipt.{Receipt}
 use Rattle.erm_model.specs.declared.row_stop.RowStop.{RowStop}
 use Rattle.erm_model.specs.RowTransaction.{ends}
-use Rattle.erm_model.specs.Run.{Step}
 use Rattle.erm_report.specs.declared.answer.Answer.{Answer}
 use Rattle.erm_report.specs.declared.answer.Answer.TheVariants as answer
 use Rattle.erm_script.specs.declared.script.Command.{Command}
@@ -88,7 +86,7 @@ module _ (none : NoneRuns) (f : View) (seat : ℕ) (v t : View) (r : Option Rece
   pub begun_ready : (a : Answer) → phase_at v seat ≡ Idle → DidCommandBeside f seat command.Begin a v t → IsReady t seat r
   begun_ready (answer.Began stamp) idle (u, passes, did) = record {
     run = begun_runs none t seat _ stamp (ap (λ (s : Session). s.stand) did.2.own)
-        (begins_bare _ (u.session seat).stand (t.saves seat) (u.saves seat) (ap (λ (s : Session). phase_of s.stand) passes.own ∙ idle) did.2.saves.own);
+        (begins_bare (begun (length (u.session seat).over + 1) stamp) (u.session seat).stand (t.saves seat) (u.saves seat) (ap (λ (s : Session). phase_of s.stand) passes.own ∙ idle) did.2.saves.own);
     receipt = over_receipt (v.session seat) (t.session seat) r (ap (λ (s : Session). s.over) did.2.own ∙ ap (λ (s : Session). s.over) passes.own) ready.receipt;
   }
   begun_ready (answer.LogEnd tail) idle (u, passes, did) = still_ready v u t seat r passes did.0 ready
@@ -121,6 +119,11 @@ module _ (none : NoneRuns) (f : View) (seat : ℕ) (v t : View) (r : Option Rece
         (ap (λ (s : Session). s.over) did.own ∙ ap (λ (s : Session). s.over ++ record { work = work_at u seat; fate = world.aborts } ∷ []) passes.own) ready.receipt;
   }
   aborted_ready a did = absurd did
+
+  pub durable_ready : (a : Answer) → DidCommandBeside f seat command.Durable a v t → IsReady t seat r
+  durable_ready (answer.Durable stamp) (u, passes, did) = still_ready v u t seat r passes did.0 ready
+  durable_ready answer.NoReceipt (u, passes, did) = still_ready v u t seat r passes did.0 ready
+  durable_ready a did = absurd did
 
 -- SNAPSHOTS. No transaction is in progress beside one.
 snapshot_runs : (v : View) (seat : ℕ) (x : Snapshot) → (v.session seat).stand ≡ world.snapshot x → IsRunNow v seat

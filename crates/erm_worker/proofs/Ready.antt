@@ -15,22 +15,28 @@ use Rattle.erm_world.proofs.Commits.{SameLaw-lawful}
 use Rattle.erm_good_report.specs.Phases.{HasNoSnapshot, refusal_of}
 use Rattle.erm_lines.specs.Answers.{KeepsReceipt}
 use Rattle.erm_lines.specs.Whole.{is_snapshot}
+use Rattle.erm_lines.proofs.Keeping.{NoneRuns}
 use Rattle.erm_lines.proofs.Watched.{snapshot_rests}
 use Rattle.erm_lines_at_once.specs.Answers.{WasAnsweredBeside}
 use Rattle.erm_lines_at_once.proofs.Watched.{plain_line, refused_line as refused_one, snapshot_line}
 use Rattle.erm_worker.specs.Work.{GaveUp, IsReady, IsRunNow, RanLine, WasAsked, WasSettled, WasWatched}
-use Rattle.erm_worker.proofs.Kept.{begun_snapshot_ready, decided_runs, grown_receipt, watched_ready}
+use Rattle.erm_worker.proofs.Kept.{begun_snapshot_ready, decided_runs, durable_ready, grown_receipt, watched_ready}
 use Rattle.erm_worker.proofs.Left.{left_waiting, stood_left}
 use Rattle.erm_worker.proofs.Waits.{passes_phase}
 
 -- a transaction that is the run of some operations is lawful
 pub lawful_now : (law : Law) → SameLaw law sound_law → (v : View) (seat : ℕ) → phase_at v seat ≡ Active → IsRunNow v seat → IsLawfulWork law (work_at v seat)
-lawful_now law same v seat active run = (SameLaw-lawful law sound_law same (bare (work_at v seat))).1 (run active).1.lawful
+lawful_now law as_sound v seat active run = (SameLaw-lawful law sound_law as_sound (bare (work_at v seat))).1 (run active).1.lawful
 
 pub settled_ready : (seat : ℕ) (answered : Option Answer) (v t : View) (r x : Option Receipt) → WasSettled seat answered v t → KeepsReceipt v seat r t x → IsReady v seat r
     → IfSome answered (λ _. IsReady t seat x)
 settled_ready seat None v t r x settled kept ready = tt
 settled_ready seat (Some a) v t r x settled kept ready = record { run = decided_runs seat a v t settled.1; receipt = kept ready.receipt }
+
+pub flushed_ready : (none : NoneRuns) (f : View) (seat : ℕ) (answered : Option Answer) (v t : View) (r : Option Receipt) → WasAsked f seat command.Durable answered v t → IsReady v seat r
+    → IfSome answered (λ _. IsReady t seat r)
+flushed_ready none f seat None v t r asked ready = tt
+flushed_ready none f seat (Some a) v t r asked ready = durable_ready none f seat v t r ready a asked.did
 
 pub committed_ready : (f : View) (seat : ℕ) (answered : Option Answer) (v t : View) (r x : Option Receipt) → WasAsked f seat command.Commit answered v t → KeepsReceipt v seat r t x
     → IsReady v seat r → IfSome answered (λ _. IsReady t seat x)

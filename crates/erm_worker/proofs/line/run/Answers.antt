@@ -11,7 +11,7 @@ use Rattle.erm_lines_at_once.specs.Answers.{WasAnsweredBeside}
 use Rattle.erm_worker.specs.Work.{IsReady, WasAsked}
 use Rattle.erm_worker.proofs.Asked.{operates}
 use Rattle.erm_worker.proofs.Kept.{aborted_ready, back_ready, begun_ready, saved_ready, sealed_ready}
-use Rattle.erm_worker.proofs.Ready.{committed_ready, operated_ready, same_grown, snapshot_ready}
+use Rattle.erm_worker.proofs.Ready.{committed_ready, flushed_ready, operated_ready, same_grown, snapshot_ready}
 use Rattle.erm_worker.proofs.Short.{on_err}
 use Rattle.erm_worker.proofs.line.run.Goals as goal
 
@@ -156,6 +156,12 @@ returns-in-Abort-clause-ready g c =
     let seat = g.S.SharedSession.seat c.args.session.now in
     let v = g.S.SharedSession.own c.args.session.now in
     aborted_ready c.begun_transactions_are_runs.ensures v seat v (g.S.SharedSession.own c.abort.new.session) c.args.receipt.now c.requires.ready c.abort.result (c.abort.ensures.answered v).did
+
+pub returns-in-Durable-clause-ready : goal.returns-in-Durable-clause-ready
+returns-in-Durable-clause-ready g c =
+    let seat = g.S.SharedSession.seat c.args.session.now in
+    let v = g.S.SharedSession.own c.args.session.now in
+    flushed_ready c.begun_transactions_are_runs.ensures v seat c.durable.result v (g.S.SharedSession.own c.durable.new.session) c.args.receipt.now (c.durable.ensures.asked v) c.requires.ready
 
 pub returns-in_default : goal.returns-in_default
 returns-in_default g c =
