@@ -18,11 +18,11 @@ use Rattle.erm_worker.specs.Work.{IsReady}
 use Rattle.erm_world.specs.World.{View}
 
 -- it is ready for its first line
-none_begun : (o : Opening) (seat : ℕ) → IsReady ((opened_view (start_of o)).session seat) None
+none_begun : (o : Opening) (seat : ℕ) → IsReady (opened_view (start_of o)) seat None
 none_begun o seat = record { run = λ active. absurd (cc); receipt = λ f in_none committed. none_in_nil f in_none }
 
-pub opened_ready : (o : Opening) (seat : ℕ) (v : View) → v ≡ opened_view (start_of o) → IsReady (v.session seat) None
-opened_ready o seat v is = subst (λ (w : View). IsReady (w.session seat) None) (sym is) (none_begun o seat)
+pub opened_ready : (o : Opening) (seat : ℕ) (v : View) → v ≡ opened_view (start_of o) → IsReady v seat None
+opened_ready o seat v is = subst (λ (w : View). IsReady w seat None) (sym is) (none_begun o seat)
 
 -- what comes next stands behind those that came
 pub comes_at : {X : Type 0} (gone left rest all : List X) (x : X) → gone ++ left ≡ all → left ≡ x ∷ rest → slice_get all (length gone) ≡ Some x

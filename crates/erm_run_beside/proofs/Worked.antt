@@ -27,7 +27,7 @@ use Rattle.erm_run_beside.proofs.More.{put_back}
 use Rattle.erm_run_beside.specs.Ended.{AreWholeUnless, AreWorked, HasWorked, IsWholeUnless}
 
 -- ONE JOB may be worked
-opened_ready : (o : Opening) (seat : ℕ) → IsReady ((opened_view (start_of o)).session seat) None
+opened_ready : (o : Opening) (seat : ℕ) → IsReady (opened_view (start_of o)) seat None
 opened_ready o seat = record { run = λ active. absurd (cc); receipt = λ f in_none committed. none_in_nil f in_none }
 
 one_job : {L T : Type 0} (law : Law) (table : Table L) (o : Opening) (seat : ℕ) (s : TableSession L) (ls : List ScriptLine) (j : Job (TableSession L) T) → IsNew law table o seat s
@@ -40,7 +40,7 @@ one_job {L} law table o seat s ls j new may is =
       may = record {
         own = λ l there. (may l (subst (λ (xs : List ScriptLine). l ∈ xs) is.lines_are there)).0 ∙ sym place;
         may = λ l there. (may l (subst (λ (xs : List ScriptLine). l ∈ xs) is.lines_are there)).1;
-        ready = subst (λ (v : View). IsReady (v.session (seat_of j.session)) None) (sym own) (opened_ready o (seat_of j.session));
+        ready = subst (λ (v : View). IsReady v (seat_of j.session) None) (sym own) (opened_ready o (seat_of j.session));
       };
       none = is.none;
       room = subst (λ (xs : List ScriptLine). length xs ≤ vec_capacity j.answers) (sym is.lines_are) is.room;
