@@ -10,7 +10,6 @@ use Rattle.erm_model.specs.Lawful.{times_made}
 use Rattle.erm_model.specs.Member.{◌∈◌}
 use Rattle.erm_model.specs.RowTransaction.{Asked}
 use Rattle.erm_model.specs.Rows.{Rows}
-use Rattle.erm_model.specs.Run.{Step}
 use Rattle.erm_node.specs.Sound.{sound_law}
 use Rattle.erm_world.specs.Calls.{IsDone}
 use Rattle.erm_world.specs.Laws.{FitsWork, IsSerializable}

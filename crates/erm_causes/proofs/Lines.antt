@@ -1,5 +1,5 @@
 -- A line that names a table: what its calls touch is of that table.
-use Rattle.std.proofs.Common.{◌≡◌, ℕ, ◌+◌, ◌<◌, ◌≤◌, Bool, true, cond, List, [], ◌++◌, Option, Some, None, sum_by, append-nil, inl, inr, refl, sym, ap, ◌∙◌, subst, arith}
+use Rattle.std.proofs.Common.{◌≡◌, ℕ, ◌+◌, ◌<◌, ◌≤◌, Bool, true, cond, List, [], ◌++◌, Some, None, sum_by, append-nil, inl, inr, refl, sym, ap, ◌∙◌, subst, arith}
 use Rattle.std.specs.Option.{option_to_list}
 use Rattle.erm_model.specs.declared.history.VersionWritten.{VersionWritten}
 use Rattle.erm_model.specs.declared.limits.TheConstants.{TABLES}
@@ -19,7 +19,7 @@ use Rattle.erm_world.specs.World as world
 use Rattle.std.proofs.lemmas.Bool.{cases_eq}
 use Rattle.erm_model.proofs.Members.{none_in_nil}
 use Rattle.erm_world.proofs.Lists.{∈-before, ∈-last, ∈-parts}
-use Rattle.erm_maps.specs.Runs.{IsRunOf, kept_at}
+use Rattle.erm_maps.specs.Runs.{kept_at}
 use Rattle.erm_report.specs.declared.answer.Answer.{Answer}
 use Rattle.erm_script.specs.declared.script.Command.{Command}
 use Rattle.erm_script.specs.declared.script.Command.TheVariants as command

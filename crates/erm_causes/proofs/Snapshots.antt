@@ -1,6 +1,7 @@
 -- What the lines of a snapshot do to their session: it has no transaction before them, and none behind them.
 use Rattle.std.proofs.Common.{◌≡◌, ◌⊎◌, ℕ, ◌+◌, ◌<◌, true, false, List, [], ◌∷◌, ◌++◌, length, append-nil, Option, Some, None, option_map, option_to_list, refl, sym, ap, ◌∙◌, subst, ⊎_elim}
 use Rattle.erm_model.specs.declared.limits.TheConstants.{STOP}
+use Rattle.erm_model.specs.declared.outcome.Phase.TheVariants.{Active}
 use Rattle.erm_model.specs.Lawful.{times_made}
 use Rattle.erm_report.specs.declared.answer.Answer.{Answer}
 use Rattle.erm_report.specs.declared.answer.Answer.TheVariants as answer
@@ -8,8 +9,10 @@ use Rattle.erm_script.specs.declared.script.Command.{Command}
 use Rattle.erm_script.specs.declared.script.Command.TheVariants as command
 use Rattle.erm_world.specs.Calls.{Becomes, DidAbort, IsDone}
 use Rattle.erm_world.specs.Safe.{DidBeginSafe, HasSnapshot, with_snapshot}
-use Rattle.erm_world.specs.World.{Session, Stand, View, Work, begun, work_at, work_of}
+use Rattle.erm_world.specs.Snapshots.{snapshot_not_active}
+use Rattle.erm_world.specs.World.{Session, Stand, View, Work, begun, phase_of, work_at, work_of}
 use Rattle.erm_world.specs.World as world
+use Rattle.erm_world.proofs.Saves.{becomes_then}
 use Rattle.erm_good_report.specs.Stamps.{begin_told}
 use Rattle.erm_good_report.specs.Transactions.{Aborts, Commits, Excludes, Progress, Transaction, heard, with_ending, with_line, with_seal}
 use Rattle.erm_lines.specs.Answers.{DidAskDurable, DidAskSafe, DidBeginAndAsk, DidOfSnapshot}
@@ -28,16 +31,9 @@ pub data Watches (v : View) (seat : ℕ) (t : View) : Type 0 where
   ends : (number begin : ℕ) → IsDone v seat (begun number begin) world.aborts t → Watches v seat t
 
 -- one session became another, and then another
-becomes_then : (v u t : View) (seat : ℕ) (s r q : Session) → Becomes v seat s u → Becomes u seat r t → r ≡ q → Becomes v seat q t
-becomes_then v u t seat s r q first second same = record {
-  own = second.own ∙ same;
-  others = λ other another. second.others other another ∙ first.others other another;
-  opening = second.opening ∙ first.opening;
-  tail = second.tail ∙ first.tail;
-  flushed = second.flushed ∙ first.flushed;
-  pinned = second.pinned ∙ first.pinned;
-  given_up = second.given_up ∙ first.given_up;
-}
+becomes_as : (v u t : View) (seat : ℕ) (s r q : Session) → (phase_of r.stand ≡ Active → ⊥) → Becomes v seat s u → Becomes u seat r t → r ≡ q → Becomes v seat q t
+becomes_as v u t seat s r q rests first second same =
+    subst (λ (x : Session). Becomes v seat x t) same (becomes_then v seat s u r t (λ active. absurd (rests active)) first second)
 
 -- IT IS OVER, or asked whether it is safe.
 pub ended_bare : (v t : View) (seat : ℕ) → HasSnapshot v seat → DidAbort v seat t → Watches v seat t
@@ -55,9 +51,9 @@ begun_watches v u t seat begin (few, room, is, now) (looks same) =
     let y : world.Snapshot = record { number = length (v.session seat).over + 1; begin = begin; is_safe = false } in
     watches y (subst (λ (x : View). Becomes v seat (with_snapshot v seat y) x) (sym same) now)
 begun_watches v u t seat begin (few, room, is, now) (watches y did) =
-    watches y (becomes_then v u t seat _ _ (with_snapshot v seat y) now did (ap (λ (s : Session). record { over = s.over; stand = world.snapshot y }) now.own))
+    watches y (becomes_as v u t seat _ _ (with_snapshot v seat y) (λ active. snapshot_not_active y active) now did (ap (λ (s : Session). record { over = s.over; stand = world.snapshot y }) now.own))
 begun_watches v u t seat begin (few, room, is, now) (ends number first did) =
-    ends number first (becomes_then v u t seat _ _ _ now did (ap (λ (s : Session). record { over = s.over ++ record { work = begun number first; fate = world.aborts } ∷ []; stand = world.idle }) now.own))
+    ends number first (becomes_as v u t seat _ _ _ (λ active. cc) now did (ap (λ (s : Session). record { over = s.over ++ record { work = begun number first; fate = world.aborts } ∷ []; stand = world.idle }) now.own))
 
 pub starts_watches : (v t : View) (seat : ℕ) (a : Answer) → DidBeginAndAsk v seat a t → Watches v seat t
 starts_watches v t seat a did =
