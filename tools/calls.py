@@ -13,7 +13,7 @@ import os
 import re
 
 TOP = os.path.dirname(os.path.dirname(os.path.abspath(__file__)))
-PROGRAMS = ("erm_main", "erm_explain_main", "erm_log_main", "erm_saves", "erm_desk_checkpoint", "erm_tellers")
+PROGRAMS = ("erm_main", "erm_explain_main", "erm_log_main", "erm_desk_checkpoint", "erm_tellers")
 MEMORY = "AllocError"
 
 

@@ -2,7 +2,7 @@
 use crossbeam_utils::Backoff;
 use erm_beside::{SafeSession, SharedSession};
 use erm_model::{Oid, Outcome, Phase, Receipt, Row, RowStop, Stamp};
-use erm_world::{BeginStop, NotFlushed, SafeStop, Wait};
+use erm_world::{BeginStop, NoSave, NotFlushed, SafeStop, SaveStop, Wait};
 use std::sync::atomic::{AtomicU64, Ordering};
 
 // How often a session that waits for the other one looks again, at most.
@@ -96,6 +96,14 @@ impl<'a, S: SharedSession> SharedSession for Meet<'a, S> {
 
     fn tidy(&mut self, shared: &S::Shared, oid: Oid) -> Result<u32, RowStop> {
         self.session.tidy(shared, oid)
+    }
+
+    fn save(&mut self, shared: &S::Shared) -> Result<u32, SaveStop> {
+        self.session.save(shared)
+    }
+
+    fn back(&mut self, shared: &S::Shared, n: u32) -> Result<(), NoSave> {
+        self.session.back(shared, n)
     }
 
     fn seal(&mut self, shared: &S::Shared) -> Stamp {
