@@ -1,7 +1,6 @@
 -- What a transaction's lines tell of the records of keys that its work has touched, on whatever sound rows it may have begun.
 use Rattle.std.proofs.Common.{◌≡◌, ℕ, ◌<◌, ◌≤◌, ◌⊎◌, true, List, [], ◌∷◌, ◌++◌, Some, inl, inr, sym, ap, ◌∙◌, subst}
 use Rattle.erm_model.specs.Lawful.{times_made}
-use Rattle.erm_model.specs.Member.{◌∈◌}
 use Rattle.erm_model.proofs.Members.{none_in_nil}
 use Rattle.erm_model.specs.RowTransaction.{Event, after_all}
 use Rattle.erm_model.specs.Rows.{Rows}

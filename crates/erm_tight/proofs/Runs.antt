@@ -1,5 +1,5 @@
 -- The transactions of a run that a report tells have lines that tell which records of keys they touched.
-use Rattle.std.proofs.Common.{ℕ, List, [], ◌++◌, ◌∙◌, subst}
+use Rattle.std.proofs.Common.{ℕ, List, ◌++◌, ◌∙◌, subst}
 use Rattle.erm_report.specs.declared.answer.Answer.{Answer}
 use Rattle.erm_script.specs.declared.script.ScriptLine.{ScriptLine}
 use Rattle.erm_model.specs.Run.{Step}
