@@ -42,7 +42,7 @@ keeps_but_successor Phases not = phases_kept successor_unknown (tt, (tt, tt)) re
 keeps_but_successor Stamps not = stamps_agree successor_unknown.opening (told_of successor_unknown) (said_of successor_unknown.script successor_unknown.report.answers) refl refl refl refl refl refl (in_one _ _ (omega arith)) (in_one _ _ (omega arith)) (in_one _ _ tt)
 keeps_but_successor Snapshots not = in_one _ _ (first_snapshot (history_of (told_of successor_unknown)) empty 13 [] refl tt)
 keeps_but_successor Causes not = absurd (not refl)
-keeps_but_successor Refusals not = refusals_kept successor_unknown refl (record { own = λ t is. tt; log = tt; unfilled = tt }, (record { own = λ t is. λ window. absurd (no_successor_in t window); log = tt; unfilled = tt }, tt))
+keeps_but_successor Refusals not = refusals_kept successor_unknown refl (record { own = λ t is. tt; saves = λ t is. tt; log = tt; unfilled = tt }, (record { own = λ t is. λ window. absurd (no_successor_in t window); saves = λ t is. tt; log = tt; unfilled = tt }, tt))
 keeps_but_successor Safe not = safe_kept successor_unknown refl
 keeps_but_successor Serial not = one_commit_ordered _
 keeps_but_successor Ascending not = no_pair_ascends
@@ -78,12 +78,12 @@ keeps_but_opens Snapshots not = each_in (λ t. HasSnapshotReplies (history_of bo
     (first_snapshot (history_of both) empty 13 _ refl (ap reply.Value (sym (value_at-empty 0 1)), tt), (first_snapshot (history_of both) empty 13 _ refl (refl, tt), tt))
 keeps_but_opens Causes not = absurd (not refl)
 keeps_but_opens Refusals not = refusals_kept window_closed refl (
-  record { own = λ t is. tt; log = tt; unfilled = tt },
+  record { own = λ t is. tt; saves = λ t is. tt; log = tt; unfilled = tt },
   (
-    record { own = λ t is. tt; log = tt; unfilled = tt },
+    record { own = λ t is. tt; saves = λ t is. tt; log = tt; unfilled = tt },
     (
-      record { own = λ t is. tt; log = tt; unfilled = tt },
-      (record { own = λ t is. own_window _ t _; log = tt; unfilled = tt }, (record { own = λ t is. tt; log = tt; unfilled = tt }, (record { own = λ t is. λ window. absurd (let opens : 13 < 13 = window.opens in omega (arith, opens)); log = tt; unfilled = tt }, tt))),
+      record { own = λ t is. tt; saves = λ t is. tt; log = tt; unfilled = tt },
+      (record { own = λ t is. own_window _ t _; saves = λ t is. tt; log = tt; unfilled = tt }, (record { own = λ t is. tt; saves = λ t is. tt; log = tt; unfilled = tt }, (record { own = λ t is. λ window. absurd (let opens : 13 < 13 = window.opens in omega (arith, opens)); saves = λ t is. tt; log = tt; unfilled = tt }, tt))),
     ),
   ),
 )
@@ -126,12 +126,12 @@ module _ (succ pred : ℕ) (low : succ < 2 ^ 64) (high : pred < 2 ^ 64) (shut : 
       (first_snapshot (history_of (told_of (excluded_with succ pred))) empty 13 _ refl (ap reply.Value (sym (value_at-empty 0 1)), tt), (first_snapshot (history_of (told_of (excluded_with succ pred))) empty 13 _ refl (refl, tt), tt))
   keeps_but_end Causes not = absurd (not refl)
   keeps_but_end Refusals not = refusals_kept (excluded_with succ pred) refl (
-    record { own = λ t is. tt; log = tt; unfilled = tt },
+    record { own = λ t is. tt; saves = λ t is. tt; log = tt; unfilled = tt },
     (
-      record { own = λ t is. tt; log = tt; unfilled = tt },
+      record { own = λ t is. tt; saves = λ t is. tt; log = tt; unfilled = tt },
       (
-        record { own = λ t is. tt; log = tt; unfilled = tt },
-        (record { own = λ t is. own_window _ t _; log = tt; unfilled = tt }, (record { own = λ t is. tt; log = tt; unfilled = tt }, (record { own = λ t is. λ window. absurd (shut t window); log = tt; unfilled = tt }, tt))),
+        record { own = λ t is. tt; saves = λ t is. tt; log = tt; unfilled = tt },
+        (record { own = λ t is. own_window _ t _; saves = λ t is. tt; log = tt; unfilled = tt }, (record { own = λ t is. tt; saves = λ t is. tt; log = tt; unfilled = tt }, (record { own = λ t is. λ window. absurd (shut t window); saves = λ t is. tt; log = tt; unfilled = tt }, tt))),
       ),
     ),
   )

@@ -164,8 +164,8 @@ keeps_but_once Owing not = record {
   safe = none_agree (moment_at InTurn closed_twice.opening closed_twice.script closed_twice.answers (told_of_cut closed_twice)) closed_twice.opening closed_twice.script closed_twice.answers (told_of_cut closed_twice) refl;
   refusals = record {
     each = each_place (λ i l a. HasCause (moment_at InTurn closed_twice.opening closed_twice.script closed_twice.answers (told_of_cut closed_twice) i l) l.command a) closed_twice.script closed_twice.answers (
-      record { own = λ t is. tt; log = tt; unfilled = tt },
-      (record { own = λ t is. tt; log = tt; unfilled = tt }, tt),
+      record { own = λ t is. tt; saves = λ t is. tt; log = tt; unfilled = tt },
+      (record { own = λ t is. tt; saves = λ t is. tt; log = tt; unfilled = tt }, tt),
     );
     reach = reach_from_test (moment_at InTurn closed_twice.opening closed_twice.script closed_twice.answers (told_of_cut closed_twice)) closed_twice.script closed_twice.answers refl;
     untold = untold_in_reach InTurn closed_twice.opening closed_twice.script closed_twice.answers (told_of_cut closed_twice) refl;
@@ -190,8 +190,8 @@ keeps_but_unseen Owing not = record {
   safe = none_agree (moment_at InTurn closed_too_early.opening closed_too_early.script closed_too_early.answers (told_of_cut closed_too_early)) closed_too_early.opening closed_too_early.script closed_too_early.answers (told_of_cut closed_too_early) refl;
   refusals = record {
     each = each_place (λ i l a. HasCause (moment_at InTurn closed_too_early.opening closed_too_early.script closed_too_early.answers (told_of_cut closed_too_early) i l) l.command a) closed_too_early.script closed_too_early.answers (
-      record { own = λ t is. tt; log = tt; unfilled = tt },
-      (record { own = λ t is. tt; log = tt; unfilled = tt }, tt),
+      record { own = λ t is. tt; saves = λ t is. tt; log = tt; unfilled = tt },
+      (record { own = λ t is. tt; saves = λ t is. tt; log = tt; unfilled = tt }, tt),
     );
     reach = reach_from_test (moment_at InTurn closed_too_early.opening closed_too_early.script closed_too_early.answers (told_of_cut closed_too_early)) closed_too_early.script closed_too_early.answers refl;
     untold = untold_in_reach InTurn closed_too_early.opening closed_too_early.script closed_too_early.answers (told_of_cut closed_too_early) refl;
@@ -226,12 +226,13 @@ unfilled_breaks = (
     causes = in_one _ _ tt;
     safe = none_agree (moment_at InTurn unfilled_below.opening unfilled_below.script unfilled_below.answers (told_of_cut unfilled_below)) unfilled_below.opening unfilled_below.script unfilled_below.answers (told_of_cut unfilled_below) refl;
     refusals = each_place (λ i l a. i ≢ 3 → HasCause (moment_at InTurn unfilled_below.opening unfilled_below.script unfilled_below.answers (told_of_cut unfilled_below) i l) l.command a) unfilled_below.script unfilled_below.answers (
-      λ not. record { own = λ t is. tt; log = tt; unfilled = tt },
+      λ not. record { own = λ t is. tt; saves = λ t is. tt; log = tt; unfilled = tt },
       (
         λ not. ring_wait _ refl refl (λ t. in_one (λ u. u.session ≡ t.session → u.number ≡ t.number → IfSome (stamp_of u) (λ told. told ≡ 40000)) _ (λ session number. tt)),
         (
           λ not. record {
             own = λ t is. tt;
+            saves = λ t is. tt;
             log = (
               let above : 13 < 18 = omega arith in above,
               inl (record {

@@ -40,7 +40,7 @@ owes_all_but_safe = record {
   stamps = stamps_agree whole.opening (told_of whole) said refl refl refl refl refl refl (in_one _ _ (omega arith)) (in_one _ _ (omega arith)) (in_one _ _ tt);
   snapshots = in_one _ _ (first_snapshot (history_of (told_of whole)) empty 13 _ refl (refl, tt));
   causes = in_one _ _ (record { opens = omega arith; closes = omega arith; succ_cause = inl refl; pred_cause = inl refl });
-  refusals = refusals_kept whole refl (record { own = λ t is. tt; log = tt; unfilled = tt }, (record { own = λ t is. tt; log = tt; unfilled = tt }, (record { own = λ t is. tt; log = tt; unfilled = tt }, (record { own = λ t is. own_window _ t _; log = tt; unfilled = tt }, (record { own = λ t is. tt; log = tt; unfilled = tt }, tt)))));
+  refusals = refusals_kept whole refl (record { own = λ t is. tt; saves = λ t is. tt; log = tt; unfilled = tt }, (record { own = λ t is. tt; saves = λ t is. tt; log = tt; unfilled = tt }, (record { own = λ t is. tt; saves = λ t is. tt; log = tt; unfilled = tt }, (record { own = λ t is. own_window _ t _; saves = λ t is. tt; log = tt; unfilled = tt }, (record { own = λ t is. tt; saves = λ t is. tt; log = tt; unfilled = tt }, tt)))));
 }
 
 -- ---- what it breaks

@@ -87,18 +87,18 @@ owes_all_but_begins = record {
   causes = each_in (λ t. HasCauseOf t.ending told t) told (tt, (tt, (tt, tt)));
   safe = safe_kept whole refl;
   refusals = refusals_kept whole refl (
-    record { own = λ t is. tt; log = tt; unfilled = tt },
+    record { own = λ t is. tt; saves = λ t is. tt; log = tt; unfilled = tt },
     (
-      record { own = λ t is. tt; log = tt; unfilled = tt },
+      record { own = λ t is. tt; saves = λ t is. tt; log = tt; unfilled = tt },
       (
-        record { own = λ t is. tt; log = tt; unfilled = tt },
+        record { own = λ t is. tt; saves = λ t is. tt; log = tt; unfilled = tt },
         (
-          record { own = λ t is. tt; log = tt; unfilled = tt },
+          record { own = λ t is. tt; saves = λ t is. tt; log = tt; unfilled = tt },
           (
             ring_wait _ refl refl (λ t. any_stamp 40000 t.session t.number),
             (
               first_waited None _ 13 18 (omega arith) refl refl refl (record { current = refl; sealed = refl; stamp_is = any_stamp 13 1 1 }) (λ t is. any_stamp 18 t.session t.number),
-              (record { own = λ t is. tt; log = tt; unfilled = tt }, tt),
+              (record { own = λ t is. tt; saves = λ t is. tt; log = tt; unfilled = tt }, tt),
             ),
           ),
         ),

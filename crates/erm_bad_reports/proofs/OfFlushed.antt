@@ -31,7 +31,7 @@ above_none m bound none unsealed stamp (session, t, inr (current, sealed, told))
 
 pub checkpointed : (m : Moment) (bound : ℕ) → flushed_at m ≤ bound → ((session : ℕ) → (progress_of session m.before).over ≡ []) → ((session : ℕ) → phase_of session m.before ≢ Sealed)
     → HasCause m command.Checkpoint (answer.Checkpointed bound)
-checkpointed m bound high none unsealed = record { own = λ t is. tt; log = (high, unsealed, above_none m bound none unsealed); unfilled = tt }
+checkpointed m bound high none unsealed = record { own = λ t is. tt; saves = λ t is. tt; log = (high, unsealed, above_none m bound none unsealed); unfilled = tt }
 
 either_open : (b : Bool) → cond b Active Idle ≢ Sealed
 either_open true is = cc is
@@ -50,7 +50,7 @@ keeps_but_flushes Stamps not = absurd (not refl)
 keeps_but_flushes Snapshots not = in_one _ _ (first_snapshot [] empty 13 [] refl tt)
 keeps_but_flushes Causes not = in_one _ _ tt
 keeps_but_flushes Refusals not = refusals_kept begun_below_the_flushed refl
-    (checkpointed _ 18 (omega arith) (λ session. refl) (λ session. idle_open), (record { own = λ t is. tt; log = tt; unfilled = tt }, (record { own = λ t is. tt; log = tt; unfilled = tt }, tt)))
+    (checkpointed _ 18 (omega arith) (λ session. refl) (λ session. idle_open), (record { own = λ t is. tt; saves = λ t is. tt; log = tt; unfilled = tt }, (record { own = λ t is. tt; saves = λ t is. tt; log = tt; unfilled = tt }, tt)))
 keeps_but_flushes Safe not = safe_kept begun_below_the_flushed refl
 keeps_but_flushes Serial not = no_commit_ordered
 keeps_but_flushes Ascending not = no_pair_ascends
@@ -96,7 +96,7 @@ keeps_but_first Stamps not = absurd (not refl)
 keeps_but_first Snapshots not = in_one _ _ (first_snapshot (history_of (told_of drawn_below_the_flushed)) empty 13 [] refl tt)
 keeps_but_first Causes not = in_one _ _ (record { opens = omega arith; closes = omega arith; succ_cause = inl refl; pred_cause = inl refl })
 keeps_but_first Refusals not = refusals_kept drawn_below_the_flushed refl
-    (record { own = λ t is. tt; log = tt; unfilled = tt }, (checkpointed _ 18 (omega arith) begin_over begin_open, (record { own = λ t is. own_window _ t _; log = tt; unfilled = tt }, tt)))
+    (record { own = λ t is. tt; saves = λ t is. tt; log = tt; unfilled = tt }, (checkpointed _ 18 (omega arith) begin_over begin_open, (record { own = λ t is. own_window _ t _; saves = λ t is. tt; log = tt; unfilled = tt }, tt)))
 keeps_but_first Safe not = safe_kept drawn_below_the_flushed refl
 keeps_but_first Serial not = one_commit_ordered _
 keeps_but_first Ascending not = no_pair_ascends

@@ -64,7 +64,7 @@ keeps Phases = phases_by_line safe_at_last (tt, (tt, (tt, (tt, (tt, (tt, (tt, (t
 keeps Stamps = stamps_agree safe_at_last.opening (told_of safe_at_last) (said_of safe_at_last.script safe_at_last.report.answers) refl refl refl refl refl refl (each_in (λ t. 13 ≤ t.begin) (told_of safe_at_last) (omega arith, (omega arith, tt))) (each_in (λ t. IfSome (stamp_of t) (λ stamp. t.begin ≤ stamp)) (told_of safe_at_last) (omega arith, (omega arith, tt))) (each_in (λ t. Told (λ a b. a ≡ b) t.sealed (stamp_of_ending t.ending)) (told_of safe_at_last) (tt, (tt, tt)))
 keeps Snapshots = each_in (λ t. HasSnapshotReplies (history_of (told_of safe_at_last)) empty t.begin (steps_of t)) (told_of safe_at_last) (first_snapshot (history_of (told_of safe_at_last)) empty 13 [] refl tt, (first_snapshot (history_of (told_of safe_at_last)) empty 13 [] refl tt, tt))
 keeps Causes = each_in (λ t. HasCauseOf t.ending (told_of safe_at_last) t) (told_of safe_at_last) (record { opens = omega arith; closes = omega arith; succ_cause = inl refl; pred_cause = inl refl }, (record { opens = omega arith; closes = omega arith; succ_cause = inl refl; pred_cause = inl refl }, tt))
-keeps Refusals = refusals_kept safe_at_last refl (record { own = λ t is. tt; log = tt; unfilled = tt }, (record { own = λ t is. tt; log = tt; unfilled = tt }, (record { own = λ t is. own_window _ t _; log = tt; unfilled = tt }, (record { own = λ t is. absurd (cc is.1); log = tt; unfilled = tt }, (record { own = λ t is. own_window _ t _; log = tt; unfilled = tt }, (record { own = λ t is. tt; log = tt; unfilled = tt }, (record { own = λ t is. tt; log = tt; unfilled = tt }, (record { own = λ t is. tt; log = tt; unfilled = tt }, tt))))))))
+keeps Refusals = refusals_kept safe_at_last refl (record { own = λ t is. tt; saves = λ t is. tt; log = tt; unfilled = tt }, (record { own = λ t is. tt; saves = λ t is. tt; log = tt; unfilled = tt }, (record { own = λ t is. own_window _ t _; saves = λ t is. tt; log = tt; unfilled = tt }, (record { own = λ t is. absurd (cc is.1); saves = λ t is. tt; log = tt; unfilled = tt }, (record { own = λ t is. own_window _ t _; saves = λ t is. tt; log = tt; unfilled = tt }, (record { own = λ t is. tt; saves = λ t is. tt; log = tt; unfilled = tt }, (record { own = λ t is. tt; saves = λ t is. tt; log = tt; unfilled = tt }, (record { own = λ t is. tt; saves = λ t is. tt; log = tt; unfilled = tt }, tt))))))))
 keeps Safe = safe_by_line safe_at_last (λ session number. 18) refl (λ is. absurd (cc), (λ is. absurd (cc), (λ is. absurd (cc), (λ is. record { in_turn = refl; another = λ same. omega (arith, same); from = inl (_, refl, omega arith); below = omega arith }, (λ is. absurd (cc), (λ is. (refl, safe_there _ 18 refl), (λ is. absurd (cc), (λ is. absurd (cc), tt)))))))) (tt, (tt, (tt, (owes, (tt, (owes, (owes, (owes, tt))))))))
 keeps Serial = record {
   same = record { moves = (1, 2) ∷ []; below = (omega arith, omega arith, tt); is = refl };

@@ -92,7 +92,7 @@ keeps_but_closes Phases not = record { fits = each_place (λ i l a. FitsPhase (p
 keeps_but_closes Stamps not = stamps_agree left_open.opening (told_of left_open) (said_of left_open.script left_open.report.answers) refl refl refl refl refl refl (in_one _ _ (omega arith)) (in_one _ _ tt) (in_one _ _ tt)
 keeps_but_closes Snapshots not = in_one _ _ (first_snapshot [] left_open.opening.map 13 [] refl tt)
 keeps_but_closes Causes not = in_one _ _ tt
-keeps_but_closes Refusals not = record { each = each_place (λ i l a. HasCause (moment_at InTurn left_open.opening left_open.script left_open.report.answers (told_of left_open) i l) l.command a) left_open.script left_open.report.answers (record { own = λ t is. tt; log = tt; unfilled = tt }, tt); reach = reach_from_test (moment_at InTurn left_open.opening left_open.script left_open.report.answers (told_of left_open)) left_open.script left_open.report.answers refl; untold = untold_in_reach InTurn left_open.opening left_open.script left_open.report.answers (told_of left_open) refl }
+keeps_but_closes Refusals not = record { each = each_place (λ i l a. HasCause (moment_at InTurn left_open.opening left_open.script left_open.report.answers (told_of left_open) i l) l.command a) left_open.script left_open.report.answers (record { own = λ t is. tt; saves = λ t is. tt; log = tt; unfilled = tt }, tt); reach = reach_from_test (moment_at InTurn left_open.opening left_open.script left_open.report.answers (told_of left_open)) left_open.script left_open.report.answers refl; untold = untold_in_reach InTurn left_open.opening left_open.script left_open.report.answers (told_of left_open) refl }
 keeps_but_closes Safe not = safe_kept left_open refl
 keeps_but_closes Serial not = no_commit_ordered
 keeps_but_closes Ascending not = no_pair_ascends
@@ -115,7 +115,7 @@ keeps_but_phases Phases not = absurd (not refl)
 keeps_but_phases Stamps not = stamps_agree got_without_begin.opening [] (said_of got_without_begin.script got_without_begin.report.answers) refl refl refl refl refl refl (in_none _) (in_none _) (in_none _)
 keeps_but_phases Snapshots not = in_none _
 keeps_but_phases Causes not = in_none _
-keeps_but_phases Refusals not = record { each = each_place (λ i l a. HasCause (moment_at InTurn got_without_begin.opening got_without_begin.script got_without_begin.report.answers (told_of got_without_begin) i l) l.command a) got_without_begin.script got_without_begin.report.answers (record { own = λ t is. tt; log = tt; unfilled = tt }, tt); reach = reach_from_test (moment_at InTurn got_without_begin.opening got_without_begin.script got_without_begin.report.answers (told_of got_without_begin)) got_without_begin.script got_without_begin.report.answers refl; untold = untold_in_reach InTurn got_without_begin.opening got_without_begin.script got_without_begin.report.answers (told_of got_without_begin) refl }
+keeps_but_phases Refusals not = record { each = each_place (λ i l a. HasCause (moment_at InTurn got_without_begin.opening got_without_begin.script got_without_begin.report.answers (told_of got_without_begin) i l) l.command a) got_without_begin.script got_without_begin.report.answers (record { own = λ t is. tt; saves = λ t is. tt; log = tt; unfilled = tt }, tt); reach = reach_from_test (moment_at InTurn got_without_begin.opening got_without_begin.script got_without_begin.report.answers (told_of got_without_begin)) got_without_begin.script got_without_begin.report.answers refl; untold = untold_in_reach InTurn got_without_begin.opening got_without_begin.script got_without_begin.report.answers (told_of got_without_begin) refl }
 keeps_but_phases Safe not = safe_kept got_without_begin refl
 keeps_but_phases Serial not = no_commit_ordered
 keeps_but_phases Ascending not = no_pair_ascends

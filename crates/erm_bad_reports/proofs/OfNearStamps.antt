@@ -44,8 +44,8 @@ keeps_but_near Causes not = each_in (λ t. HasCauseOf t.ending near_told t) near
   (record { opens = omega arith; closes = omega arith; succ_cause = inl refl; pred_cause = inl refl }, tt),
 )
 keeps_but_near Refusals not = refusals_kept drawn_within refl (
-  record { own = λ t is. tt; log = tt; unfilled = tt },
-  (record { own = λ t is. tt; log = tt; unfilled = tt }, (record { own = λ t is. own_window _ t _; log = tt; unfilled = tt }, (record { own = λ t is. own_window _ t _; log = tt; unfilled = tt }, tt))),
+  record { own = λ t is. tt; saves = λ t is. tt; log = tt; unfilled = tt },
+  (record { own = λ t is. tt; saves = λ t is. tt; log = tt; unfilled = tt }, (record { own = λ t is. own_window _ t _; saves = λ t is. tt; log = tt; unfilled = tt }, (record { own = λ t is. own_window _ t _; saves = λ t is. tt; log = tt; unfilled = tt }, tt))),
 )
 keeps_but_near Safe not = safe_kept drawn_within refl
 keeps_but_near Serial not = record { same = IsPermutation-refl (history_of near_told); ascends = all_pairs_of_two (λ a b. ComesBefore (rank_of a) (rank_of b)) _ _ (inl (omega arith)) }
@@ -115,13 +115,13 @@ keeps_but_newer Snapshots not = each_in (λ t. HasSnapshotReplies (history_of ne
     (first_snapshot (history_of newer_told) empty 13 _ refl (refl, tt), (first_snapshot (history_of newer_told) empty 13 [] refl tt, (first_snapshot (history_of newer_told) empty 13 [] refl tt, tt)))
 keeps_but_newer Causes not = each_in (λ t. HasCauseOf t.ending newer_told t) newer_told (record { opens = omega arith; closes = omega arith; succ_cause = inl refl; pred_cause = inl refl }, (tt, (tt, tt)))
 keeps_but_newer Refusals not = refusals_kept begun_at_a_newer refl (
-  record { own = λ t is. tt; log = tt; unfilled = tt },
+  record { own = λ t is. tt; saves = λ t is. tt; log = tt; unfilled = tt },
   (
-    record { own = λ t is. tt; log = tt; unfilled = tt },
+    record { own = λ t is. tt; saves = λ t is. tt; log = tt; unfilled = tt },
     (
-      record { own = λ t is. own_window _ t _; log = tt; unfilled = tt },
+      record { own = λ t is. own_window _ t _; saves = λ t is. tt; log = tt; unfilled = tt },
       (
-        record { own = λ t is. tt; log = tt; unfilled = tt },
+        record { own = λ t is. tt; saves = λ t is. tt; log = tt; unfilled = tt },
         (
           record {
             own = λ t is. record {
@@ -137,10 +137,11 @@ keeps_but_newer Refusals not = refusals_kept begun_at_a_newer refl (
               named = refl;
               writes = record { line = _; of = (0, refl); names = refl; writes = refl };
             };
+            saves = λ t is. tt;
             log = tt;
             unfilled = tt;
           },
-          (record { own = λ t is. tt; log = tt; unfilled = tt }, (record { own = λ t is. tt; log = tt; unfilled = tt }, tt)),
+          (record { own = λ t is. tt; saves = λ t is. tt; log = tt; unfilled = tt }, (record { own = λ t is. tt; saves = λ t is. tt; log = tt; unfilled = tt }, tt)),
         ),
       ),
     ),

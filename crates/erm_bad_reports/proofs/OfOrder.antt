@@ -52,7 +52,7 @@ keeps_but_serial Causes not = each_in (λ t. HasCauseOf t.ending told t) told (
   record { opens = omega arith; closes = omega arith; succ_cause = inl refl; pred_cause = inl refl },
   (record { opens = omega arith; closes = omega arith; succ_cause = inl refl; pred_cause = inl refl }, tt),
 )
-keeps_but_serial Refusals not = record { each = each_place (λ i l a. HasCause (moment_at InTurn order_turned_round.opening order_turned_round.script order_turned_round.report.answers (told_of order_turned_round) i l) l.command a) order_turned_round.script order_turned_round.report.answers (record { own = λ t is. tt; log = tt; unfilled = tt }, (record { own = λ t is. own_window _ t _; log = tt; unfilled = tt }, (record { own = λ t is. tt; log = tt; unfilled = tt }, (record { own = λ t is. own_window _ t _; log = tt; unfilled = tt }, tt)))); reach = reach_from_test (moment_at InTurn order_turned_round.opening order_turned_round.script order_turned_round.report.answers (told_of order_turned_round)) order_turned_round.script order_turned_round.report.answers refl; untold = untold_in_reach InTurn order_turned_round.opening order_turned_round.script order_turned_round.report.answers (told_of order_turned_round) refl }
+keeps_but_serial Refusals not = record { each = each_place (λ i l a. HasCause (moment_at InTurn order_turned_round.opening order_turned_round.script order_turned_round.report.answers (told_of order_turned_round) i l) l.command a) order_turned_round.script order_turned_round.report.answers (record { own = λ t is. tt; saves = λ t is. tt; log = tt; unfilled = tt }, (record { own = λ t is. own_window _ t _; saves = λ t is. tt; log = tt; unfilled = tt }, (record { own = λ t is. tt; saves = λ t is. tt; log = tt; unfilled = tt }, (record { own = λ t is. own_window _ t _; saves = λ t is. tt; log = tt; unfilled = tt }, tt)))); reach = reach_from_test (moment_at InTurn order_turned_round.opening order_turned_round.script order_turned_round.report.answers (told_of order_turned_round)) order_turned_round.script order_turned_round.report.answers refl; untold = untold_in_reach InTurn order_turned_round.opening order_turned_round.script order_turned_round.report.answers (told_of order_turned_round) refl }
 keeps_but_serial Safe not = safe_kept order_turned_round refl
 keeps_but_serial Serial not = absurd (not refl)
 keeps_but_serial Ascending not = no_pair_ascends

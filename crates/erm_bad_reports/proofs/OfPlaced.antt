@@ -63,7 +63,7 @@ keeps_but_behind Phases not = phases_by_line snapshot_behind (tt, (tt, (tt, (tt,
 keeps_but_behind Stamps not = stamps_agree snapshot_behind.opening (told_of snapshot_behind) (said_of snapshot_behind.script snapshot_behind.report.answers) refl refl refl refl refl refl (in_one _ _ (omega arith)) (in_one _ _ (omega arith)) (in_one _ _ tt)
 keeps_but_behind Snapshots not = in_one _ _ (first_snapshot (history_of (told_of snapshot_behind)) empty 13 [] refl tt)
 keeps_but_behind Causes not = in_one _ _ (record { opens = omega arith; closes = omega arith; succ_cause = inl refl; pred_cause = inl refl })
-keeps_but_behind Refusals not = refusals_kept snapshot_behind refl (record { own = λ t is. tt; log = tt; unfilled = tt }, (record { own = λ t is. tt; log = tt; unfilled = tt }, (record { own = λ t is. own_window _ t _; log = tt; unfilled = tt }, (record { own = λ t is. tt; log = tt; unfilled = tt }, tt))))
+keeps_but_behind Refusals not = refusals_kept snapshot_behind refl (record { own = λ t is. tt; saves = λ t is. tt; log = tt; unfilled = tt }, (record { own = λ t is. tt; saves = λ t is. tt; log = tt; unfilled = tt }, (record { own = λ t is. own_window _ t _; saves = λ t is. tt; log = tt; unfilled = tt }, (record { own = λ t is. tt; saves = λ t is. tt; log = tt; unfilled = tt }, tt))))
 keeps_but_behind Safe not = safe_by_line snapshot_behind (λ session number. 13) refl (λ is. (refl, safe_there _ 13 refl), (λ is. absurd (cc), (λ is. absurd (cc), (λ is. absurd (cc), tt))))
     (behind_owes, (tt, (tt, (behind_owes, tt))))
 keeps_but_behind Serial not = absurd (not refl)
@@ -110,7 +110,7 @@ keeps_but_turned Phases not = phases_by_line snapshots_turned (tt, (tt, (tt, (tt
 keeps_but_turned Stamps not = stamps_agree snapshots_turned.opening (told_of snapshots_turned) (said_of snapshots_turned.script snapshots_turned.report.answers) refl refl refl refl refl refl (in_none _) (in_none _) (in_none _)
 keeps_but_turned Snapshots not = in_none _
 keeps_but_turned Causes not = in_none _
-keeps_but_turned Refusals not = refusals_kept snapshots_turned refl (record { own = λ t is. tt; log = tt; unfilled = tt }, (record { own = λ t is. tt; log = tt; unfilled = tt }, (record { own = λ t is. tt; log = tt; unfilled = tt }, (record { own = λ t is. tt; log = tt; unfilled = tt }, tt))))
+keeps_but_turned Refusals not = refusals_kept snapshots_turned refl (record { own = λ t is. tt; saves = λ t is. tt; log = tt; unfilled = tt }, (record { own = λ t is. tt; saves = λ t is. tt; log = tt; unfilled = tt }, (record { own = λ t is. tt; saves = λ t is. tt; log = tt; unfilled = tt }, (record { own = λ t is. tt; saves = λ t is. tt; log = tt; unfilled = tt }, tt))))
 keeps_but_turned Safe not = safe_by_line snapshots_turned (λ session number. 13) refl (λ is. (refl, safe_there _ 13 refl), (λ is. (refl, safe_there _ 13 refl), (λ is. absurd (cc), (λ is. absurd (cc), tt))))
     (one_owes, (other_owes, (one_owes, (other_owes, tt))))
 keeps_but_turned Serial not = absurd (not refl)
@@ -170,7 +170,7 @@ keeps_but_left Phases not = phases_by_line snapshot_left_out (tt, (tt, tt)) (tt,
 keeps_but_left Stamps not = stamps_agree snapshot_left_out.opening (told_of snapshot_left_out) (said_of snapshot_left_out.script snapshot_left_out.report.answers) refl refl refl refl refl refl (in_none _) (in_none _) (in_none _)
 keeps_but_left Snapshots not = in_none _
 keeps_but_left Causes not = in_none _
-keeps_but_left Refusals not = refusals_kept snapshot_left_out refl (record { own = λ t is. tt; log = tt; unfilled = tt }, (record { own = λ t is. tt; log = tt; unfilled = tt }, tt))
+keeps_but_left Refusals not = refusals_kept snapshot_left_out refl (record { own = λ t is. tt; saves = λ t is. tt; log = tt; unfilled = tt }, (record { own = λ t is. tt; saves = λ t is. tt; log = tt; unfilled = tt }, tt))
 keeps_but_left Safe not = safe_by_line snapshot_left_out (λ session number. 13) refl (λ is. (refl, safe_there _ 13 refl), (λ is. absurd (cc), tt)) (left_owes, (left_owes, tt))
 keeps_but_left Serial not = absurd (not refl)
 keeps_but_left Ascending not = no_pair_ascends

@@ -73,12 +73,12 @@ keeps_but_precedes Snapshots not = each_in (λ t. HasSnapshotReplies (history_of
     (first_snapshot (history_of precedes_told) empty 13 _ refl (ap reply.Value (sym (value_at-empty 0 1)), tt), (first_snapshot (history_of precedes_told) empty 13 _ refl (ap reply.Value (sym (value_at-empty 0 1)), tt), tt))
 keeps_but_precedes Causes not = absurd (not refl)
 keeps_but_precedes Refusals not = refusals_kept reader_precedes refl (
-  record { own = λ t is. tt; log = tt; unfilled = tt },
+  record { own = λ t is. tt; saves = λ t is. tt; log = tt; unfilled = tt },
   (
-    record { own = λ t is. tt; log = tt; unfilled = tt },
+    record { own = λ t is. tt; saves = λ t is. tt; log = tt; unfilled = tt },
     (
-      record { own = λ t is. tt; log = tt; unfilled = tt },
-      (record { own = λ t is. tt; log = tt; unfilled = tt }, (record { own = λ t is. own_window _ t _; log = tt; unfilled = tt }, (record { own = λ t is. window_over at_second t 18 18 13 precedes_over; log = tt; unfilled = tt }, tt))),
+      record { own = λ t is. tt; saves = λ t is. tt; log = tt; unfilled = tt },
+      (record { own = λ t is. tt; saves = λ t is. tt; log = tt; unfilled = tt }, (record { own = λ t is. own_window _ t _; saves = λ t is. tt; log = tt; unfilled = tt }, (record { own = λ t is. window_over at_second t 18 18 13 precedes_over; saves = λ t is. tt; log = tt; unfilled = tt }, tt))),
     ),
   ),
 )
@@ -202,20 +202,20 @@ keeps_but_excludes Snapshots not = each_in (λ t. HasSnapshotReplies (history_of
 )
 keeps_but_excludes Causes not = absurd (not refl)
 keeps_but_excludes Refusals not = refusals_kept reader_excludes refl (
-  record { own = λ t is. tt; log = tt; unfilled = tt },
+  record { own = λ t is. tt; saves = λ t is. tt; log = tt; unfilled = tt },
   (
-    record { own = λ t is. tt; log = tt; unfilled = tt },
+    record { own = λ t is. tt; saves = λ t is. tt; log = tt; unfilled = tt },
     (
-      record { own = λ t is. tt; log = tt; unfilled = tt },
+      record { own = λ t is. tt; saves = λ t is. tt; log = tt; unfilled = tt },
       (
-        record { own = λ t is. tt; log = tt; unfilled = tt },
+        record { own = λ t is. tt; saves = λ t is. tt; log = tt; unfilled = tt },
         (
-          record { own = λ t is. tt; log = tt; unfilled = tt },
+          record { own = λ t is. tt; saves = λ t is. tt; log = tt; unfilled = tt },
           (
-            record { own = λ t is. tt; log = tt; unfilled = tt },
+            record { own = λ t is. tt; saves = λ t is. tt; log = tt; unfilled = tt },
             (
-              record { own = λ t is. own_window _ t _; log = tt; unfilled = tt },
-              (record { own = λ t is. own_window _ t _; log = tt; unfilled = tt }, (record { own = λ t is. no_window_over at_exclusion t 23 13 18 excludes_over; log = tt; unfilled = tt }, tt)),
+              record { own = λ t is. own_window _ t _; saves = λ t is. tt; log = tt; unfilled = tt },
+              (record { own = λ t is. own_window _ t _; saves = λ t is. tt; log = tt; unfilled = tt }, (record { own = λ t is. no_window_over at_exclusion t 23 13 18 excludes_over; saves = λ t is. tt; log = tt; unfilled = tt }, tt)),
             ),
           ),
         ),

@@ -31,7 +31,7 @@ keeps_but_snapshots Phases not = record { fits = each_place (λ i l a. FitsPhase
 keeps_but_snapshots Stamps not = stamps_agree value_from_nowhere.opening (told_of value_from_nowhere) (said_of value_from_nowhere.script value_from_nowhere.report.answers) refl refl refl refl refl refl (in_one _ _ (omega arith)) (in_one _ _ tt) (in_one _ _ tt)
 keeps_but_snapshots Snapshots not = absurd (not refl)
 keeps_but_snapshots Causes not = in_one _ _ tt
-keeps_but_snapshots Refusals not = record { each = each_place (λ i l a. HasCause (moment_at InTurn value_from_nowhere.opening value_from_nowhere.script value_from_nowhere.report.answers (told_of value_from_nowhere) i l) l.command a) value_from_nowhere.script value_from_nowhere.report.answers (record { own = λ t is. tt; log = tt; unfilled = tt }, (record { own = λ t is. tt; log = tt; unfilled = tt }, (record { own = λ t is. tt; log = tt; unfilled = tt }, tt))); reach = reach_from_test (moment_at InTurn value_from_nowhere.opening value_from_nowhere.script value_from_nowhere.report.answers (told_of value_from_nowhere)) value_from_nowhere.script value_from_nowhere.report.answers refl; untold = untold_in_reach InTurn value_from_nowhere.opening value_from_nowhere.script value_from_nowhere.report.answers (told_of value_from_nowhere) refl }
+keeps_but_snapshots Refusals not = record { each = each_place (λ i l a. HasCause (moment_at InTurn value_from_nowhere.opening value_from_nowhere.script value_from_nowhere.report.answers (told_of value_from_nowhere) i l) l.command a) value_from_nowhere.script value_from_nowhere.report.answers (record { own = λ t is. tt; saves = λ t is. tt; log = tt; unfilled = tt }, (record { own = λ t is. tt; saves = λ t is. tt; log = tt; unfilled = tt }, (record { own = λ t is. tt; saves = λ t is. tt; log = tt; unfilled = tt }, tt))); reach = reach_from_test (moment_at InTurn value_from_nowhere.opening value_from_nowhere.script value_from_nowhere.report.answers (told_of value_from_nowhere)) value_from_nowhere.script value_from_nowhere.report.answers refl; untold = untold_in_reach InTurn value_from_nowhere.opening value_from_nowhere.script value_from_nowhere.report.answers (told_of value_from_nowhere) refl }
 keeps_but_snapshots Safe not = safe_kept value_from_nowhere refl
 keeps_but_snapshots Serial not = no_commit_ordered
 keeps_but_snapshots Ascending not = no_pair_ascends
@@ -75,7 +75,7 @@ keeps_but_commit Phases not = record { fits = each_place (λ i l a. FitsPhase (p
 keeps_but_commit Stamps not = stamps_agree predecessor_unknown.opening (told_of predecessor_unknown) (said_of predecessor_unknown.script predecessor_unknown.report.answers) refl refl refl refl refl refl (in_one _ _ (omega arith)) (in_one _ _ (omega arith)) (in_one _ _ tt)
 keeps_but_commit Snapshots not = in_one _ _ (first_snapshot (history_of (told_of predecessor_unknown)) predecessor_unknown.opening.map 13 [] refl tt)
 keeps_but_commit Causes not = absurd (not refl)
-keeps_but_commit Refusals not = record { each = each_place (λ i l a. HasCause (moment_at InTurn predecessor_unknown.opening predecessor_unknown.script predecessor_unknown.report.answers (told_of predecessor_unknown) i l) l.command a) predecessor_unknown.script predecessor_unknown.report.answers (record { own = λ t is. tt; log = tt; unfilled = tt }, (record { own = λ t is. λ window. absurd (no_predecessor_in t window); log = tt; unfilled = tt }, tt)); reach = reach_from_test (moment_at InTurn predecessor_unknown.opening predecessor_unknown.script predecessor_unknown.report.answers (told_of predecessor_unknown)) predecessor_unknown.script predecessor_unknown.report.answers refl; untold = untold_in_reach InTurn predecessor_unknown.opening predecessor_unknown.script predecessor_unknown.report.answers (told_of predecessor_unknown) refl }
+keeps_but_commit Refusals not = record { each = each_place (λ i l a. HasCause (moment_at InTurn predecessor_unknown.opening predecessor_unknown.script predecessor_unknown.report.answers (told_of predecessor_unknown) i l) l.command a) predecessor_unknown.script predecessor_unknown.report.answers (record { own = λ t is. tt; saves = λ t is. tt; log = tt; unfilled = tt }, (record { own = λ t is. λ window. absurd (no_predecessor_in t window); saves = λ t is. tt; log = tt; unfilled = tt }, tt)); reach = reach_from_test (moment_at InTurn predecessor_unknown.opening predecessor_unknown.script predecessor_unknown.report.answers (told_of predecessor_unknown)) predecessor_unknown.script predecessor_unknown.report.answers refl; untold = untold_in_reach InTurn predecessor_unknown.opening predecessor_unknown.script predecessor_unknown.report.answers (told_of predecessor_unknown) refl }
 keeps_but_commit Safe not = safe_kept predecessor_unknown refl
 keeps_but_commit Serial not = one_commit_ordered _
 keeps_but_commit Ascending not = no_pair_ascends
@@ -101,7 +101,7 @@ keeps_but_exclusion Phases not = record { fits = each_place (λ i l a. FitsPhase
 keeps_but_exclusion Stamps not = stamps_agree excluded_alone.opening (told_of excluded_alone) (said_of excluded_alone.script excluded_alone.report.answers) refl refl refl refl refl refl (in_one _ _ (omega arith)) (in_one _ _ (omega arith)) (in_one _ _ tt)
 keeps_but_exclusion Snapshots not = in_one _ _ (first_snapshot [] excluded_alone.opening.map 13 [] refl tt)
 keeps_but_exclusion Causes not = absurd (not refl)
-keeps_but_exclusion Refusals not = record { each = each_place (λ i l a. HasCause (moment_at InTurn excluded_alone.opening excluded_alone.script excluded_alone.report.answers (told_of excluded_alone) i l) l.command a) excluded_alone.script excluded_alone.report.answers (record { own = λ t is. tt; log = tt; unfilled = tt }, (record { own = λ t is. λ window. absurd (no_commit window.after window.after_in window.succ_cause.own 13 window.succ_cause.pred window.succ_cause.ending); log = tt; unfilled = tt }, tt)); reach = reach_from_test (moment_at InTurn excluded_alone.opening excluded_alone.script excluded_alone.report.answers (told_of excluded_alone)) excluded_alone.script excluded_alone.report.answers refl; untold = untold_in_reach InTurn excluded_alone.opening excluded_alone.script excluded_alone.report.answers (told_of excluded_alone) refl }
+keeps_but_exclusion Refusals not = record { each = each_place (λ i l a. HasCause (moment_at InTurn excluded_alone.opening excluded_alone.script excluded_alone.report.answers (told_of excluded_alone) i l) l.command a) excluded_alone.script excluded_alone.report.answers (record { own = λ t is. tt; saves = λ t is. tt; log = tt; unfilled = tt }, (record { own = λ t is. λ window. absurd (no_commit window.after window.after_in window.succ_cause.own 13 window.succ_cause.pred window.succ_cause.ending); saves = λ t is. tt; log = tt; unfilled = tt }, tt)); reach = reach_from_test (moment_at InTurn excluded_alone.opening excluded_alone.script excluded_alone.report.answers (told_of excluded_alone)) excluded_alone.script excluded_alone.report.answers refl; untold = untold_in_reach InTurn excluded_alone.opening excluded_alone.script excluded_alone.report.answers (told_of excluded_alone) refl }
 keeps_but_exclusion Safe not = safe_kept excluded_alone refl
 keeps_but_exclusion Serial not = no_commit_ordered
 keeps_but_exclusion Ascending not = no_pair_ascends

@@ -47,7 +47,7 @@ keeps_but_wait Phases not = keeps Phases
 keeps_but_wait Stamps not = at_once waits_at_once.opening (told_of waits_at_once) (said_of waits_at_once.script waits_at_once.report.answers) (keeps Stamps)
 keeps_but_wait Snapshots not = keeps Snapshots
 keeps_but_wait Causes not = keeps Causes
-keeps_but_wait Refusals not = refusals_kept waits_at_once refl (record { own = λ t is. tt; log = tt; unfilled = tt }, (record { own = λ t is. tt; log = tt; unfilled = tt }, (record { own = λ t is. own_window _ t _; log = tt; unfilled = tt }, (record { own = λ t is. absurd (cc is.1); log = tt; unfilled = tt }, (record { own = λ t is. own_window _ t _; log = tt; unfilled = tt }, (record { own = λ t is. tt; log = tt; unfilled = tt }, (record { own = λ t is. tt; log = tt; unfilled = tt }, (record { own = λ t is. tt; log = tt; unfilled = tt }, tt))))))))
+keeps_but_wait Refusals not = refusals_kept waits_at_once refl (record { own = λ t is. tt; saves = λ t is. tt; log = tt; unfilled = tt }, (record { own = λ t is. tt; saves = λ t is. tt; log = tt; unfilled = tt }, (record { own = λ t is. own_window _ t _; saves = λ t is. tt; log = tt; unfilled = tt }, (record { own = λ t is. absurd (cc is.1); saves = λ t is. tt; log = tt; unfilled = tt }, (record { own = λ t is. own_window _ t _; saves = λ t is. tt; log = tt; unfilled = tt }, (record { own = λ t is. tt; saves = λ t is. tt; log = tt; unfilled = tt }, (record { own = λ t is. tt; saves = λ t is. tt; log = tt; unfilled = tt }, (record { own = λ t is. tt; saves = λ t is. tt; log = tt; unfilled = tt }, tt))))))))
 keeps_but_wait Safe not = absurd (not refl)
 keeps_but_wait Serial not = keeps Serial
 keeps_but_wait Ascending not = keeps Ascending
@@ -70,7 +70,7 @@ keeps_but_beside Phases not = phases_by_line safe_beside_one_that_went_back (tt,
 keeps_but_beside Stamps not = at_once safe_beside_one_that_went_back.opening told (said_of safe_beside_one_that_went_back.script safe_beside_one_that_went_back.report.answers) (stamps_agree safe_beside_one_that_went_back.opening told (said_of safe_beside_one_that_went_back.script safe_beside_one_that_went_back.report.answers) refl refl refl refl refl refl own_least own_begun own_sealed)
 keeps_but_beside Snapshots not = own_replies
 keeps_but_beside Causes not = own_causes
-keeps_but_beside Refusals not = refusals_kept safe_beside_one_that_went_back refl (record { own = λ t is. tt; log = tt; unfilled = tt }, (record { own = λ t is. tt; log = tt; unfilled = tt }, (record { own = λ t is. tt; log = tt; unfilled = tt }, (record { own = λ t is. own_window _ t _; log = tt; unfilled = tt }, (record { own = λ t is. tt; log = tt; unfilled = tt }, (record { own = λ t is. tt; log = tt; unfilled = tt }, (record { own = λ t is. tt; log = tt; unfilled = tt }, (record { own = λ t is. tt; log = tt; unfilled = tt }, (record { own = λ t is. tt; log = tt; unfilled = tt }, (record { own = λ t is. tt; log = tt; unfilled = tt }, (record { own = λ t is. window_over (moment_at AtOnce safe_beside_one_that_went_back.opening safe_beside_one_that_went_back.script safe_beside_one_that_went_back.report.answers told 10 (record { line = 11; session = 1; command = command.Commit })) t 38 38 13 (over_at_once (moment_at AtOnce safe_beside_one_that_went_back.opening safe_beside_one_that_went_back.script safe_beside_one_that_went_back.report.answers told 10 (record { line = 11; session = 1; command = command.Commit })) 38 refl); log = tt; unfilled = tt }, (record { own = λ t is. window_over (moment_at AtOnce safe_beside_one_that_went_back.opening safe_beside_one_that_went_back.script safe_beside_one_that_went_back.report.answers told 11 (record { line = 12; session = 2; command = command.Commit })) t 47 38 13 (over_at_once (moment_at AtOnce safe_beside_one_that_went_back.opening safe_beside_one_that_went_back.script safe_beside_one_that_went_back.report.answers told 11 (record { line = 12; session = 2; command = command.Commit })) 47 refl); log = tt; unfilled = tt }, (record { own = λ t is. tt; log = tt; unfilled = tt }, (record { own = λ t is. tt; log = tt; unfilled = tt }, tt))))))))))))))
+keeps_but_beside Refusals not = refusals_kept safe_beside_one_that_went_back refl (record { own = λ t is. tt; saves = λ t is. tt; log = tt; unfilled = tt }, (record { own = λ t is. tt; saves = λ t is. tt; log = tt; unfilled = tt }, (record { own = λ t is. tt; saves = λ t is. tt; log = tt; unfilled = tt }, (record { own = λ t is. own_window _ t _; saves = λ t is. tt; log = tt; unfilled = tt }, (record { own = λ t is. tt; saves = λ t is. tt; log = tt; unfilled = tt }, (record { own = λ t is. tt; saves = λ t is. tt; log = tt; unfilled = tt }, (record { own = λ t is. tt; saves = λ t is. tt; log = tt; unfilled = tt }, (record { own = λ t is. tt; saves = λ t is. tt; log = tt; unfilled = tt }, (record { own = λ t is. tt; saves = λ t is. tt; log = tt; unfilled = tt }, (record { own = λ t is. tt; saves = λ t is. tt; log = tt; unfilled = tt }, (record { own = λ t is. window_over (moment_at AtOnce safe_beside_one_that_went_back.opening safe_beside_one_that_went_back.script safe_beside_one_that_went_back.report.answers told 10 (record { line = 11; session = 1; command = command.Commit })) t 38 38 13 (over_at_once (moment_at AtOnce safe_beside_one_that_went_back.opening safe_beside_one_that_went_back.script safe_beside_one_that_went_back.report.answers told 10 (record { line = 11; session = 1; command = command.Commit })) 38 refl); saves = λ t is. tt; log = tt; unfilled = tt }, (record { own = λ t is. window_over (moment_at AtOnce safe_beside_one_that_went_back.opening safe_beside_one_that_went_back.script safe_beside_one_that_went_back.report.answers told 11 (record { line = 12; session = 2; command = command.Commit })) t 47 38 13 (over_at_once (moment_at AtOnce safe_beside_one_that_went_back.opening safe_beside_one_that_went_back.script safe_beside_one_that_went_back.report.answers told 11 (record { line = 12; session = 2; command = command.Commit })) 47 refl); saves = λ t is. tt; log = tt; unfilled = tt }, (record { own = λ t is. tt; saves = λ t is. tt; log = tt; unfilled = tt }, (record { own = λ t is. tt; saves = λ t is. tt; log = tt; unfilled = tt }, tt))))))))))))))
 keeps_but_beside Safe not = absurd (not refl)
 keeps_but_beside Serial not = own_order
 keeps_but_beside Ascending not = own_pairs

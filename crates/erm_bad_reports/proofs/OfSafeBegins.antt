@@ -24,7 +24,7 @@ keeps_but_fall Phases not = phases_by_line safes_fall (tt, (tt, (tt, (tt, (tt, (
 keeps_but_fall Stamps not = stamps_agree safes_fall.opening (told_of safes_fall) (said_of safes_fall.script safes_fall.report.answers) refl refl refl refl refl refl (in_one _ _ (omega arith)) (in_one _ _ (omega arith)) (in_one _ _ tt)
 keeps_but_fall Snapshots not = in_one _ _ (first_snapshot (history_of (told_of safes_fall)) empty 13 [] refl tt)
 keeps_but_fall Causes not = in_one _ _ (record { opens = omega arith; closes = omega arith; succ_cause = inl refl; pred_cause = inl refl })
-keeps_but_fall Refusals not = refusals_kept safes_fall refl (record { own = λ t is. tt; log = tt; unfilled = tt }, (record { own = λ t is. own_window _ t _; log = tt; unfilled = tt }, (record { own = λ t is. tt; log = tt; unfilled = tt }, (record { own = λ t is. tt; log = tt; unfilled = tt }, (record { own = λ t is. tt; log = tt; unfilled = tt }, (record { own = λ t is. tt; log = tt; unfilled = tt }, tt))))))
+keeps_but_fall Refusals not = refusals_kept safes_fall refl (record { own = λ t is. tt; saves = λ t is. tt; log = tt; unfilled = tt }, (record { own = λ t is. own_window _ t _; saves = λ t is. tt; log = tt; unfilled = tt }, (record { own = λ t is. tt; saves = λ t is. tt; log = tt; unfilled = tt }, (record { own = λ t is. tt; saves = λ t is. tt; log = tt; unfilled = tt }, (record { own = λ t is. tt; saves = λ t is. tt; log = tt; unfilled = tt }, (record { own = λ t is. tt; saves = λ t is. tt; log = tt; unfilled = tt }, tt))))))
 keeps_but_fall Safe not = absurd (not refl)
 keeps_but_fall Serial not = one_commit_ordered _
 keeps_but_fall Ascending not = no_pair_ascends
@@ -52,7 +52,7 @@ keeps_but_flushed Phases not = phases_by_line safe_below_the_flushed (tt, (tt, (
 keeps_but_flushed Stamps not = stamps_agree safe_below_the_flushed.opening (told_of safe_below_the_flushed) (said_of safe_below_the_flushed.script safe_below_the_flushed.report.answers) refl refl refl refl refl refl (in_none _) (in_none _) (in_none _)
 keeps_but_flushed Snapshots not = in_none _
 keeps_but_flushed Causes not = in_none _
-keeps_but_flushed Refusals not = refusals_kept safe_below_the_flushed refl (checkpointed _ 18 (omega arith) (λ session. refl) (λ session. idle_open), (record { own = λ t is. tt; log = tt; unfilled = tt }, (record { own = λ t is. tt; log = tt; unfilled = tt }, tt)))
+keeps_but_flushed Refusals not = refusals_kept safe_below_the_flushed refl (checkpointed _ 18 (omega arith) (λ session. refl) (λ session. idle_open), (record { own = λ t is. tt; saves = λ t is. tt; log = tt; unfilled = tt }, (record { own = λ t is. tt; saves = λ t is. tt; log = tt; unfilled = tt }, tt)))
 keeps_but_flushed Safe not = absurd (not refl)
 keeps_but_flushed Serial not = no_commit_ordered
 keeps_but_flushed Ascending not = no_pair_ascends
@@ -82,7 +82,7 @@ keeps_but_open Phases not = phases_by_line safe_left_open (tt, tt) (tt, tt)
 keeps_but_open Stamps not = stamps_agree safe_left_open.opening (told_of safe_left_open) (said_of safe_left_open.script safe_left_open.report.answers) refl refl refl refl refl refl (in_none _) (in_none _) (in_none _)
 keeps_but_open Snapshots not = in_none _
 keeps_but_open Causes not = in_none _
-keeps_but_open Refusals not = refusals_kept safe_left_open refl (record { own = λ t is. tt; log = tt; unfilled = tt }, tt)
+keeps_but_open Refusals not = refusals_kept safe_left_open refl (record { own = λ t is. tt; saves = λ t is. tt; log = tt; unfilled = tt }, tt)
 keeps_but_open Safe not = safe_by_line safe_left_open (λ session number. 13) refl (λ is. (refl, safe_there _ 13 refl), tt) (open_owes, tt)
 keeps_but_open Serial not = no_commit_ordered
 keeps_but_open Ascending not = no_pair_ascends

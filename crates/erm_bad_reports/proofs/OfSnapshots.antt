@@ -60,7 +60,7 @@ keeps_but_look Stamps not = stamps_agree look_refused.opening (told_of look_refu
 keeps_but_look Snapshots not = in_none _
 keeps_but_look Causes not = in_none _
 keeps_but_look Refusals not = refusals_kept look_refused refl
-    (record { own = λ t is. tt; log = tt; unfilled = tt }, (record { own = λ t is. absurd (cc is.1); log = tt; unfilled = tt }, (record { own = λ t is. tt; log = tt; unfilled = tt }, tt)))
+    (record { own = λ t is. tt; saves = λ t is. tt; log = tt; unfilled = tt }, (record { own = λ t is. absurd (cc is.1); saves = λ t is. tt; log = tt; unfilled = tt }, (record { own = λ t is. tt; saves = λ t is. tt; log = tt; unfilled = tt }, tt)))
 keeps_but_look Safe not = safe_by_line look_refused (λ session number. 13) refl (λ is. (refl, safe_there _ 13 refl), (λ is. absurd (cc), (λ is. absurd (cc), tt)))
     (look_owed, (look_owed, (look_owed, tt)))
 keeps_but_look Serial not = no_commit_ordered
@@ -84,7 +84,7 @@ keeps_but_idle Phases not = phases_by_line waits_for_idle (tt, (tt, tt)) (tt, (t
 keeps_but_idle Stamps not = stamps_agree waits_for_idle.opening (told_of waits_for_idle) (said_of waits_for_idle.script waits_for_idle.report.answers) refl refl refl refl refl refl (in_none _) (in_none _) (in_none _)
 keeps_but_idle Snapshots not = in_none _
 keeps_but_idle Causes not = in_none _
-keeps_but_idle Refusals not = refusals_kept waits_for_idle refl (record { own = λ t is. absurd (cc is.1); log = tt; unfilled = tt }, (record { own = λ t is. tt; log = tt; unfilled = tt }, tt))
+keeps_but_idle Refusals not = refusals_kept waits_for_idle refl (record { own = λ t is. absurd (cc is.1); saves = λ t is. tt; log = tt; unfilled = tt }, (record { own = λ t is. tt; saves = λ t is. tt; log = tt; unfilled = tt }, tt))
 keeps_but_idle Safe not = absurd (not refl)
 keeps_but_idle Serial not = no_commit_ordered
 keeps_but_idle Ascending not = no_pair_ascends
@@ -110,7 +110,7 @@ keeps_but_safe_far Phases not = phases_by_line safe_out_of_reach (tt, (tt, tt)) 
 keeps_but_safe_far Stamps not = stamps_agree safe_out_of_reach.opening (told_of safe_out_of_reach) (said_of safe_out_of_reach.script safe_out_of_reach.report.answers) refl refl refl refl refl refl (in_none _) (in_none _) (in_none _)
 keeps_but_safe_far Snapshots not = in_none _
 keeps_but_safe_far Causes not = in_none _
-keeps_but_safe_far Refusals not = refusals_kept safe_out_of_reach refl (record { own = λ t is. tt; log = tt; unfilled = tt }, (record { own = λ t is. tt; log = tt; unfilled = tt }, tt))
+keeps_but_safe_far Refusals not = refusals_kept safe_out_of_reach refl (record { own = λ t is. tt; saves = λ t is. tt; log = tt; unfilled = tt }, (record { own = λ t is. tt; saves = λ t is. tt; log = tt; unfilled = tt }, tt))
 keeps_but_safe_far Safe not = absurd (not refl)
 keeps_but_safe_far Serial not = no_commit_ordered
 keeps_but_safe_far Ascending not = no_pair_ascends
@@ -137,7 +137,7 @@ keeps_but_safe_stop Phases not = phases_by_line safe_at_the_stop (tt, (tt, tt)) 
 keeps_but_safe_stop Stamps not = stamps_agree safe_at_the_stop.opening (told_of safe_at_the_stop) (said_of safe_at_the_stop.script safe_at_the_stop.report.answers) refl refl refl refl refl refl (in_none _) (in_none _) (in_none _)
 keeps_but_safe_stop Snapshots not = in_none _
 keeps_but_safe_stop Causes not = in_none _
-keeps_but_safe_stop Refusals not = refusals_kept safe_at_the_stop refl (record { own = λ t is. tt; log = tt; unfilled = tt }, (record { own = λ t is. tt; log = tt; unfilled = tt }, tt))
+keeps_but_safe_stop Refusals not = refusals_kept safe_at_the_stop refl (record { own = λ t is. tt; saves = λ t is. tt; log = tt; unfilled = tt }, (record { own = λ t is. tt; saves = λ t is. tt; log = tt; unfilled = tt }, tt))
 keeps_but_safe_stop Safe not = absurd (not refl)
 keeps_but_safe_stop Serial not = no_commit_ordered
 keeps_but_safe_stop Ascending not = no_pair_ascends
@@ -164,7 +164,7 @@ keeps_but_at_commit Phases not = phases_by_line safe_at_a_commit (tt, (tt, (tt, 
 keeps_but_at_commit Stamps not = stamps_agree safe_at_a_commit.opening (told_of safe_at_a_commit) (said_of safe_at_a_commit.script safe_at_a_commit.report.answers) refl refl refl refl refl refl (in_one _ _ (omega arith)) (in_one _ _ (omega arith)) (in_one _ _ tt)
 keeps_but_at_commit Snapshots not = in_one _ _ (first_snapshot (history_of (told_of safe_at_a_commit)) empty 13 [] refl tt)
 keeps_but_at_commit Causes not = in_one _ _ (record { opens = omega arith; closes = omega arith; succ_cause = inl refl; pred_cause = inl refl })
-keeps_but_at_commit Refusals not = refusals_kept safe_at_a_commit refl (record { own = λ t is. tt; log = tt; unfilled = tt }, (record { own = λ t is. own_window _ t _; log = tt; unfilled = tt }, (record { own = λ t is. tt; log = tt; unfilled = tt }, (record { own = λ t is. tt; log = tt; unfilled = tt }, tt))))
+keeps_but_at_commit Refusals not = refusals_kept safe_at_a_commit refl (record { own = λ t is. tt; saves = λ t is. tt; log = tt; unfilled = tt }, (record { own = λ t is. own_window _ t _; saves = λ t is. tt; log = tt; unfilled = tt }, (record { own = λ t is. tt; saves = λ t is. tt; log = tt; unfilled = tt }, (record { own = λ t is. tt; saves = λ t is. tt; log = tt; unfilled = tt }, tt))))
 keeps_but_at_commit Safe not = absurd (not refl)
 keeps_but_at_commit Serial not = one_commit_ordered _
 keeps_but_at_commit Ascending not = no_pair_ascends
@@ -195,7 +195,7 @@ keeps_but_now Phases not = phases_by_line reply_of_now (tt, (tt, (tt, (tt, (tt, 
 keeps_but_now Stamps not = stamps_agree reply_of_now.opening (told_of reply_of_now) (said_of reply_of_now.script reply_of_now.report.answers) refl refl refl refl refl refl (in_one _ _ (omega arith)) (in_one _ _ (omega arith)) (in_one _ _ tt)
 keeps_but_now Snapshots not = in_one _ _ (first_snapshot (history_of (told_of reply_of_now)) empty 13 _ refl (refl, tt))
 keeps_but_now Causes not = in_one _ _ (record { opens = omega arith; closes = omega arith; succ_cause = inl refl; pred_cause = inl refl })
-keeps_but_now Refusals not = refusals_kept reply_of_now refl (record { own = λ t is. tt; log = tt; unfilled = tt }, (record { own = λ t is. tt; log = tt; unfilled = tt }, (record { own = λ t is. tt; log = tt; unfilled = tt }, (record { own = λ t is. own_window _ t _; log = tt; unfilled = tt }, (record { own = λ t is. tt; log = tt; unfilled = tt }, (record { own = λ t is. tt; log = tt; unfilled = tt }, tt))))))
+keeps_but_now Refusals not = refusals_kept reply_of_now refl (record { own = λ t is. tt; saves = λ t is. tt; log = tt; unfilled = tt }, (record { own = λ t is. tt; saves = λ t is. tt; log = tt; unfilled = tt }, (record { own = λ t is. tt; saves = λ t is. tt; log = tt; unfilled = tt }, (record { own = λ t is. own_window _ t _; saves = λ t is. tt; log = tt; unfilled = tt }, (record { own = λ t is. tt; saves = λ t is. tt; log = tt; unfilled = tt }, (record { own = λ t is. tt; saves = λ t is. tt; log = tt; unfilled = tt }, tt))))))
 keeps_but_now Safe not = absurd (not refl)
 keeps_but_now Serial not = one_commit_ordered _
 keeps_but_now Ascending not = λ i j d less within. absurd (omega arith)
@@ -224,7 +224,7 @@ keeps_but_turn Phases not = phases_by_line unsafe_by_no_turn (tt, (tt, (tt, (tt,
 keeps_but_turn Stamps not = stamps_agree unsafe_by_no_turn.opening (told_of unsafe_by_no_turn) (said_of unsafe_by_no_turn.script unsafe_by_no_turn.report.answers) refl refl refl refl refl refl (each_in (λ t. 13 ≤ t.begin) (told_of unsafe_by_no_turn) (omega arith, (omega arith, tt))) (each_in (λ t. IfSome (stamp_of t) (λ stamp. t.begin ≤ stamp)) (told_of unsafe_by_no_turn) (omega arith, (omega arith, tt))) (each_in (λ t. Told (λ a b. a ≡ b) t.sealed (stamp_of_ending t.ending)) (told_of unsafe_by_no_turn) (tt, (tt, tt)))
 keeps_but_turn Snapshots not = each_in (λ t. HasSnapshotReplies (history_of (told_of unsafe_by_no_turn)) empty t.begin (steps_of t)) (told_of unsafe_by_no_turn) (first_snapshot (history_of (told_of unsafe_by_no_turn)) empty 13 [] refl tt, (first_snapshot (history_of (told_of unsafe_by_no_turn)) empty 13 [] refl tt, tt))
 keeps_but_turn Causes not = each_in (λ t. HasCauseOf t.ending (told_of unsafe_by_no_turn) t) (told_of unsafe_by_no_turn) (record { opens = omega arith; closes = omega arith; succ_cause = inl refl; pred_cause = inl refl }, (record { opens = omega arith; closes = omega arith; succ_cause = inl refl; pred_cause = inl refl }, tt))
-keeps_but_turn Refusals not = refusals_kept unsafe_by_no_turn refl (record { own = λ t is. tt; log = tt; unfilled = tt }, (record { own = λ t is. tt; log = tt; unfilled = tt }, (record { own = λ t is. own_window _ t _; log = tt; unfilled = tt }, (record { own = λ t is. absurd (cc is.1); log = tt; unfilled = tt }, (record { own = λ t is. own_window _ t _; log = tt; unfilled = tt }, (record { own = λ t is. tt; log = tt; unfilled = tt }, tt))))))
+keeps_but_turn Refusals not = refusals_kept unsafe_by_no_turn refl (record { own = λ t is. tt; saves = λ t is. tt; log = tt; unfilled = tt }, (record { own = λ t is. tt; saves = λ t is. tt; log = tt; unfilled = tt }, (record { own = λ t is. own_window _ t _; saves = λ t is. tt; log = tt; unfilled = tt }, (record { own = λ t is. absurd (cc is.1); saves = λ t is. tt; log = tt; unfilled = tt }, (record { own = λ t is. own_window _ t _; saves = λ t is. tt; log = tt; unfilled = tt }, (record { own = λ t is. tt; saves = λ t is. tt; log = tt; unfilled = tt }, tt))))))
 keeps_but_turn Safe not = absurd (not refl)
 keeps_but_turn Serial not = record { same = IsPermutation-refl (history_of (told_of unsafe_by_no_turn)); ascends = all_pairs_of_two (λ a b. ComesBefore (rank_of a) (rank_of b)) _ _ (inl (omega arith)) }
 keeps_but_turn Ascending not = no_pair_ascends
@@ -253,7 +253,7 @@ keeps_but_moves Phases not = phases_by_line begin_moves (tt, (tt, (tt, (tt, (tt,
 keeps_but_moves Stamps not = stamps_agree begin_moves.opening (told_of begin_moves) (said_of begin_moves.script begin_moves.report.answers) refl refl refl refl refl refl (each_in (λ t. 13 ≤ t.begin) (told_of begin_moves) (omega arith, (omega arith, tt))) (each_in (λ t. IfSome (stamp_of t) (λ stamp. t.begin ≤ stamp)) (told_of begin_moves) (omega arith, (omega arith, tt))) (each_in (λ t. Told (λ a b. a ≡ b) t.sealed (stamp_of_ending t.ending)) (told_of begin_moves) (tt, (tt, tt)))
 keeps_but_moves Snapshots not = each_in (λ t. HasSnapshotReplies (history_of (told_of begin_moves)) empty t.begin (steps_of t)) (told_of begin_moves) (first_snapshot (history_of (told_of begin_moves)) empty 13 [] refl tt, (first_snapshot (history_of (told_of begin_moves)) empty 13 [] refl tt, tt))
 keeps_but_moves Causes not = each_in (λ t. HasCauseOf t.ending (told_of begin_moves) t) (told_of begin_moves) (record { opens = omega arith; closes = omega arith; succ_cause = inl refl; pred_cause = inl refl }, (record { opens = omega arith; closes = omega arith; succ_cause = inl refl; pred_cause = inl refl }, tt))
-keeps_but_moves Refusals not = refusals_kept begin_moves refl (record { own = λ t is. tt; log = tt; unfilled = tt }, (record { own = λ t is. tt; log = tt; unfilled = tt }, (record { own = λ t is. own_window _ t _; log = tt; unfilled = tt }, (record { own = λ t is. absurd (cc is.1); log = tt; unfilled = tt }, (record { own = λ t is. own_window _ t _; log = tt; unfilled = tt }, (record { own = λ t is. tt; log = tt; unfilled = tt }, (record { own = λ t is. tt; log = tt; unfilled = tt }, tt)))))))
+keeps_but_moves Refusals not = refusals_kept begin_moves refl (record { own = λ t is. tt; saves = λ t is. tt; log = tt; unfilled = tt }, (record { own = λ t is. tt; saves = λ t is. tt; log = tt; unfilled = tt }, (record { own = λ t is. own_window _ t _; saves = λ t is. tt; log = tt; unfilled = tt }, (record { own = λ t is. absurd (cc is.1); saves = λ t is. tt; log = tt; unfilled = tt }, (record { own = λ t is. own_window _ t _; saves = λ t is. tt; log = tt; unfilled = tt }, (record { own = λ t is. tt; saves = λ t is. tt; log = tt; unfilled = tt }, (record { own = λ t is. tt; saves = λ t is. tt; log = tt; unfilled = tt }, tt)))))))
 keeps_but_moves Safe not = absurd (not refl)
 keeps_but_moves Serial not = record { same = IsPermutation-refl (history_of (told_of begin_moves)); ascends = all_pairs_of_two (λ a b. ComesBefore (rank_of a) (rank_of b)) _ _ (inl (omega arith)) }
 keeps_but_moves Ascending not = no_pair_ascends
@@ -280,7 +280,7 @@ keeps_but_early Phases not = phases_by_line safe_too_early (tt, (tt, (tt, (tt, (
 keeps_but_early Stamps not = stamps_agree safe_too_early.opening (told_of safe_too_early) (said_of safe_too_early.script safe_too_early.report.answers) refl refl refl refl refl refl (each_in (λ t. 13 ≤ t.begin) (told_of safe_too_early) (omega arith, (omega arith, tt))) (each_in (λ t. IfSome (stamp_of t) (λ stamp. t.begin ≤ stamp)) (told_of safe_too_early) (tt, (omega arith, tt))) (each_in (λ t. Told (λ a b. a ≡ b) t.sealed (stamp_of_ending t.ending)) (told_of safe_too_early) (tt, (tt, tt)))
 keeps_but_early Snapshots not = each_in (λ t. HasSnapshotReplies (history_of (told_of safe_too_early)) empty t.begin (steps_of t)) (told_of safe_too_early) (first_snapshot (history_of (told_of safe_too_early)) empty 13 [] refl tt, (first_snapshot (history_of (told_of safe_too_early)) empty 13 [] refl tt, tt))
 keeps_but_early Causes not = each_in (λ t. HasCauseOf t.ending (told_of safe_too_early) t) (told_of safe_too_early) (tt, (record { opens = omega arith; closes = omega arith; succ_cause = inl refl; pred_cause = inl refl }, tt))
-keeps_but_early Refusals not = refusals_kept safe_too_early refl (record { own = λ t is. tt; log = tt; unfilled = tt }, (record { own = λ t is. tt; log = tt; unfilled = tt }, (record { own = λ t is. own_window _ t _; log = tt; unfilled = tt }, (record { own = λ t is. tt; log = tt; unfilled = tt }, (record { own = λ t is. tt; log = tt; unfilled = tt }, (record { own = λ t is. tt; log = tt; unfilled = tt }, tt))))))
+keeps_but_early Refusals not = refusals_kept safe_too_early refl (record { own = λ t is. tt; saves = λ t is. tt; log = tt; unfilled = tt }, (record { own = λ t is. tt; saves = λ t is. tt; log = tt; unfilled = tt }, (record { own = λ t is. own_window _ t _; saves = λ t is. tt; log = tt; unfilled = tt }, (record { own = λ t is. tt; saves = λ t is. tt; log = tt; unfilled = tt }, (record { own = λ t is. tt; saves = λ t is. tt; log = tt; unfilled = tt }, (record { own = λ t is. tt; saves = λ t is. tt; log = tt; unfilled = tt }, tt))))))
 keeps_but_early Safe not = absurd (not refl)
 keeps_but_early Serial not = one_commit_ordered _
 keeps_but_early Ascending not = no_pair_ascends

@@ -72,7 +72,7 @@ keeps_but_sealed Phases not = phases_kept sealed_with_another (tt, (tt, (tt, tt)
 keeps_but_sealed Stamps not = absurd (not refl)
 keeps_but_sealed Snapshots not = in_one _ _ (first_snapshot (history_of (told_of sealed_with_another)) empty 13 [] refl tt)
 keeps_but_sealed Causes not = in_one _ _ (record { opens = omega arith; closes = omega arith; succ_cause = inl refl; pred_cause = inl refl })
-keeps_but_sealed Refusals not = refusals_kept sealed_with_another refl (record { own = λ t is. tt; log = tt; unfilled = tt }, (record { own = λ t is. tt; log = tt; unfilled = tt }, (record { own = λ t is. own_window _ t _; log = tt; unfilled = tt }, tt)))
+keeps_but_sealed Refusals not = refusals_kept sealed_with_another refl (record { own = λ t is. tt; saves = λ t is. tt; log = tt; unfilled = tt }, (record { own = λ t is. tt; saves = λ t is. tt; log = tt; unfilled = tt }, (record { own = λ t is. own_window _ t _; saves = λ t is. tt; log = tt; unfilled = tt }, tt)))
 keeps_but_sealed Safe not = safe_kept sealed_with_another refl
 keeps_but_sealed Serial not = one_commit_ordered _
 keeps_but_sealed Ascending not = no_pair_ascends
@@ -116,7 +116,7 @@ keeps_but_begins Snapshots not = each_in (λ t. HasSnapshotReplies (history_of (
     (first_snapshot (history_of (told_of begun_at_a_commit)) empty 13 [] refl tt, (first_snapshot (history_of (told_of begun_at_a_commit)) empty 13 [] refl tt, tt))
 keeps_but_begins Causes not = each_in (λ t. HasCauseOf t.ending (told_of begun_at_a_commit) t) (told_of begun_at_a_commit)
     (record { opens = omega arith; closes = omega arith; succ_cause = inl refl; pred_cause = inl refl }, (tt, tt))
-keeps_but_begins Refusals not = refusals_kept begun_at_a_commit refl (record { own = λ t is. tt; log = tt; unfilled = tt }, (record { own = λ t is. own_window _ t _; log = tt; unfilled = tt }, (record { own = λ t is. tt; log = tt; unfilled = tt }, (record { own = λ t is. tt; log = tt; unfilled = tt }, tt))))
+keeps_but_begins Refusals not = refusals_kept begun_at_a_commit refl (record { own = λ t is. tt; saves = λ t is. tt; log = tt; unfilled = tt }, (record { own = λ t is. own_window _ t _; saves = λ t is. tt; log = tt; unfilled = tt }, (record { own = λ t is. tt; saves = λ t is. tt; log = tt; unfilled = tt }, (record { own = λ t is. tt; saves = λ t is. tt; log = tt; unfilled = tt }, tt))))
 keeps_but_begins Safe not = safe_kept begun_at_a_commit refl
 keeps_but_begins Serial not = one_commit_ordered _
 keeps_but_begins Ascending not = no_pair_ascends
@@ -165,7 +165,7 @@ keeps_but_ascends Snapshots not = each_in (λ t. HasSnapshotReplies (history_of 
 )
 keeps_but_ascends Causes not = each_in (λ t. HasCauseOf t.ending (told_of drawn_below) t) (told_of drawn_below)
     (record { opens = omega arith; closes = omega arith; succ_cause = inl refl; pred_cause = inl refl }, (record { opens = omega arith; closes = omega arith; succ_cause = inl refl; pred_cause = inl refl }, (record { opens = omega arith; closes = omega arith; succ_cause = inl refl; pred_cause = inl refl }, tt)))
-keeps_but_ascends Refusals not = refusals_kept drawn_below refl (record { own = λ t is. tt; log = tt; unfilled = tt }, (record { own = λ t is. own_window _ t _; log = tt; unfilled = tt }, (record { own = λ t is. tt; log = tt; unfilled = tt }, (record { own = λ t is. tt; log = tt; unfilled = tt }, (record { own = λ t is. own_window _ t _; log = tt; unfilled = tt }, (record { own = λ t is. own_window _ t _; log = tt; unfilled = tt }, tt))))))
+keeps_but_ascends Refusals not = refusals_kept drawn_below refl (record { own = λ t is. tt; saves = λ t is. tt; log = tt; unfilled = tt }, (record { own = λ t is. own_window _ t _; saves = λ t is. tt; log = tt; unfilled = tt }, (record { own = λ t is. tt; saves = λ t is. tt; log = tt; unfilled = tt }, (record { own = λ t is. tt; saves = λ t is. tt; log = tt; unfilled = tt }, (record { own = λ t is. own_window _ t _; saves = λ t is. tt; log = tt; unfilled = tt }, (record { own = λ t is. own_window _ t _; saves = λ t is. tt; log = tt; unfilled = tt }, tt))))))
 keeps_but_ascends Safe not = safe_kept drawn_below refl
 keeps_but_ascends Serial not = record {
   same = IsPermutation-refl (history_of (told_of drawn_below));
@@ -216,7 +216,7 @@ keeps_but_fall Snapshots not = each_in (λ t. HasSnapshotReplies (history_of (to
   ),
 )
 keeps_but_fall Causes not = each_in (λ t. HasCauseOf t.ending (told_of begins_fall) t) (told_of begins_fall) (record { opens = omega arith; closes = omega arith; succ_cause = inl refl; pred_cause = inl refl }, (tt, (tt, tt)))
-keeps_but_fall Refusals not = refusals_kept begins_fall refl (record { own = λ t is. tt; log = tt; unfilled = tt }, (record { own = λ t is. own_window _ t _; log = tt; unfilled = tt }, (record { own = λ t is. tt; log = tt; unfilled = tt }, (record { own = λ t is. tt; log = tt; unfilled = tt }, (record { own = λ t is. tt; log = tt; unfilled = tt }, (record { own = λ t is. tt; log = tt; unfilled = tt }, tt))))))
+keeps_but_fall Refusals not = refusals_kept begins_fall refl (record { own = λ t is. tt; saves = λ t is. tt; log = tt; unfilled = tt }, (record { own = λ t is. own_window _ t _; saves = λ t is. tt; log = tt; unfilled = tt }, (record { own = λ t is. tt; saves = λ t is. tt; log = tt; unfilled = tt }, (record { own = λ t is. tt; saves = λ t is. tt; log = tt; unfilled = tt }, (record { own = λ t is. tt; saves = λ t is. tt; log = tt; unfilled = tt }, (record { own = λ t is. tt; saves = λ t is. tt; log = tt; unfilled = tt }, tt))))))
 keeps_but_fall Safe not = safe_kept begins_fall refl
 keeps_but_fall Serial not = one_commit_ordered _
 keeps_but_fall Ascending not = no_pair_ascends
@@ -258,7 +258,7 @@ keeps_but_stops Phases not = phases_kept begun_at_the_stop (tt, (tt, tt)) refl
 keeps_but_stops Stamps not = absurd (not refl)
 keeps_but_stops Snapshots not = in_one _ _ (first_snapshot [] empty 1152921504606846976 [] refl tt)
 keeps_but_stops Causes not = in_one _ _ tt
-keeps_but_stops Refusals not = refusals_kept begun_at_the_stop refl (record { own = λ t is. tt; log = tt; unfilled = tt }, (record { own = λ t is. tt; log = tt; unfilled = tt }, tt))
+keeps_but_stops Refusals not = refusals_kept begun_at_the_stop refl (record { own = λ t is. tt; saves = λ t is. tt; log = tt; unfilled = tt }, (record { own = λ t is. tt; saves = λ t is. tt; log = tt; unfilled = tt }, tt))
 keeps_but_stops Safe not = safe_kept begun_at_the_stop refl
 keeps_but_stops Serial not = no_commit_ordered
 keeps_but_stops Ascending not = no_pair_ascends

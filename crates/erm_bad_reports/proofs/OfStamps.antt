@@ -9,7 +9,7 @@ use Rattle.erm_model.specs.SerialOrder.{ComesBefore, IsSerialOrder}
 use Rattle.erm_model.specs.Database.{Database, at, value_at}
 use Rattle.erm_model.specs.declared.operation.Reply.TheVariants as reply
 use Rattle.erm_model.proofs.Keys.{value_at-insert}
-use Rattle.erm_good_report.specs.Windows.{HasLine, IsCommit, PutsKey}
+use Rattle.erm_good_report.specs.Windows.{HasKept, IsCommit, PutsKey}
 use Rattle.erm_report.specs.declared.answer.Answer.TheVariants as answer
 use Rattle.erm_report.specs.Printable.{FitsTypes}
 use Rattle.erm_good_report.specs.Causes.{HasCauseOf}
@@ -33,7 +33,7 @@ keeps_but_least Phases not = record { fits = each_place (λ i l a. FitsPhase (ph
 keeps_but_least Stamps not = absurd (not refl)
 keeps_but_least Snapshots not = in_one _ _ (first_snapshot [] begun_too_early.opening.map 12 [] refl tt)
 keeps_but_least Causes not = in_one _ _ tt
-keeps_but_least Refusals not = record { each = each_place (λ i l a. HasCause (moment_at InTurn begun_too_early.opening begun_too_early.script begun_too_early.report.answers (told_of begun_too_early) i l) l.command a) begun_too_early.script begun_too_early.report.answers (record { own = λ t is. tt; log = tt; unfilled = tt }, (record { own = λ t is. tt; log = tt; unfilled = tt }, tt)); reach = reach_from_test (moment_at InTurn begun_too_early.opening begun_too_early.script begun_too_early.report.answers (told_of begun_too_early)) begun_too_early.script begun_too_early.report.answers refl; untold = untold_in_reach InTurn begun_too_early.opening begun_too_early.script begun_too_early.report.answers (told_of begun_too_early) refl }
+keeps_but_least Refusals not = record { each = each_place (λ i l a. HasCause (moment_at InTurn begun_too_early.opening begun_too_early.script begun_too_early.report.answers (told_of begun_too_early) i l) l.command a) begun_too_early.script begun_too_early.report.answers (record { own = λ t is. tt; saves = λ t is. tt; log = tt; unfilled = tt }, (record { own = λ t is. tt; saves = λ t is. tt; log = tt; unfilled = tt }, tt)); reach = reach_from_test (moment_at InTurn begun_too_early.opening begun_too_early.script begun_too_early.report.answers (told_of begun_too_early)) begun_too_early.script begun_too_early.report.answers refl; untold = untold_in_reach InTurn begun_too_early.opening begun_too_early.script begun_too_early.report.answers (told_of begun_too_early) refl }
 keeps_but_least Safe not = safe_kept begun_too_early refl
 keeps_but_least Serial not = no_commit_ordered
 keeps_but_least Ascending not = no_pair_ascends
@@ -68,8 +68,8 @@ least_commit : (u : Transaction) (stamp succ : ℕ) → IsCommit told u stamp su
 least_commit u stamp succ commit = each_in (λ u. (s p q : ℕ) → u.ending ≡ Commits s p q → 13 ≤ s) told
     (λ s p q is. absurd (cc), (λ s p q is. let same : 13 ≡ s = cc in omega (arith, same), (λ s p q is. let same : 18 ≡ s = cc in omega (arith, same), tt))) u commit.of stamp succ commit.pred commit.ending
 
-put_commit : (u : Transaction) (stamp succ table key : ℕ) → IsCommit told u stamp succ → HasLine (PutsKey table key) u → 18 ≤ stamp
-put_commit u stamp succ table key commit puts = each_in (λ u. (s p q : ℕ) → u.ending ≡ Commits s p q → HasLine (PutsKey table key) u → 18 ≤ s) told
+put_commit : (u : Transaction) (stamp succ table key : ℕ) → IsCommit told u stamp succ → HasKept (PutsKey table key) u → 18 ≤ stamp
+put_commit u stamp succ table key commit puts = each_in (λ u. (s p q : ℕ) → u.ending ≡ Commits s p q → HasKept (PutsKey table key) u → 18 ≤ s) told
     (λ s p q is has. absurd (cc), (λ s p q is has. absurd (no_line has.0 has.1), (λ s p q is has. let same : 18 ≡ s = cc in omega (arith, same), tt))) u commit.of stamp succ commit.pred commit.ending puts
 
 keeps_but_draws : (other : Clause) → other ≢ Stamps → Meets other future_was_read
@@ -86,7 +86,7 @@ keeps_but_draws Snapshots not = each_in (λ t. HasSnapshotReplies (history_of to
   ),
 )
 keeps_but_draws Causes not = each_in (λ t. HasCauseOf t.ending told t) told (tt, (record { opens = omega arith; closes = omega arith; succ_cause = inl refl; pred_cause = inl refl }, (record { opens = omega arith; closes = omega arith; succ_cause = inl refl; pred_cause = inl refl }, tt)))
-keeps_but_draws Refusals not = refusals_kept future_was_read refl (record { own = λ t is. tt; log = tt; unfilled = tt }, (record { own = λ t is. own_window _ t _; log = tt; unfilled = tt }, (record { own = λ t is. tt; log = tt; unfilled = tt }, (record { own = λ t is. tt; log = tt; unfilled = tt }, (record { own = λ t is. tt; log = tt; unfilled = tt }, (record { own = λ t is. own_window _ t _; log = tt; unfilled = tt }, (record { own = λ t is. tt; log = tt; unfilled = tt }, (record { own = λ t is. tt; log = tt; unfilled = tt }, tt))))))))
+keeps_but_draws Refusals not = refusals_kept future_was_read refl (record { own = λ t is. tt; saves = λ t is. tt; log = tt; unfilled = tt }, (record { own = λ t is. own_window _ t _; saves = λ t is. tt; log = tt; unfilled = tt }, (record { own = λ t is. tt; saves = λ t is. tt; log = tt; unfilled = tt }, (record { own = λ t is. tt; saves = λ t is. tt; log = tt; unfilled = tt }, (record { own = λ t is. tt; saves = λ t is. tt; log = tt; unfilled = tt }, (record { own = λ t is. own_window _ t _; saves = λ t is. tt; log = tt; unfilled = tt }, (record { own = λ t is. tt; saves = λ t is. tt; log = tt; unfilled = tt }, (record { own = λ t is. tt; saves = λ t is. tt; log = tt; unfilled = tt }, tt))))))))
 keeps_but_draws Safe not = safe_kept future_was_read refl
 keeps_but_draws Serial not = both_ordered
 keeps_but_draws Ascending not = λ i j d less within. absurd (omega arith)

@@ -83,18 +83,18 @@ keeps_but_differ Causes not = each_in (λ t. HasCauseOf t.ending told t) told (
   ),
 )
 keeps_but_differ Refusals not = refusals_kept stamp_of_two refl (
-  record { own = λ t is. tt; log = tt; unfilled = tt },
+  record { own = λ t is. tt; saves = λ t is. tt; log = tt; unfilled = tt },
   (
-    record { own = λ t is. tt; log = tt; unfilled = tt },
+    record { own = λ t is. tt; saves = λ t is. tt; log = tt; unfilled = tt },
     (
-      record { own = λ t is. own_window _ t _; log = tt; unfilled = tt },
+      record { own = λ t is. own_window _ t _; saves = λ t is. tt; log = tt; unfilled = tt },
       (
-        record { own = λ t is. tt; log = tt; unfilled = tt },
+        record { own = λ t is. tt; saves = λ t is. tt; log = tt; unfilled = tt },
         (
-          record { own = λ t is. tt; log = tt; unfilled = tt },
+          record { own = λ t is. tt; saves = λ t is. tt; log = tt; unfilled = tt },
           (
-            record { own = λ t is. λ shut. (shut, (λ turn. let no : AtOnce ≡ InTurn = turn in cc), (λ turn. let no : AtOnce ≡ InTurn = turn in cc)); log = tt; unfilled = tt },
-            (record { own = λ t is. tt; log = tt; unfilled = tt }, (record { own = λ t is. own_window _ t _; log = tt; unfilled = tt }, tt)),
+            record { own = λ t is. λ shut. (shut, (λ turn. let no : AtOnce ≡ InTurn = turn in cc), (λ turn. let no : AtOnce ≡ InTurn = turn in cc)); saves = λ t is. tt; log = tt; unfilled = tt },
+            (record { own = λ t is. tt; saves = λ t is. tt; log = tt; unfilled = tt }, (record { own = λ t is. own_window _ t _; saves = λ t is. tt; log = tt; unfilled = tt }, tt)),
           ),
         ),
       ),

@@ -1,5 +1,5 @@
 -- A commit that waits: its stamp below its own begin, below a begin before it, and above a begin behind it.
-use Rattle.std.proofs.Common.{◌≡◌, ◌≢◌, ◌<◌, ◌≤◌, ℕ, zero, suc, List, [], ◌∷◌, Option, Some, None, refl, sym, ap, ◌∙◌, inl, subst, arith}
+use Rattle.std.proofs.Common.{◌≡◌, ◌≢◌, ◌<◌, ◌≤◌, ℕ, List, [], ◌∷◌, Option, Some, None, refl, sym, ap, ◌∙◌, inl, subst, arith}
 use Rattle.std.specs.FinMap.{empty}
 use Rattle.std.specs.Prelude.{IfSome}
 use Rattle.std.proofs.lemmas.List.Elements.{All-from_recursion}
@@ -15,7 +15,7 @@ use Rattle.erm_good_report.specs.Opening.{InTurn}
 use Rattle.erm_good_report.specs.Refusals.{HasCause, IsSealedWith, MayHaveStamp, Moment, current_of}
 use Rattle.erm_good_report.specs.Stamps.{DrawsUntold, Told}
 use Rattle.erm_good_report.specs.Transactions.{Exchange, Transaction, Unfinished, history_of, said_of, stamp_of, stamp_of_ending, steps_of, with_line}
-use Rattle.erm_good_report.specs.Windows.{HasLine, PutsKey}
+use Rattle.erm_good_report.specs.Windows.{HasKept, PutsKey}
 use Rattle.erm_good_report.proofs.Decided.{own_window}
 use Rattle.erm_good_report.proofs.Parts.{all_pairs_of_two, each_in}
 use Rattle.erm_bad_reports.specs.Clauses.{Clause, Meets, lines_of, told_of, IsLowAt, IsHighAt, Fit, Answered, Closes, Phases, Stamps, Snapshots, Causes, Refusals, Safe, Serial, Ascending, Runs, LowEnds, HighEnds}
@@ -23,16 +23,13 @@ use Rattle.erm_bad_reports.specs.StampParts.{BreaksPartAlone, Part, MeetsPart, D
 use Rattle.erm_bad_reports.proofs.Reading.{owes_of}
 use Rattle.erm_bad_reports.proofs.Tests.{safe_kept, begins_ascend, begins_stop, first_snapshot, flushed_begin, flushed_drawn, no_pair_ascends, one_commit_ordered, phases_kept, refusals_kept, stamps_ascend, stamps_begin, stamps_differ, stamps_drawn, untold_after, untold_before}
 
--- no line of these transactions puts a key
+-- each of these transactions tidies a key
 abbrev pub tidies : ℕ → List Exchange
 tidies key = record { asked = command.Tidy 0 key; answer = answer.Cut 0 } ∷ []
 
-pub no_put : (n table key : ℕ) (e : Exchange) → e ∈ tidies n → PutsKey table key e → ⊥
-no_put n table key e (zero, at) puts =
-    let same : record { asked = command.Tidy 0 n; answer = answer.Cut 0 } ≡ e = cc in
-    let asked : command.Tidy 0 n ≡ command.Put table key puts.0.0 = ap (λ (x : Exchange). x.asked) same ∙ puts.0.1 in
-    cc
-no_put n table key e (suc k, at) puts = cc
+-- so none of their lines does an operation that stays
+pub none_kept : (e : Exchange) → e ∈ [] → ⊥
+none_kept e (k, at) = cc
 
 no_line : (e : Exchange) → e ∈ [] → ⊥
 no_line e (k, at) = cc
@@ -67,6 +64,7 @@ first_waited seal m begin stamp above in_turn session current sealed told = reco
           writes = inl (record { line = _; of = (0, refl); names = refl; writes = refl });
         },
       );
+  saves = λ t is. tt;
   log = tt;
   unfilled = tt;
 }
@@ -80,8 +78,8 @@ seat_wait = first_waited (Some 13)
 both_ordered_begun : IsSerialOrder rank_of (history_of (told_of stamp_below_begin)) (history_of (told_of stamp_below_begin))
 both_ordered_begun = record { same = IsPermutation-refl (history_of (told_of stamp_below_begin)); ascends = all_pairs_of_two (λ a b. ComesBefore (rank_of a) (rank_of b)) _ _ (inl (omega arith)) }
 
-no_puts_begun : (u : Transaction) → u ∈ told_of stamp_below_begin → (table key : ℕ) → HasLine (PutsKey table key) u → ⊥
-no_puts_begun = each_in (λ u. (table key : ℕ) → HasLine (PutsKey table key) u → ⊥) (told_of stamp_below_begin) (λ table key has. no_put 1 table key has.0 has.1 has.2, (λ table key has. no_put 2 table key has.0 has.1 has.2, tt))
+no_puts_begun : (u : Transaction) → u ∈ told_of stamp_below_begin → (table key : ℕ) → HasKept (PutsKey table key) u → ⊥
+no_puts_begun = each_in (λ u. (table key : ℕ) → HasKept (PutsKey table key) u → ⊥) (told_of stamp_below_begin) (λ table key has. none_kept has.0 has.1, (λ table key has. none_kept has.0 has.1, tt))
 
 keeps_but_begun : (other : Clause) → other ≢ Stamps → Meets other stamp_below_begin
 keeps_but_begun Fit not = All-from_recursion FitsTypes (lines_of stamp_below_begin) ((omega arith, omega arith), ((omega arith, omega arith), ((omega arith, omega arith), ((omega arith, omega arith), ((omega arith, omega arith), ((omega arith, omega arith), ((omega arith, (omega arith, omega arith)), ((omega arith, (omega arith, omega arith, omega arith)), ((omega arith, (omega arith, omega arith, omega arith)), (omega arith, ((omega arith, omega arith, omega arith, omega arith), ((omega arith, omega arith, omega arith, omega arith), (omega arith, (tt, tt))))))))))))))
@@ -93,7 +91,7 @@ keeps_but_begun Snapshots not = each_in (λ t. HasSnapshotReplies (history_of (t
     (first_snapshot (history_of (told_of stamp_below_begin)) empty 13 [] refl tt, (record { snapshot = empty; below_begin = record { order = below 60 (history_of (told_of stamp_below_begin)); serial = both_ordered_begun; state = refl }; replies = tt }, tt))
 keeps_but_begun Causes not = each_in (λ t. HasCauseOf t.ending (told_of stamp_below_begin) t) (told_of stamp_below_begin)
     (record { opens = omega arith; closes = omega arith; succ_cause = inl refl; pred_cause = inl refl }, (record { opens = omega arith; closes = omega arith; succ_cause = inl refl; pred_cause = inl refl }, tt))
-keeps_but_begun Refusals not = refusals_kept stamp_below_begin refl (record { own = λ t is. tt; log = tt; unfilled = tt }, (record { own = λ t is. tt; log = tt; unfilled = tt }, (record { own = λ t is. tt; log = tt; unfilled = tt }, (record { own = λ t is. tt; log = tt; unfilled = tt }, (record { own = λ t is. tt; log = tt; unfilled = tt }, (seat_wait _ 60 50 (omega arith) refl refl refl (record { current = refl; sealed = refl; stamp_is = each_in (λ u. u.session ≡ 1 → u.number ≡ 1 → IfSome (stamp_of u) (λ told. told ≡ 13)) (told_of stamp_below_begin) (λ session number. refl, (λ session number. absurd (omega (arith, session)), tt)) }) (λ t is. each_in (λ u. u.session ≡ t.session → u.number ≡ t.number → IfSome (stamp_of u) (λ told. told ≡ 50)) (told_of stamp_below_begin) (λ session number. absurd (omega (arith, session, is)), (λ session number. refl, tt))), (record { own = λ t is. own_window _ t _; log = tt; unfilled = tt }, (record { own = λ t is. own_window _ t _; log = tt; unfilled = tt }, tt))))))))
+keeps_but_begun Refusals not = refusals_kept stamp_below_begin refl (record { own = λ t is. tt; saves = λ t is. tt; log = tt; unfilled = tt }, (record { own = λ t is. tt; saves = λ t is. tt; log = tt; unfilled = tt }, (record { own = λ t is. tt; saves = λ t is. tt; log = tt; unfilled = tt }, (record { own = λ t is. tt; saves = λ t is. tt; log = tt; unfilled = tt }, (record { own = λ t is. tt; saves = λ t is. tt; log = tt; unfilled = tt }, (seat_wait _ 60 50 (omega arith) refl refl refl (record { current = refl; sealed = refl; stamp_is = each_in (λ u. u.session ≡ 1 → u.number ≡ 1 → IfSome (stamp_of u) (λ told. told ≡ 13)) (told_of stamp_below_begin) (λ session number. refl, (λ session number. absurd (omega (arith, session)), tt)) }) (λ t is. each_in (λ u. u.session ≡ t.session → u.number ≡ t.number → IfSome (stamp_of u) (λ told. told ≡ 50)) (told_of stamp_below_begin) (λ session number. absurd (omega (arith, session, is)), (λ session number. refl, tt))), (record { own = λ t is. own_window _ t _; saves = λ t is. tt; log = tt; unfilled = tt }, (record { own = λ t is. own_window _ t _; saves = λ t is. tt; log = tt; unfilled = tt }, tt))))))))
 keeps_but_begun Safe not = safe_kept stamp_below_begin refl
 keeps_but_begun Serial not = both_ordered_begun
 keeps_but_begun Ascending not = no_pair_ascends
@@ -136,8 +134,8 @@ drawn_ahead = record { line = _; at = refl; asks = refl; waits = tt; own = _; cu
 both_ordered_untold_after : IsSerialOrder rank_of (history_of (told_of begun_above_untold)) (history_of (told_of begun_above_untold))
 both_ordered_untold_after = record { same = IsPermutation-refl (history_of (told_of begun_above_untold)); ascends = all_pairs_of_two (λ a b. ComesBefore (rank_of a) (rank_of b)) _ _ (inl (omega arith)) }
 
-no_puts_untold_after : (u : Transaction) → u ∈ told_of begun_above_untold → (table key : ℕ) → HasLine (PutsKey table key) u → ⊥
-no_puts_untold_after = each_in (λ u. (table key : ℕ) → HasLine (PutsKey table key) u → ⊥) (told_of begun_above_untold) (λ table key has. no_put 1 table key has.0 has.1 has.2, (λ table key has. no_put 2 table key has.0 has.1 has.2, (λ table key has. no_line has.0 has.1, tt)))
+no_puts_untold_after : (u : Transaction) → u ∈ told_of begun_above_untold → (table key : ℕ) → HasKept (PutsKey table key) u → ⊥
+no_puts_untold_after = each_in (λ u. (table key : ℕ) → HasKept (PutsKey table key) u → ⊥) (told_of begun_above_untold) (λ table key has. none_kept has.0 has.1, (λ table key has. none_kept has.0 has.1, (λ table key has. no_line has.0 has.1, tt)))
 
 keeps_but_untold_after : (other : Clause) → other ≢ Stamps → Meets other begun_above_untold
 keeps_but_untold_after Fit not = All-from_recursion FitsTypes (lines_of begun_above_untold) ((omega arith, omega arith), ((omega arith, omega arith), ((omega arith, omega arith), ((omega arith, omega arith), ((omega arith, omega arith), ((omega arith, omega arith), ((omega arith, omega arith), ((omega arith, tt), ((omega arith, (omega arith, omega arith)), ((omega arith, (omega arith, omega arith, omega arith)), ((omega arith, (omega arith, omega arith, omega arith)), (omega arith, ((omega arith, omega arith, omega arith, omega arith), ((omega arith, omega arith, omega arith, omega arith), (omega arith, (tt, tt))))))))))))))))
@@ -149,7 +147,7 @@ keeps_but_untold_after Snapshots not = each_in (λ t. HasSnapshotReplies (histor
     (first_snapshot (history_of (told_of begun_above_untold)) empty 13 [] refl tt, (record { snapshot = empty; below_begin = record { order = below 40 (history_of (told_of begun_above_untold)); serial = one_commit_ordered _; state = refl }; replies = tt }, (record { snapshot = empty; below_begin = record { order = below 60 (history_of (told_of begun_above_untold)); serial = both_ordered_untold_after; state = refl }; replies = tt }, tt)))
 keeps_but_untold_after Causes not = each_in (λ t. HasCauseOf t.ending (told_of begun_above_untold) t) (told_of begun_above_untold)
     (record { opens = omega arith; closes = omega arith; succ_cause = inl refl; pred_cause = inl refl }, (record { opens = omega arith; closes = omega arith; succ_cause = inl refl; pred_cause = inl refl }, (tt, tt)))
-keeps_but_untold_after Refusals not = refusals_kept begun_above_untold refl (record { own = λ t is. tt; log = tt; unfilled = tt }, (record { own = λ t is. tt; log = tt; unfilled = tt }, (record { own = λ t is. tt; log = tt; unfilled = tt }, (record { own = λ t is. tt; log = tt; unfilled = tt }, (record { own = λ t is. tt; log = tt; unfilled = tt }, (record { own = λ t is. tt; log = tt; unfilled = tt }, (record { own = λ t is. tt; log = tt; unfilled = tt }, (seat_wait _ 40 50 (omega arith) refl refl refl (record { current = refl; sealed = refl; stamp_is = each_in (λ u. u.session ≡ 1 → u.number ≡ 1 → IfSome (stamp_of u) (λ told. told ≡ 13)) (told_of begun_above_untold) (λ session number. refl, (λ session number. absurd (omega (arith, session)), (λ session number. tt, tt))) }) (λ t is. each_in (λ u. u.session ≡ t.session → u.number ≡ t.number → IfSome (stamp_of u) (λ told. told ≡ 50)) (told_of begun_above_untold) (λ session number. absurd (omega (arith, session, is)), (λ session number. refl, (λ session number. tt, tt)))), (record { own = λ t is. own_window _ t _; log = tt; unfilled = tt }, (record { own = λ t is. own_window _ t _; log = tt; unfilled = tt }, tt))))))))))
+keeps_but_untold_after Refusals not = refusals_kept begun_above_untold refl (record { own = λ t is. tt; saves = λ t is. tt; log = tt; unfilled = tt }, (record { own = λ t is. tt; saves = λ t is. tt; log = tt; unfilled = tt }, (record { own = λ t is. tt; saves = λ t is. tt; log = tt; unfilled = tt }, (record { own = λ t is. tt; saves = λ t is. tt; log = tt; unfilled = tt }, (record { own = λ t is. tt; saves = λ t is. tt; log = tt; unfilled = tt }, (record { own = λ t is. tt; saves = λ t is. tt; log = tt; unfilled = tt }, (record { own = λ t is. tt; saves = λ t is. tt; log = tt; unfilled = tt }, (seat_wait _ 40 50 (omega arith) refl refl refl (record { current = refl; sealed = refl; stamp_is = each_in (λ u. u.session ≡ 1 → u.number ≡ 1 → IfSome (stamp_of u) (λ told. told ≡ 13)) (told_of begun_above_untold) (λ session number. refl, (λ session number. absurd (omega (arith, session)), (λ session number. tt, tt))) }) (λ t is. each_in (λ u. u.session ≡ t.session → u.number ≡ t.number → IfSome (stamp_of u) (λ told. told ≡ 50)) (told_of begun_above_untold) (λ session number. absurd (omega (arith, session, is)), (λ session number. refl, (λ session number. tt, tt)))), (record { own = λ t is. own_window _ t _; saves = λ t is. tt; log = tt; unfilled = tt }, (record { own = λ t is. own_window _ t _; saves = λ t is. tt; log = tt; unfilled = tt }, tt))))))))))
 keeps_but_untold_after Safe not = safe_kept begun_above_untold refl
 keeps_but_untold_after Serial not = both_ordered_untold_after
 keeps_but_untold_after Ascending not = no_pair_ascends
@@ -186,8 +184,8 @@ untold_after_alone = record {
 both_ordered_untold_before : IsSerialOrder rank_of (history_of (told_of begun_below_untold)) (history_of (told_of begun_below_untold))
 both_ordered_untold_before = record { same = IsPermutation-refl (history_of (told_of begun_below_untold)); ascends = all_pairs_of_two (λ a b. ComesBefore (rank_of a) (rank_of b)) _ _ (inl (omega arith)) }
 
-no_puts_untold_before : (u : Transaction) → u ∈ told_of begun_below_untold → (table key : ℕ) → HasLine (PutsKey table key) u → ⊥
-no_puts_untold_before = each_in (λ u. (table key : ℕ) → HasLine (PutsKey table key) u → ⊥) (told_of begun_below_untold) (λ table key has. no_put 1 table key has.0 has.1 has.2, (λ table key has. no_put 2 table key has.0 has.1 has.2, (λ table key has. no_line has.0 has.1, tt)))
+no_puts_untold_before : (u : Transaction) → u ∈ told_of begun_below_untold → (table key : ℕ) → HasKept (PutsKey table key) u → ⊥
+no_puts_untold_before = each_in (λ u. (table key : ℕ) → HasKept (PutsKey table key) u → ⊥) (told_of begun_below_untold) (λ table key has. none_kept has.0 has.1, (λ table key has. none_kept has.0 has.1, (λ table key has. no_line has.0 has.1, tt)))
 
 keeps_but_untold_before : (other : Clause) → other ≢ Stamps → Meets other begun_below_untold
 keeps_but_untold_before Fit not = All-from_recursion FitsTypes (lines_of begun_below_untold) ((omega arith, omega arith), ((omega arith, omega arith), ((omega arith, omega arith), ((omega arith, omega arith), ((omega arith, omega arith), ((omega arith, omega arith), ((omega arith, (omega arith, omega arith)), ((omega arith, omega arith), ((omega arith, tt), ((omega arith, (omega arith, omega arith, omega arith)), ((omega arith, (omega arith, omega arith, omega arith)), (omega arith, ((omega arith, omega arith, omega arith, omega arith), ((omega arith, omega arith, omega arith, omega arith), (omega arith, (tt, tt))))))))))))))))
@@ -199,7 +197,7 @@ keeps_but_untold_before Snapshots not = each_in (λ t. HasSnapshotReplies (histo
     (first_snapshot (history_of (told_of begun_below_untold)) empty 13 [] refl tt, (record { snapshot = empty; below_begin = record { order = below 40 (history_of (told_of begun_below_untold)); serial = one_commit_ordered _; state = refl }; replies = tt }, (record { snapshot = empty; below_begin = record { order = below 45 (history_of (told_of begun_below_untold)); serial = one_commit_ordered _; state = refl }; replies = tt }, tt)))
 keeps_but_untold_before Causes not = each_in (λ t. HasCauseOf t.ending (told_of begun_below_untold) t) (told_of begun_below_untold)
     (record { opens = omega arith; closes = omega arith; succ_cause = inl refl; pred_cause = inl refl }, (record { opens = omega arith; closes = omega arith; succ_cause = inl refl; pred_cause = inl refl }, (tt, tt)))
-keeps_but_untold_before Refusals not = refusals_kept begun_below_untold refl (record { own = λ t is. tt; log = tt; unfilled = tt }, (record { own = λ t is. tt; log = tt; unfilled = tt }, (record { own = λ t is. tt; log = tt; unfilled = tt }, (record { own = λ t is. tt; log = tt; unfilled = tt }, (record { own = λ t is. tt; log = tt; unfilled = tt }, (seat_wait _ 40 50 (omega arith) refl refl refl (record { current = refl; sealed = refl; stamp_is = each_in (λ u. u.session ≡ 1 → u.number ≡ 1 → IfSome (stamp_of u) (λ told. told ≡ 13)) (told_of begun_below_untold) (λ session number. refl, (λ session number. absurd (omega (arith, session)), (λ session number. tt, tt))) }) (λ t is. each_in (λ u. u.session ≡ t.session → u.number ≡ t.number → IfSome (stamp_of u) (λ told. told ≡ 50)) (told_of begun_below_untold) (λ session number. absurd (omega (arith, session, is)), (λ session number. refl, (λ session number. tt, tt)))), (record { own = λ t is. tt; log = tt; unfilled = tt }, (record { own = λ t is. tt; log = tt; unfilled = tt }, (record { own = λ t is. own_window _ t _; log = tt; unfilled = tt }, (record { own = λ t is. own_window _ t _; log = tt; unfilled = tt }, tt))))))))))
+keeps_but_untold_before Refusals not = refusals_kept begun_below_untold refl (record { own = λ t is. tt; saves = λ t is. tt; log = tt; unfilled = tt }, (record { own = λ t is. tt; saves = λ t is. tt; log = tt; unfilled = tt }, (record { own = λ t is. tt; saves = λ t is. tt; log = tt; unfilled = tt }, (record { own = λ t is. tt; saves = λ t is. tt; log = tt; unfilled = tt }, (record { own = λ t is. tt; saves = λ t is. tt; log = tt; unfilled = tt }, (seat_wait _ 40 50 (omega arith) refl refl refl (record { current = refl; sealed = refl; stamp_is = each_in (λ u. u.session ≡ 1 → u.number ≡ 1 → IfSome (stamp_of u) (λ told. told ≡ 13)) (told_of begun_below_untold) (λ session number. refl, (λ session number. absurd (omega (arith, session)), (λ session number. tt, tt))) }) (λ t is. each_in (λ u. u.session ≡ t.session → u.number ≡ t.number → IfSome (stamp_of u) (λ told. told ≡ 50)) (told_of begun_below_untold) (λ session number. absurd (omega (arith, session, is)), (λ session number. refl, (λ session number. tt, tt)))), (record { own = λ t is. tt; saves = λ t is. tt; log = tt; unfilled = tt }, (record { own = λ t is. tt; saves = λ t is. tt; log = tt; unfilled = tt }, (record { own = λ t is. own_window _ t _; saves = λ t is. tt; log = tt; unfilled = tt }, (record { own = λ t is. own_window _ t _; saves = λ t is. tt; log = tt; unfilled = tt }, tt))))))))))
 keeps_but_untold_before Safe not = safe_kept begun_below_untold refl
 keeps_but_untold_before Serial not = both_ordered_untold_before
 keeps_but_untold_before Ascending not = no_pair_ascends

@@ -13,20 +13,20 @@ use Rattle.erm_good_report.specs.Opening.{InTurn}
 use Rattle.erm_good_report.specs.Refusals.{HasCause, moment_at}
 use Rattle.erm_good_report.specs.Stamps.{DrawsUntold, Told}
 use Rattle.erm_good_report.specs.Transactions.{Transaction, history_of, said_of, stamp_of, stamp_of_ending, steps_of}
-use Rattle.erm_good_report.specs.Windows.{HasLine, PutsKey}
+use Rattle.erm_good_report.specs.Windows.{HasKept, PutsKey}
 use Rattle.erm_good_report.proofs.Decided.{own_window}
 use Rattle.erm_good_report.proofs.Parts.{all_pairs_of_two, each_in, each_place}
 use Rattle.erm_bad_reports.specs.Cases.{waited_out_of_reach}
 use Rattle.erm_bad_reports.specs.Clauses.{BreaksAlone, Clause, Meets, MeetsByLine, lines_of, told_of, IsLowAt, IsHighAt, Fit, Answered, Closes, Phases, Stamps, Snapshots, Causes, Refusals, Safe, Serial, Ascending, Runs, LowEnds, HighEnds}
-use Rattle.erm_bad_reports.proofs.OfUntold.{no_put, seat_wait}
+use Rattle.erm_bad_reports.proofs.OfUntold.{none_kept, seat_wait}
 use Rattle.erm_bad_reports.proofs.Reading.{owes_of}
 use Rattle.erm_bad_reports.proofs.Tests.{safe_kept, first_snapshot, no_pair_ascends, one_commit_ordered, phases_kept, reach_from_test, stamps_agree}
 
 both_ordered : IsSerialOrder rank_of (history_of (told_of waited_out_of_reach)) (history_of (told_of waited_out_of_reach))
 both_ordered = record { same = IsPermutation-refl (history_of (told_of waited_out_of_reach)); ascends = all_pairs_of_two (λ a b. ComesBefore (rank_of a) (rank_of b)) _ _ (inl (omega arith)) }
 
-no_puts : (u : Transaction) → u ∈ told_of waited_out_of_reach → (table key : ℕ) → HasLine (PutsKey table key) u → ⊥
-no_puts = each_in (λ u. (table key : ℕ) → HasLine (PutsKey table key) u → ⊥) (told_of waited_out_of_reach) (λ table key has. no_put 1 table key has.0 has.1 has.2, (λ table key has. no_put 2 table key has.0 has.1 has.2, tt))
+no_puts : (u : Transaction) → u ∈ told_of waited_out_of_reach → (table key : ℕ) → HasKept (PutsKey table key) u → ⊥
+no_puts = each_in (λ u. (table key : ℕ) → HasKept (PutsKey table key) u → ⊥) (told_of waited_out_of_reach) (λ table key has. none_kept has.0 has.1, (λ table key has. none_kept has.0 has.1, tt))
 
 keeps_but_waited_far : (other : Clause) → other ≢ Refusals → Meets other waited_out_of_reach
 keeps_but_waited_far Fit not = All-from_recursion FitsTypes (lines_of waited_out_of_reach) ((omega arith, omega arith), ((omega arith, omega arith), ((omega arith, omega arith), ((omega arith, omega arith), ((omega arith, omega arith), ((omega arith, omega arith), ((omega arith, (omega arith, omega arith)), ((omega arith, (omega arith, omega arith, omega arith)), ((omega arith, (omega arith, omega arith, omega arith)), (omega arith, ((omega arith, omega arith, omega arith, omega arith), ((omega arith, omega arith, omega arith, omega arith), (omega arith, (tt, tt))))))))))))))
@@ -51,7 +51,7 @@ keeps_but_waited_far HighEnds not = each_in (λ t. IsHighAt t.ending (told_of wa
 -- what is asked line by line
 by_line : MeetsByLine waited_out_of_reach
 by_line i l a at answered = (
-  each_place (λ i l a. HasCause (moment_at InTurn waited_out_of_reach.opening waited_out_of_reach.script waited_out_of_reach.report.answers (told_of waited_out_of_reach) i l) l.command a) waited_out_of_reach.script waited_out_of_reach.report.answers (record { own = λ t is. tt; log = tt; unfilled = tt }, (record { own = λ t is. tt; log = tt; unfilled = tt }, (record { own = λ t is. tt; log = tt; unfilled = tt }, (record { own = λ t is. tt; log = tt; unfilled = tt }, (record { own = λ t is. tt; log = tt; unfilled = tt }, (seat_wait _ 40 5000 (omega arith) refl refl refl (record { current = refl; sealed = refl; stamp_is = each_in (λ u. u.session ≡ 1 → u.number ≡ 1 → IfSome (stamp_of u) (λ told. told ≡ 13)) (told_of waited_out_of_reach) (λ session number. refl, (λ session number. absurd (omega (arith, session)), tt)) }) (λ t is. each_in (λ u. u.session ≡ t.session → u.number ≡ t.number → IfSome (stamp_of u) (λ told. told ≡ 5000)) (told_of waited_out_of_reach) (λ session number. absurd (omega (arith, session, is)), (λ session number. refl, tt))), (record { own = λ t is. own_window _ t _; log = tt; unfilled = tt }, (record { own = λ t is. own_window _ t _; log = tt; unfilled = tt }, tt)))))))) i l a at answered,
+  each_place (λ i l a. HasCause (moment_at InTurn waited_out_of_reach.opening waited_out_of_reach.script waited_out_of_reach.report.answers (told_of waited_out_of_reach) i l) l.command a) waited_out_of_reach.script waited_out_of_reach.report.answers (record { own = λ t is. tt; saves = λ t is. tt; log = tt; unfilled = tt }, (record { own = λ t is. tt; saves = λ t is. tt; log = tt; unfilled = tt }, (record { own = λ t is. tt; saves = λ t is. tt; log = tt; unfilled = tt }, (record { own = λ t is. tt; saves = λ t is. tt; log = tt; unfilled = tt }, (record { own = λ t is. tt; saves = λ t is. tt; log = tt; unfilled = tt }, (seat_wait _ 40 5000 (omega arith) refl refl refl (record { current = refl; sealed = refl; stamp_is = each_in (λ u. u.session ≡ 1 → u.number ≡ 1 → IfSome (stamp_of u) (λ told. told ≡ 13)) (told_of waited_out_of_reach) (λ session number. refl, (λ session number. absurd (omega (arith, session)), tt)) }) (λ t is. each_in (λ u. u.session ≡ t.session → u.number ≡ t.number → IfSome (stamp_of u) (λ told. told ≡ 5000)) (told_of waited_out_of_reach) (λ session number. absurd (omega (arith, session, is)), (λ session number. refl, tt))), (record { own = λ t is. own_window _ t _; saves = λ t is. tt; log = tt; unfilled = tt }, (record { own = λ t is. own_window _ t _; saves = λ t is. tt; log = tt; unfilled = tt }, tt)))))))) i l a at answered,
   reach_from_test (moment_at InTurn waited_out_of_reach.opening waited_out_of_reach.script waited_out_of_reach.report.answers (told_of waited_out_of_reach)) waited_out_of_reach.script waited_out_of_reach.report.answers refl i l a at answered,
 )
 

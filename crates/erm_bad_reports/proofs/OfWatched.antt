@@ -89,7 +89,7 @@ met_good Snapshots = each_in (λ t. HasSnapshotReplies (history_of met_told) emp
     (first_snapshot (history_of met_told) empty 13 [] refl tt, (first_snapshot (history_of met_told) empty 13 _ refl (refl, tt), tt))
 met_good Causes = each_in (λ t. HasCauseOf t.ending met_told t) met_told
     (excludes _ refl (record { line = _; of = (0, refl); names = refl }), (record { opens = omega arith; closes = omega arith; succ_cause = inl refl; pred_cause = inl refl }, tt))
-met_good Refusals = refusals_kept safe_at_one_met refl (record { own = λ t is. tt; log = tt; unfilled = tt }, (record { own = λ t is. let whole : excluded ≡ t = ap (λ u. with_line (Some (command.Put 0 2 (2 ∷ []))) (answer.ExcludedEarly 13 13) u) (its_own is.0 is.1) ∙ sym is.2 in (subst (λ (u : Transaction). HasNoWindow met_told u None 13 13) whole (excludes excluded refl (record { line = _; of = (0, refl); names = refl })), (λ turn. absurd (let no : AtOnce ≡ InTurn = turn in cc)), (λ turn. absurd (let no : AtOnce ≡ InTurn = turn in cc))); log = tt; unfilled = tt }, (record { own = λ t is. tt; log = tt; unfilled = tt }, (record { own = λ t is. tt; log = tt; unfilled = tt }, (record { own = λ t is. tt; log = tt; unfilled = tt }, (record { own = λ t is. tt; log = tt; unfilled = tt }, (record { own = λ t is. own_window _ t _; log = tt; unfilled = tt }, tt)))))))
+met_good Refusals = refusals_kept safe_at_one_met refl (record { own = λ t is. tt; saves = λ t is. tt; log = tt; unfilled = tt }, (record { own = λ t is. let whole : excluded ≡ t = ap (λ u. with_line (Some (command.Put 0 2 (2 ∷ []))) (answer.ExcludedEarly 13 13) u) (its_own is.0 is.1) ∙ sym is.2 in (subst (λ (u : Transaction). HasNoWindow met_told u None 13 13) whole (excludes excluded refl (record { line = _; of = (0, refl); names = refl })), (λ turn. absurd (let no : AtOnce ≡ InTurn = turn in cc)), (λ turn. absurd (let no : AtOnce ≡ InTurn = turn in cc))); saves = λ t is. tt; log = tt; unfilled = tt }, (record { own = λ t is. tt; saves = λ t is. tt; log = tt; unfilled = tt }, (record { own = λ t is. tt; saves = λ t is. tt; log = tt; unfilled = tt }, (record { own = λ t is. tt; saves = λ t is. tt; log = tt; unfilled = tt }, (record { own = λ t is. tt; saves = λ t is. tt; log = tt; unfilled = tt }, (record { own = λ t is. own_window _ t _; saves = λ t is. tt; log = tt; unfilled = tt }, tt)))))))
 met_good Safe = safe_by_line safe_at_one_met (λ session number. 13) refl (λ is. absurd (cc), (λ is. absurd (cc), ((λ is. (refl, safe_there _ 13 refl)), (λ is. absurd (cc), (λ is. absurd (cc), (λ is. absurd (cc), (λ is. absurd (cc), tt))))))) (met_owes, (met_owes, (met_owes, (met_owes, (tt, (tt, (tt, tt)))))))
 met_good Serial = one_commit_ordered _
 met_good Ascending = λ i j d less within. absurd (omega arith)
@@ -135,7 +135,7 @@ owned_good Snapshots = each_in (λ t. HasSnapshotReplies (history_of owned_told)
   ),
 )
 owned_good Causes = each_in (λ t. HasCauseOf t.ending owned_told t) owned_told (tt, (record { opens = omega arith; closes = omega arith; succ_cause = inl refl; pred_cause = inl refl }, (tt, tt)))
-owned_good Refusals = refusals_kept safe_below_its_owner refl (record { own = λ t is. tt; log = tt; unfilled = tt }, (record { own = λ t is. record { another = λ same. omega (arith, same); other = _; in_progress = (2, refl); name = (refl, refl); table = 0; named = refl; writes = record { line = _; of = (0, refl); names = refl; writes = refl } }; log = tt; unfilled = tt }, (record { own = λ t is. tt; log = tt; unfilled = tt }, (record { own = λ t is. tt; log = tt; unfilled = tt }, (record { own = λ t is. tt; log = tt; unfilled = tt }, (record { own = λ t is. own_window _ t _; log = tt; unfilled = tt }, (record { own = λ t is. tt; log = tt; unfilled = tt }, (record { own = λ t is. tt; log = tt; unfilled = tt }, (record { own = λ t is. tt; log = tt; unfilled = tt }, tt)))))))))
+owned_good Refusals = refusals_kept safe_below_its_owner refl (record { own = λ t is. tt; saves = λ t is. tt; log = tt; unfilled = tt }, (record { own = λ t is. record { another = λ same. omega (arith, same); other = _; in_progress = (2, refl); name = (refl, refl); table = 0; named = refl; writes = record { line = _; of = (0, refl); names = refl; writes = refl } }; saves = λ t is. tt; log = tt; unfilled = tt }, (record { own = λ t is. tt; saves = λ t is. tt; log = tt; unfilled = tt }, (record { own = λ t is. tt; saves = λ t is. tt; log = tt; unfilled = tt }, (record { own = λ t is. tt; saves = λ t is. tt; log = tt; unfilled = tt }, (record { own = λ t is. own_window _ t _; saves = λ t is. tt; log = tt; unfilled = tt }, (record { own = λ t is. tt; saves = λ t is. tt; log = tt; unfilled = tt }, (record { own = λ t is. tt; saves = λ t is. tt; log = tt; unfilled = tt }, (record { own = λ t is. tt; saves = λ t is. tt; log = tt; unfilled = tt }, tt)))))))))
 owned_good Safe = safe_by_line safe_below_its_owner (λ session number. 13) refl (λ is. absurd (cc), (λ is. absurd (cc), ((λ is. (refl, safe_there _ 13 refl)), (λ is. absurd (cc), (λ is. absurd (cc), (λ is. absurd (cc), (λ is. absurd (cc), (λ is. absurd (cc), (λ is. absurd (cc), tt))))))))) (owned_owes, (owned_owes, (owned_owes, (owned_owes, (tt, (tt, (tt, (tt, (tt, tt)))))))))
 owned_good Serial = one_commit_ordered _
 owned_good Ascending = no_pair_ascends

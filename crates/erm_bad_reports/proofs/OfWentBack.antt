@@ -223,7 +223,7 @@ keeps_but_back Phases not = phases_by_line safe_behind_one_that_went_back (tt, (
 keeps_but_back Stamps not = stamps_agree safe_behind_one_that_went_back.opening told (said_of safe_behind_one_that_went_back.script safe_behind_one_that_went_back.report.answers) refl refl refl refl refl refl own_least own_begun own_sealed
 keeps_but_back Snapshots not = own_replies
 keeps_but_back Causes not = own_causes
-keeps_but_back Refusals not = refusals_kept safe_behind_one_that_went_back refl (record { own = λ t is. tt; log = tt; unfilled = tt }, (record { own = λ t is. tt; log = tt; unfilled = tt }, (record { own = λ t is. tt; log = tt; unfilled = tt }, (record { own = λ t is. own_window _ t _; log = tt; unfilled = tt }, (record { own = λ t is. tt; log = tt; unfilled = tt }, (record { own = λ t is. tt; log = tt; unfilled = tt }, (record { own = λ t is. tt; log = tt; unfilled = tt }, (record { own = λ t is. tt; log = tt; unfilled = tt }, (record { own = λ t is. tt; log = tt; unfilled = tt }, (record { own = λ t is. tt; log = tt; unfilled = tt }, (record { own = λ t is. window_over (at_commit safe_behind_one_that_went_back 10 11 1) t 38 38 13 (first_over (at_commit safe_behind_one_that_went_back 10 11 1) refl (λ s p q is less turn. (0, refl), (λ s p q is less. absurd (let same : 38 ≡ s = cc in omega (arith, same, less)), (λ s p q is less. absurd (let same : 47 ≡ s = cc in omega (arith, same, less)), tt)))); log = tt; unfilled = tt }, (record { own = λ t is. absurd (cc is.1); log = tt; unfilled = tt }, (record { own = λ t is. window_over (at_commit safe_behind_one_that_went_back 12 13 2) t 47 38 13 (both_over (at_commit safe_behind_one_that_went_back 12 13 2) refl (λ s p q is less turn. (0, refl), (λ s p q is less turn. (1, refl), (λ s p q is less. absurd (let same : 47 ≡ s = cc in omega (arith, same, less)), tt)))); log = tt; unfilled = tt }, (record { own = λ t is. tt; log = tt; unfilled = tt }, (record { own = λ t is. tt; log = tt; unfilled = tt }, tt)))))))))))))))
+keeps_but_back Refusals not = refusals_kept safe_behind_one_that_went_back refl (record { own = λ t is. tt; saves = λ t is. tt; log = tt; unfilled = tt }, (record { own = λ t is. tt; saves = λ t is. tt; log = tt; unfilled = tt }, (record { own = λ t is. tt; saves = λ t is. tt; log = tt; unfilled = tt }, (record { own = λ t is. own_window _ t _; saves = λ t is. tt; log = tt; unfilled = tt }, (record { own = λ t is. tt; saves = λ t is. tt; log = tt; unfilled = tt }, (record { own = λ t is. tt; saves = λ t is. tt; log = tt; unfilled = tt }, (record { own = λ t is. tt; saves = λ t is. tt; log = tt; unfilled = tt }, (record { own = λ t is. tt; saves = λ t is. tt; log = tt; unfilled = tt }, (record { own = λ t is. tt; saves = λ t is. tt; log = tt; unfilled = tt }, (record { own = λ t is. tt; saves = λ t is. tt; log = tt; unfilled = tt }, (record { own = λ t is. window_over (at_commit safe_behind_one_that_went_back 10 11 1) t 38 38 13 (first_over (at_commit safe_behind_one_that_went_back 10 11 1) refl (λ s p q is less turn. (0, refl), (λ s p q is less. absurd (let same : 38 ≡ s = cc in omega (arith, same, less)), (λ s p q is less. absurd (let same : 47 ≡ s = cc in omega (arith, same, less)), tt)))); saves = λ t is. tt; log = tt; unfilled = tt }, (record { own = λ t is. absurd (cc is.1); saves = λ t is. tt; log = tt; unfilled = tt }, (record { own = λ t is. window_over (at_commit safe_behind_one_that_went_back 12 13 2) t 47 38 13 (both_over (at_commit safe_behind_one_that_went_back 12 13 2) refl (λ s p q is less turn. (0, refl), (λ s p q is less turn. (1, refl), (λ s p q is less. absurd (let same : 47 ≡ s = cc in omega (arith, same, less)), tt)))); saves = λ t is. tt; log = tt; unfilled = tt }, (record { own = λ t is. tt; saves = λ t is. tt; log = tt; unfilled = tt }, (record { own = λ t is. tt; saves = λ t is. tt; log = tt; unfilled = tt }, tt)))))))))))))))
 keeps_but_back Safe not = absurd (not refl)
 keeps_but_back Serial not = own_order
 keeps_but_back Ascending not = own_pairs
@@ -246,7 +246,7 @@ keeps_but_again Phases not = phases_by_line unsafe_again (tt, (tt, (tt, (tt, (tt
 keeps_but_again Stamps not = stamps_agree unsafe_again.opening told (said_of unsafe_again.script unsafe_again.report.answers) refl refl refl refl refl refl own_least own_begun own_sealed
 keeps_but_again Snapshots not = own_replies
 keeps_but_again Causes not = own_causes
-keeps_but_again Refusals not = refusals_kept unsafe_again refl (record { own = λ t is. tt; log = tt; unfilled = tt }, (record { own = λ t is. tt; log = tt; unfilled = tt }, (record { own = λ t is. tt; log = tt; unfilled = tt }, (record { own = λ t is. own_window _ t _; log = tt; unfilled = tt }, (record { own = λ t is. tt; log = tt; unfilled = tt }, (record { own = λ t is. tt; log = tt; unfilled = tt }, (record { own = λ t is. tt; log = tt; unfilled = tt }, (record { own = λ t is. tt; log = tt; unfilled = tt }, (record { own = λ t is. tt; log = tt; unfilled = tt }, (record { own = λ t is. tt; log = tt; unfilled = tt }, (record { own = λ t is. window_over (at_commit unsafe_again 10 11 1) t 38 38 13 (first_over (at_commit unsafe_again 10 11 1) refl (λ s p q is less turn. (0, refl), (λ s p q is less. absurd (let same : 38 ≡ s = cc in omega (arith, same, less)), (λ s p q is less. absurd (let same : 47 ≡ s = cc in omega (arith, same, less)), tt)))); log = tt; unfilled = tt }, (record { own = λ t is. absurd (cc is.1); log = tt; unfilled = tt }, (record { own = λ t is. window_over (at_commit unsafe_again 12 13 2) t 47 38 13 (both_over (at_commit unsafe_again 12 13 2) refl (λ s p q is less turn. (0, refl), (λ s p q is less turn. (1, refl), (λ s p q is less. absurd (let same : 47 ≡ s = cc in omega (arith, same, less)), tt)))); log = tt; unfilled = tt }, (record { own = λ t is. tt; log = tt; unfilled = tt }, (record { own = λ t is. tt; log = tt; unfilled = tt }, tt)))))))))))))))
+keeps_but_again Refusals not = refusals_kept unsafe_again refl (record { own = λ t is. tt; saves = λ t is. tt; log = tt; unfilled = tt }, (record { own = λ t is. tt; saves = λ t is. tt; log = tt; unfilled = tt }, (record { own = λ t is. tt; saves = λ t is. tt; log = tt; unfilled = tt }, (record { own = λ t is. own_window _ t _; saves = λ t is. tt; log = tt; unfilled = tt }, (record { own = λ t is. tt; saves = λ t is. tt; log = tt; unfilled = tt }, (record { own = λ t is. tt; saves = λ t is. tt; log = tt; unfilled = tt }, (record { own = λ t is. tt; saves = λ t is. tt; log = tt; unfilled = tt }, (record { own = λ t is. tt; saves = λ t is. tt; log = tt; unfilled = tt }, (record { own = λ t is. tt; saves = λ t is. tt; log = tt; unfilled = tt }, (record { own = λ t is. tt; saves = λ t is. tt; log = tt; unfilled = tt }, (record { own = λ t is. window_over (at_commit unsafe_again 10 11 1) t 38 38 13 (first_over (at_commit unsafe_again 10 11 1) refl (λ s p q is less turn. (0, refl), (λ s p q is less. absurd (let same : 38 ≡ s = cc in omega (arith, same, less)), (λ s p q is less. absurd (let same : 47 ≡ s = cc in omega (arith, same, less)), tt)))); saves = λ t is. tt; log = tt; unfilled = tt }, (record { own = λ t is. absurd (cc is.1); saves = λ t is. tt; log = tt; unfilled = tt }, (record { own = λ t is. window_over (at_commit unsafe_again 12 13 2) t 47 38 13 (both_over (at_commit unsafe_again 12 13 2) refl (λ s p q is less turn. (0, refl), (λ s p q is less turn. (1, refl), (λ s p q is less. absurd (let same : 47 ≡ s = cc in omega (arith, same, less)), tt)))); saves = λ t is. tt; log = tt; unfilled = tt }, (record { own = λ t is. tt; saves = λ t is. tt; log = tt; unfilled = tt }, (record { own = λ t is. tt; saves = λ t is. tt; log = tt; unfilled = tt }, tt)))))))))))))))
 keeps_but_again Safe not = absurd (not refl)
 keeps_but_again Serial not = own_order
 keeps_but_again Ascending not = own_pairs

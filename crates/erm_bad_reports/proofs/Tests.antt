@@ -9,6 +9,7 @@ use Rattle.erm_model.specs.Database.{AscendByKey, Database, key_cmp}
 use Rattle.erm_model.specs.Member.{◌∈◌}
 use Rattle.erm_model.specs.Run.{RunsOne, Step}
 use Rattle.erm_model.specs.SerialOrder.{ComesBefore, IsSerialOrder}
+use Rattle.erm_model.proofs.Stays.{staying_among}
 use Rattle.std.specs.declared.cmp.Ordering.TheVariants.{Less}
 use Rattle.erm_report.specs.declared.answer.Answer.{Answer}
 use Rattle.erm_report.specs.declared.answer.Answer.TheVariants as answer
@@ -19,11 +20,11 @@ use Rattle.erm_model.specs.declared.limits.TheConstants.{LEAST_BLOCK, RING_WORDS
 use Rattle.std.proofs.lemmas.List.Elements.{All-cons, All-nil}
 use Rattle.erm_good_report.specs.GoodReport.{places_of}
 use Rattle.erm_good_report.specs.Phases.{FitsPhase, phase_of}
-use Rattle.erm_good_report.specs.Refusals.{HasCause, HasLogCause, HasRefusalCause, HasUnfilledCause, MayHaveStamp, Moment, flushed_at, moment_at, most_words}
+use Rattle.erm_good_report.specs.Refusals.{HasCause, HasLogCause, HasRefusalCause, HasSaveCause, HasUnfilledCause, MayHaveStamp, Moment, flushed_at, moment_at, most_words}
 use Rattle.erm_good_report.specs.Opening.{InTurn, Opening, is_before}
 use Rattle.erm_good_report.specs.Stamps.{Told, StampsAgree, begin_told, place_told, stamp_drawn, stamp_printed}
-use Rattle.erm_good_report.specs.Transactions.{Exchange, Ending, Unfinished, Commits, Excludes, Aborts, Progress, Said, Transaction, heard, history_of, nothing, progress_of, said_of, stamp_of, stamp_of_ending}
-use Rattle.erm_good_report.specs.Windows.{HasLine, IsHighEnd, IsLowEnd}
+use Rattle.erm_good_report.specs.Transactions.{Exchange, Ending, Unfinished, Commits, Excludes, Aborts, Progress, Said, Transaction, heard, held_of, history_of, nothing, op_done, progress_of, said_of, stamp_of, stamp_of_ending}
+use Rattle.erm_good_report.specs.Windows.{HasKept, HasLine, IsHighEnd, IsLowEnd}
 use Rattle.erm_bad_reports.specs.Clauses.{Case, Meets, Phases, Refusals, Safe, placed_of, told_of, IsLowAt, IsHighAt}
 pub use Rattle.erm_good_report.proofs.Snapshots.{no_looks, none_agree, serial_alone, tell_none}
 pub use Rattle.erm_good_report.proofs.StampTests.{after_side, before_side, begins_ascend, begins_stop, first_true, places_pass, reach_from_test, reach_pass, reach_side, second_true, some_pass, stamps_ascend, stamps_begin, untold_after, untold_before, untold_in_reach, untold_pass}
@@ -106,6 +107,10 @@ stamps_agree opening told said differ begins draws ascends flushes flushes_first
       untold_before = untold_before InTurn told said (second_true after before untold);
     }
 
+-- a line that stays is a line
+pub line_of_kept : (P : Exchange → Type 0) (t : Transaction) → HasKept P t → HasLine P t
+line_of_kept P t has = (has.0, staying_among op_done t.lines has.0 has.1, has.2)
+
 -- ---- a transaction without lines has any window
 no_line : (t : Transaction) (P : Exchange → Type 0) → t.lines ≡ [] → HasLine P t → ⊥
 no_line t P none has = nothing_in has.0 (subst (λ (es : List Exchange). has.0 ∈ es) none has.1)
@@ -161,8 +166,8 @@ pub no_pair_ascends : AscendByKey []
 no_pair_ascends = all_pairs_of_none (λ a b. key_cmp a.key b.key ≡ Less)
 
 -- an answer without a cause of its own
-pub no_cause_needed : (m : Moment) (c : Command) (a : Answer) → ((t : Transaction) → HasRefusalCause m c t a) → HasLogCause m a → HasUnfilledCause m c a → HasCause m c a
-no_cause_needed m c a own log unfilled = record { own = λ t is. own t; log = log; unfilled = unfilled }
+pub no_cause_needed : (m : Moment) (c : Command) (a : Answer) → ((t : Transaction) → HasRefusalCause m c t a) → ((held : ℕ) → HasSaveCause held c a) → HasLogCause m a → HasUnfilledCause m c a → HasCause m c a
+no_cause_needed m c a own saves log unfilled = record { own = λ t is. own t; saves = λ t is. saves (held_of t); log = log; unfilled = unfilled }
 
 -- ---- snapshots
 -- where no commit lies below the begin
@@ -231,6 +236,7 @@ refusals_kept k pass each = record {
 pub ring_wait : (m : Moment) → m.mode ≡ InTurn → 13 ≡ flushed_at m → ((t : Transaction) → MayHaveStamp m t 40000) → HasCause m command.Commit (answer.WaitRing 13)
 ring_wait m in_turn flushed stamp = record {
   own = λ t is. (in_turn, record { flushed_is = flushed; own = 40000; own_is = stamp t; full = enough (most_words t) });
+  saves = λ t is. tt;
   log = tt;
   unfilled = tt;
 }
