@@ -229,7 +229,22 @@ turns_held seat asked a v u t holds turns = record {
   onward = onward_then v u t holds.onward turns.onward;
 }
 
--- THE LAST TRY.
+-- THE LAST TRY. Each refusal has its answer; a wait has none, nor has the want of memory.
+module _ (Cut : RowStop → Type 0) (At : Answer → Type 0) (reads : Cut stop.ReadsFull → At answer.ReadsFull)
+    (owned : (other number : ℕ) → Cut (stop.Owned other number) → At (answer.Owned other number)) (newer : (stamp : ℕ) → Cut (stop.Newer stamp) → At (answer.Newer stamp))
+    (writes : Cut stop.WritesFull → At answer.WritesFull) (cells : (drawn : ℕ) → Cut (stop.CellsFull drawn) → At (answer.CellsFull drawn))
+    (oids : (drawn : ℕ) → Cut (stop.OidsFull drawn) → At (answer.OidsFull drawn)) (early : (succ pred : ℕ) → Cut (stop.Excluded succ pred) → At (answer.ExcludedEarly succ pred)) where
+  by_answer : (a : Answer) (why : RowStop) → told_at_once why ≡ Some a → Cut why → At a
+  by_answer a (stop.NotYet other seen) told cut = cc
+  by_answer a stop.ReadsFull told cut = subst At (the_answer answer.ReadsFull a told) (reads cut)
+  by_answer a (stop.Owned other number) told cut = subst At (the_answer (answer.Owned other number) a told) (owned other number cut)
+  by_answer a (stop.Newer stamp) told cut = subst At (the_answer (answer.Newer stamp) a told) (newer stamp cut)
+  by_answer a stop.WritesFull told cut = subst At (the_answer answer.WritesFull a told) (writes cut)
+  by_answer a (stop.CellsFull drawn) told cut = subst At (the_answer (answer.CellsFull drawn) a told) (cells drawn cut)
+  by_answer a (stop.OidsFull drawn) told cut = subst At (the_answer (answer.OidsFull drawn) a told) (oids drawn cut)
+  by_answer a (stop.Excluded succ pred) told cut = subst At (the_answer (answer.ExcludedEarly succ pred) a told) (early succ pred cut)
+  by_answer a stop.Memory told cut = cc
+
 module _ (stay : (w u : Work) (steps : List Step) → Extends w u → IsAnswered w steps → IsAnswered u steps) where
   module _ (f : View) (seat : ℕ) (c : Command) (v t : View) (active : phase_at v seat ≡ Active) (named : IsSome (table_of c)) (calm : asks_safe (Some c) ≡ false) where
     abbrev Cut : RowStop → Type 0
@@ -256,23 +271,30 @@ module _ (stay : (w u : Work) (steps : List Step) → Extends w u → IsAnswered
           onward = cut_onward f seat (FrontOf c) (AsksOf c) why v t active cut;
         }
 
+    -- each refusal by its answer
+    reads_full : Cut stop.ReadsFull → At answer.ReadsFull
+    reads_full cut = stays_so answer.ReadsFull stop.ReadsFull cut refl refl refl (λ p. refl)
+
+    owned_by : (other number : ℕ) → Cut (stop.Owned other number) → At (answer.Owned other number)
+    owned_by other number cut = ends_so (answer.Owned other number) (stop.Owned other number) Aborts cut refl refl tt refl (λ p. refl)
+
+    newer_than : (stamp : ℕ) → Cut (stop.Newer stamp) → At (answer.Newer stamp)
+    newer_than stamp cut = ends_so (answer.Newer stamp) (stop.Newer stamp) Aborts cut refl refl tt refl (λ p. refl)
+
+    writes_full : Cut stop.WritesFull → At answer.WritesFull
+    writes_full cut = stays_so answer.WritesFull stop.WritesFull cut refl refl refl (λ p. refl)
+
+    cells_full : (drawn : ℕ) → Cut (stop.CellsFull drawn) → At (answer.CellsFull drawn)
+    cells_full drawn cut = stays_so (answer.CellsFull drawn) (stop.CellsFull drawn) cut refl refl refl (λ p. refl)
+
+    oids_full : (drawn : ℕ) → Cut (stop.OidsFull drawn) → At (answer.OidsFull drawn)
+    oids_full drawn cut = stays_so (answer.OidsFull drawn) (stop.OidsFull drawn) cut refl refl refl (λ p. refl)
+
+    shut_early : (succ pred : ℕ) → Cut (stop.Excluded succ pred) → At (answer.ExcludedEarly succ pred)
+    shut_early succ pred cut = ends_so (answer.ExcludedEarly succ pred) (stop.Excluded succ pred) (Excludes None succ pred) cut refl refl tt refl (λ p. refl)
+
     refused_so : (a : Answer) (why : RowStop) → told_at_once why ≡ Some a → Cut why → At a
-    refused_so a (stop.NotYet other seen) told cut = cc
-    refused_so a stop.ReadsFull told cut = subst At (the_answer answer.ReadsFull a told) (stays_so answer.ReadsFull stop.ReadsFull cut refl refl refl (λ p. refl))
-    refused_so a (stop.Owned other number) told cut =
-        subst At (the_answer (answer.Owned other number) a told)
-        (ends_so (answer.Owned other number) (stop.Owned other number) Aborts cut refl refl tt refl (λ p. refl))
-    refused_so a (stop.Newer stamp) told cut =
-        subst At (the_answer (answer.Newer stamp) a told) (ends_so (answer.Newer stamp) (stop.Newer stamp) Aborts cut refl refl tt refl (λ p. refl))
-    refused_so a stop.WritesFull told cut = subst At (the_answer answer.WritesFull a told) (stays_so answer.WritesFull stop.WritesFull cut refl refl refl (λ p. refl))
-    refused_so a (stop.CellsFull drawn) told cut =
-        subst At (the_answer (answer.CellsFull drawn) a told) (stays_so (answer.CellsFull drawn) (stop.CellsFull drawn) cut refl refl refl (λ p. refl))
-    refused_so a (stop.OidsFull drawn) told cut =
-        subst At (the_answer (answer.OidsFull drawn) a told) (stays_so (answer.OidsFull drawn) (stop.OidsFull drawn) cut refl refl refl (λ p. refl))
-    refused_so a (stop.Excluded succ pred) told cut =
-        subst At (the_answer (answer.ExcludedEarly succ pred) a told)
-        (ends_so (answer.ExcludedEarly succ pred) (stop.Excluded succ pred) (Excludes None succ pred) cut refl refl tt refl (λ p. refl))
-    refused_so a stop.Memory told cut = cc
+    refused_so = by_answer Cut At reads_full owned_by newer_than writes_full cells_full oids_full shut_early
 
     refused_as : (a : Answer) → (why : RowStop) × (told_at_once why ≡ Some a) × Cut why → At a
     refused_as a (why, told, cut) = refused_so a why told cut

@@ -1,5 +1,5 @@
 -- The lines of a session in an execution that is told in part: each at its place, beside those before it, and the snapshots that they begin.
-use Rattle.std.proofs.Common.{◌≡◌, ℕ, ◌<◌, List, [], map, take, slice_get, Option, Some, IfSome, option_to_list, refl, sym, ap, ◌∙◌, subst, ⊎_elim}
+use Rattle.std.proofs.Common.{◌≡◌, ℕ, ◌<◌, List, map, take, slice_get, Option, Some, IfSome, option_to_list, refl, sym, ap, ◌∙◌, subst, ⊎_elim}
 use Rattle.erm_model.specs.declared.outcome.Phase.TheVariants.{Idle}
 use Rattle.erm_model.specs.Member.{◌∈◌}
 use Rattle.erm_model.specs.Run.{Step}
