@@ -4,6 +4,8 @@ pub mod Claiming
 pub mod Covered
 pub mod Cuts
 pub mod Firm
+pub mod GoingBack
+pub mod Held
 pub mod Lifts
 pub mod Loads
 pub mod Making
@@ -15,7 +17,6 @@ pub mod Refusing
 pub mod SafeCuts
 pub mod SafeReading
 pub mod SafeShows
-pub mod Saving
 pub mod Sealing
 pub mod Sessions
 pub mod Settled

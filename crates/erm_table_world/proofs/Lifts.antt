@@ -1,5 +1,5 @@
 -- What a session's call makes of a view is so with savepoints, where those of the others stay, and its own while its transaction isn't ended.
-use Rattle.std.proofs.Common.{◌≡◌, ◌≢◌, ⊎_elim, ℕ, List, [], refl, sym, ap, ◌∙◌, subst}
+use Rattle.std.proofs.Common.{◌≡◌, ◌≢◌, ⊎_elim, ℕ, List, sym, ap, ◌∙◌, subst}
 use Rattle.std.proofs.Math.Path.{fun_ext}
 use Rattle.std.proofs.lemmas.Bool.{cases_eq}
 use Rattle.erm_model.specs.declared.history.VersionWritten.{VersionWritten}
@@ -11,14 +11,12 @@ use Rattle.erm_model.specs.declared.row_stop.RowStop.TheVariants as stop
 use Rattle.erm_world.specs.declared.stops.BeginStop.{BeginStop}
 use Rattle.erm_world.specs.declared.stops.BeginStop.TheVariants as begin
 use Rattle.erm_world.specs.declared.stops.SafeStop.{SafeStop}
-use Rattle.erm_world.specs.declared.stops.SafeStop.TheVariants as safe
 use Rattle.erm_world.specs.declared.stops.Wait.{Wait}
 use Rattle.erm_world.specs.Calls.{Becomes, DidAbort, DidClaim, DidMake, DidNotClaim, DidNotMake, DidNotRead, DidNotSettle, DidRead, DidSeal, DidSettle, DidWrite, IsDone, KeepsOwnSaves, MayNotBegin, Settled, Works}
 use Rattle.erm_world.specs.Calls as calls
 use Rattle.erm_world.specs.Safe.{DidBeginSafe, DidNotSafe, DidSafe}
 use Rattle.erm_world.specs.Saves.{with_saves}
-use Rattle.erm_world.specs.World.{Fate, Session, Stand, View, Work, phase_at, phase_of}
-use Rattle.erm_world.specs.World as world
+use Rattle.erm_world.specs.World.{Fate, Session, View, Work, phase_at, phase_of}
 use Rattle.erm_world.proofs.WithSaves as kept
 
 module _ (f g : ℕ → List (List VersionWritten)) (v t : View) (seat : ℕ) (own : (phase_at v seat ≡ Active → phase_at t seat ≡ Active) → g seat ≡ f seat) (others : (q : ℕ) → q ≢ seat → g q ≡ f q) where

@@ -51,7 +51,7 @@ same_world law sessions seat b e plain ran stayed own =
     (λ (here : q ≡ seat). subst (λ n. session_of ((core_of e).seats n) ≡ session_of ((core_of b).seats n)) (sym here) own)
     (λ (there : q ≡ seat → ⊥). ap session_of (ran.others q there))
     (cases_eq q seat)))
-    stayed.tail stayed.flushed (stayed.pinned plain) refl
+    stayed.tail stayed.flushed (stayed.pinned plain) refl refl
 
 -- what a version's words make of the running numbers doesn't show
 rated_work : (words : Cell) (t : Attempt) → work_of (rated words t) ≡ work_of t

@@ -21,7 +21,7 @@ use Rattle.erm_table_world.specs.Stands.{Stands, table_view, with_cuts, world_vi
 use Rattle.erm_table_world.proofs.Cuts as cuts
 use Rattle.erm_table_world.proofs.Lifts as lifts
 use Rattle.erm_table_world.proofs.SafeCuts as safe_cuts
-use Rattle.erm_table_world.proofs.Saving.{none_held}
+use Rattle.erm_table_world.proofs.Held.{none_held}
 
 -- an idle session has no transaction, and no snapshot
 idle_stand : (s : Stand) → phase_of s ≡ Idle → s ≡ world.idle

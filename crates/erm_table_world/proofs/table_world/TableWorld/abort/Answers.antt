@@ -8,7 +8,7 @@ use Rattle.erm_core_steps.proofs.Quiet.{active_seat}
 use Rattle.erm_table_world.proofs.Aborting.{aborted}
 use Rattle.erm_model.specs.declared.outcome.Phase.TheVariants.{Idle}
 use Rattle.erm_session.proofs.Saved.{stays_past}
-use Rattle.erm_table_world.proofs.Saving.{keeps_saves}
+use Rattle.erm_table_world.proofs.Held.{keeps_saves}
 use Rattle.erm_table_world.proofs.Sessions.{called, here, is_now, quiet_still}
 use Rattle.erm_table_world.proofs.Still.{went_ran, went_stayed}
 use Rattle.erm_table_world.proofs.table_world.TableWorld.abort.Goals as goal

@@ -6,7 +6,7 @@ use Rattle.erm_session.specs.Took.{TookNoBegin}
 use Rattle.erm_world.specs.declared.stops.BeginStop.TheVariants as stop
 use Rattle.erm_table_world.proofs.Beginning.{at_last, began}
 use Rattle.erm_core_steps.proofs.Results.{never}
-use Rattle.erm_table_world.proofs.Saving.{keeps_saves}
+use Rattle.erm_table_world.proofs.Held.{keeps_saves}
 use Rattle.erm_table_world.proofs.Sessions.{called, here, is_now}
 use Rattle.erm_table_world.proofs.table_world.TableWorld.begin.Goals as goal
 

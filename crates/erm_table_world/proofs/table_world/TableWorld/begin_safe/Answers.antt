@@ -5,7 +5,7 @@ use Rattle.erm_seats.specs.Safe.{TookBeginSafe}
 use Rattle.erm_session.specs.Took.{TookNoBegin}
 use Rattle.erm_world.specs.declared.stops.BeginStop.TheVariants as stop
 use Rattle.erm_table_world.proofs.Beginning.{at_last}
-use Rattle.erm_table_world.proofs.Saving.{keeps_saves, past_begun_safe}
+use Rattle.erm_table_world.proofs.Held.{keeps_saves, past_begun_safe}
 use Rattle.erm_table_world.proofs.Sessions.{called, here, is_now, quiet_still}
 use Rattle.erm_table_world.proofs.SafeShows.{began_safe}
 use Rattle.erm_table_world.proofs.table_world.TableWorld.begin_safe.Goals as goal

@@ -6,7 +6,7 @@ use Rattle.erm_session.specs.Calls.{ClaimsObject, RefusesClaim}
 use Rattle.erm_session.specs.Took.{TookAnyClaim, TookClaimStop}
 use Rattle.erm_table_world.proofs.Claiming.{did_claim}
 use Rattle.erm_table_world.proofs.NotClaiming.{left_of, not_claim}
-use Rattle.erm_table_world.proofs.Saving.{keeps_saves}
+use Rattle.erm_table_world.proofs.Held.{keeps_saves}
 use Rattle.erm_table_world.proofs.Sessions.{here, still_call}
 use Rattle.erm_table_world.proofs.table_world.TableWorld.claim.Goals as goal
 

@@ -2,7 +2,7 @@ use Rattle.std.proofs.Common.{◌≤◌, [], ◌∷◌, ℕ, IfErr, OnOk, subst}
 use Rattle.erm_machine.specs.declared.event.Kind.TheVariants.{LoadFlushed}
 use Rattle.erm_rule.specs.Books.{book}
 use Rattle.erm_rule.specs.Went.{Took}
-use Rattle.erm_table_world.proofs.Saving.{keeps_same}
+use Rattle.erm_table_world.proofs.Held.{keeps_same}
 use Rattle.erm_table_world.proofs.Sessions.{called_same, here, is_now, quiet_still}
 use Rattle.erm_table_world.proofs.Unseen.{durable_told}
 use Rattle.erm_table_world.proofs.table_world.TableWorld.durable.Goals as goal

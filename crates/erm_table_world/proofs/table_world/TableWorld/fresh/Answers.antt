@@ -8,7 +8,7 @@ use Rattle.erm_session.specs.Making.{RefusesObject}
 use Rattle.erm_session.specs.Took.{TookNoObject, TookObject}
 use Rattle.erm_table_world.proofs.Making.{made}
 use Rattle.erm_core_steps.proofs.Results.{never}
-use Rattle.erm_table_world.proofs.Saving.{keeps_saves}
+use Rattle.erm_table_world.proofs.Held.{keeps_saves}
 use Rattle.erm_table_world.proofs.Sessions.{called, here, is_now}
 use Rattle.erm_table_world.proofs.table_world.TableWorld.fresh.Goals as goal
 

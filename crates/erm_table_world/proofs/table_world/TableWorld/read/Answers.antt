@@ -6,7 +6,7 @@ use Rattle.erm_session.specs.Took.{TookReadStop}
 use Rattle.erm_table_world.proofs.NotReading.{not_read}
 use Rattle.erm_table_world.proofs.Reading.{did_read}
 use Rattle.erm_core_steps.proofs.Results.{both_err, never, ok_to}
-use Rattle.erm_table_world.proofs.Saving.{keeps_saves}
+use Rattle.erm_table_world.proofs.Held.{keeps_saves}
 use Rattle.erm_table_world.proofs.Sessions.{here, still_call}
 use Rattle.erm_table_world.proofs.table_world.TableWorld.read.Goals as goal
 

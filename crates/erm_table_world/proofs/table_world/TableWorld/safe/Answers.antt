@@ -7,7 +7,7 @@ use Rattle.erm_seats.specs.Safe.{DidSurvey}
 use Rattle.erm_session.specs.Safe as session
 use Rattle.erm_session.specs.Safe.{TookNoSafe}
 use Rattle.erm_table_world.proofs.SafeReading.{not_safe_shows, pending_of}
-use Rattle.erm_table_world.proofs.Saving.{keeps_saves, past_safe}
+use Rattle.erm_table_world.proofs.Held.{keeps_saves, past_safe}
 use Rattle.erm_table_world.proofs.Sessions.{here, still_call}
 use Rattle.erm_table_world.proofs.Surveying.{survey_shows}
 use Rattle.erm_table_world.proofs.table_world.TableWorld.safe.Goals as goal

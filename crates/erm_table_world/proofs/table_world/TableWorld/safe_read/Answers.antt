@@ -6,7 +6,7 @@ use Rattle.erm_rule.specs.Went.{IsLoadStep, Went, core_of}
 use Rattle.erm_session.specs.Session.{phase_of}
 use Rattle.erm_session.proofs.Saved.{none_shown}
 use Rattle.erm_table_world.proofs.SafeReading.{read_ran, read_row, read_same, read_stayed, safe_of}
-use Rattle.erm_table_world.proofs.Saving.{keeps_same}
+use Rattle.erm_table_world.proofs.Held.{keeps_same}
 use Rattle.erm_table_world.proofs.Sessions.{called_same, here, is_now, quiet_still}
 use Rattle.erm_table_world.proofs.table_world.TableWorld.safe_read.Goals as goal
 

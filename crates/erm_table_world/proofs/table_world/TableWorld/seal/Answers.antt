@@ -11,7 +11,7 @@ use Rattle.erm_seats.specs.Took.{TookSeal}
 use Rattle.erm_table_world.proofs.Sealing.{lawful, seals}
 use Rattle.erm_model.specs.declared.outcome.Phase.TheVariants.{Sealed}
 use Rattle.erm_session.proofs.Saved.{stays_past}
-use Rattle.erm_table_world.proofs.Saving.{keeps_saves}
+use Rattle.erm_table_world.proofs.Held.{keeps_saves}
 use Rattle.erm_table_world.proofs.Sessions.{called, here, is_now}
 use Rattle.erm_table_world.proofs.table_world.TableWorld.seal.Goals as goal
 

@@ -20,7 +20,7 @@ use Rattle.erm_table_world.specs.Stands.{StandsAt}
 use Rattle.erm_table_world.specs.Waits.{wait_of}
 use Rattle.erm_model.specs.declared.outcome.Phase.TheVariants as phase
 use Rattle.erm_session.proofs.Saved.{stays_past}
-use Rattle.erm_table_world.proofs.Saving.{keeps_saves}
+use Rattle.erm_table_world.proofs.Held.{keeps_saves}
 use Rattle.erm_table_world.proofs.Sessions.{called, here, is_now, quiet_still}
 use Rattle.erm_table_world.proofs.Still.{went_ran, went_stayed}
 use Rattle.erm_table_world.proofs.Waiting.{decides, waits_ring, waits_seat}

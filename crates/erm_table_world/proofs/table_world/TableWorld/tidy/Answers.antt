@@ -6,7 +6,7 @@ use Rattle.erm_session.specs.Calls.{RefusesClaim, TidiesObject}
 use Rattle.erm_session.specs.Took.{TookAnyTidy, TookClaimStop}
 use Rattle.erm_table_world.proofs.NotClaiming.{left_of, not_claim}
 use Rattle.erm_core_steps.proofs.Results.{both_err, both_if_ok, never, ok_to}
-use Rattle.erm_table_world.proofs.Saving.{keeps_saves}
+use Rattle.erm_table_world.proofs.Held.{keeps_saves}
 use Rattle.erm_table_world.proofs.Sessions.{here, still_call}
 use Rattle.erm_table_world.proofs.Taking.{any_few}
 use Rattle.erm_table_world.proofs.Tidying.{did_tidy}

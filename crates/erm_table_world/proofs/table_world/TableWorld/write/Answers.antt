@@ -7,7 +7,7 @@ use Rattle.erm_session.specs.Calls.{RefusesClaim, WritesRow}
 use Rattle.erm_session.specs.Took.{TookClaimStop, TookWrite}
 use Rattle.erm_table_world.proofs.NotClaiming.{left_of, not_claim}
 use Rattle.erm_core_steps.proofs.Results.{both_err, both_on_ok, never}
-use Rattle.erm_table_world.proofs.Saving.{keeps_saves}
+use Rattle.erm_table_world.proofs.Held.{keeps_saves}
 use Rattle.erm_table_world.proofs.Sessions.{here, still_call}
 use Rattle.erm_table_world.proofs.Writing.{did_write}
 use Rattle.erm_table_world.proofs.table_world.TableWorld.write.Goals as goal

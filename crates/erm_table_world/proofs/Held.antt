@@ -1,5 +1,5 @@
 -- The savepoints of the world's sessions after a call of one of them.
-use Rattle.std.proofs.Common.{◌≡◌, ◌≢◌, ⊎_elim, ℕ, zero, suc, ◌-◌, ◌<◌, Bool, List, [], ◌∷◌, length, get_or, set, eqb, Option, None, Some, inl, inr, refl, sym, ap, ◌∙◌, subst, arith}
+use Rattle.std.proofs.Common.{◌≡◌, ◌≢◌, ◌⊎◌, ⊎_elim, ℕ, zero, suc, ◌-◌, ◌<◌, Bool, List, [], ◌∷◌, length, get_or, set, Option, None, Some, inl, inr, refl, sym, ap, ◌∙◌, subst, arith}
 use Rattle.std.specs.List.{slice_get}
 use Rattle.std.specs.Prelude.{◌==◌, if◌then◌else◌, IfErr, IfOk, OnOk, Result, Ok, Err}
 use Rattle.std.proofs.lemmas.Bool.{cases_eq, eq-eqb, ne_eqb}
@@ -9,7 +9,6 @@ use Rattle.atomic_table.specs.declared.shared.Seat.{Seat}
 use Rattle.erm_core_view.specs.Views.{view_of}
 use Rattle.erm_machine.specs.declared.part.Part.{Part}
 use Rattle.erm_machine.specs.Core.{Core}
-use Rattle.erm_model.specs.declared.history.VersionWritten.{VersionWritten}
 use Rattle.erm_model.specs.declared.outcome.Phase.{Phase}
 use Rattle.erm_model.specs.declared.outcome.Phase.TheVariants as phase
 use Rattle.erm_model.specs.RowTransaction.{Law}
@@ -29,7 +28,7 @@ use Rattle.erm_world.specs.World as world
 use Rattle.erm_table_world.specs.declared.table_world.TableWorld.{TableWorld}
 use Rattle.erm_table_world.specs.Saves.{KeepsSaves, saves_by, saves_in, table_saves}
 use Rattle.erm_table_world.specs.Stands.{Stands, table_view}
-use Rattle.erm_table_world.proofs.Sessions.{after_call, here, is_now, phase_shown, Here}
+use Rattle.erm_table_world.proofs.Sessions.{after_call, here, phase_shown, Here}
 use Rattle.erm_table_world.proofs.Wholly.{part_is, Ran}
 
 -- those of a session that stands in the list
