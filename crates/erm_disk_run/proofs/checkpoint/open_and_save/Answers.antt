@@ -6,7 +6,6 @@ use Rattle.erm_log_run.proofs.Held.{told_after}
 use Rattle.erm_node.specs.Sound.{sound_law}
 use Rattle.erm_outside.specs.Faults.{Rose}
 use Rattle.erm_report.specs.declared.line.Line.TheVariants as line
-use Rattle.erm_table_world.specs.Logs.{view_kept}
 use Rattle.erm_table_world.specs.Stands.{table_log, world_view}
 use Rattle.erm_disk_run.specs.Limits.{AreLimits, in_table}
 use Rattle.erm_disk_run.specs.Opened.{OpensLog}
@@ -45,7 +44,7 @@ returns-in-Ok-clause-ended g c =
     let l = table_log o.world in
     let m = table_log new in
     let stands = c.checkpoint_turn.ensures.stands in
-    let turned = turned_world in_table table_limits state v t l m was.world c.in_ok-world.ensures.stands.log_of_view stands.log_of_view stands.log (view_kept sound_law o.world new c.checkpoint_turn.ensures.keeps) did.2 in
+    let turned = turned_world in_table table_limits state v t l m was.world c.in_ok-world.ensures.stands.log_of_view stands.log_of_view stands.log c.checkpoint_turn.ensures.keeps.sessions did.2 in
     let keeps = commits_told state v t l m turned before mid after o.slots was.disk c.checkpoints_keep.ensures c.kept_images_may_open.ensures was.found.low o.start.run (c.in-Ok.ensures.any_moment was.well) in
     let place : c.in-Ok.place ≡ state.at + 5 = sym did.3 ∙ tail_is state v t l m turned in (
       state,
@@ -76,7 +75,7 @@ returns-in-Err-clause-ended g c =
     let m = table_log new in
     let goes = goes_on l m c.in-Err.field-0 o.flusher c.checkpoint_turn.new.flusher was.well c.in-Err.ensures.checkpoints in
     let stands = c.checkpoint_turn.ensures.stands in
-    let turned = turned_world in_table table_limits state v t l m was.world c.in_ok-world.ensures.stands.log_of_view stands.log_of_view stands.log (view_kept sound_law o.world new c.checkpoint_turn.ensures.keeps) goes in
+    let turned = turned_world in_table table_limits state v t l m was.world c.in_ok-world.ensures.stands.log_of_view stands.log_of_view stands.log c.checkpoint_turn.ensures.keeps.sessions goes in
     inr (
       state,
       was.found,
@@ -98,7 +97,7 @@ returns-in-Err-clause-counts g c =
     let m = table_log new in
     let goes = goes_on l m c.in-Err.field-0 o.flusher c.checkpoint_turn.new.flusher was.well c.in-Err.ensures.checkpoints in
     let stands = c.checkpoint_turn.ensures.stands in
-    let turned = turned_world in_table table_limits state v t l m was.world c.in_ok-world.ensures.stands.log_of_view stands.log_of_view stands.log (view_kept sound_law o.world new c.checkpoint_turn.ensures.keeps) goes in
+    let turned = turned_world in_table table_limits state v t l m was.world c.in_ok-world.ensures.stands.log_of_view stands.log_of_view stands.log c.checkpoint_turn.ensures.keeps.sessions goes in
     let fault = only_faults state v t l m turned c.in-Err.field-0 o.flusher c.checkpoint_turn.new.flusher was.well c.in-Err.ensures.checkpoints in
     subst (λ (n : ℕ). Rose n (g.D.Disk.faults c.checkpoint_turn.new.disk)) c.in_ok-world.ensures.sound
     (subst (λ (cause : CheckpointStop). Counts {T = ℕ} (Err cause) (g.D.Disk.faults c.open_disk.new.disk) (g.D.Disk.faults c.checkpoint_turn.new.disk)) fault c.in-Err.ensures.counts)
