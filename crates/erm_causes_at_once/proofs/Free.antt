@@ -21,6 +21,7 @@ use Rattle.erm_causes.proofs.Operated.{EndsBy, GoesOnBy}
 use Rattle.erm_causes.proofs.Quiet.{HasNow, SameLines, SameNow}
 use Rattle.erm_causes.proofs.Snapshots.{LeavesNone}
 use Rattle.erm_causes.proofs.Together.{together_one_more, together_untold}
+use Rattle.erm_told_limits.proofs.Ran.{active_with}
 use Rattle.erm_causes_at_once.proofs.Snapshots.{HasNoWork, Watches, ends, looks, watches}
 
 module _ (table : ℕ → ℕ) (f : View) where
@@ -131,16 +132,13 @@ module _ (table : ℕ → ℕ) (f : View) where
     pub is : current ≡ Some told
     pub going : Going told k
 
+  going_of : (current : Option Transaction) (held : List (List VersionWritten)) (w : Work) → FreeNow current held (world.active w) → ActiveFree current (record { work = w; saves = held })
+  going_of None held w now = absurd now
+  going_of (Some t) held w now = record { told = t; is = refl; going = now }
+
   pub active_free : (current : Option Transaction) (held : List (List VersionWritten)) (stand : Stand) → FreeNow current held stand → phase_of stand ≡ Active
       → ActiveFree current (record { work = work_of stand; saves = held })
-  active_free None held world.idle now active = cc
-  active_free None held (world.active w) now active = absurd now
-  active_free None held (world.sealed w stamp) now active = absurd now
-  active_free (Some t) held world.idle now active = absurd now
-  active_free (Some t) held (world.active w) now active = record { told = t; is = refl; going = now }
-  active_free (Some t) held (world.sealed w stamp) now active = cc
-  active_free None held (world.snapshot s) now active = absurd (snapshot_not_active s active)
-  active_free (Some t) held (world.snapshot s) now active = absurd now
+  active_free current held stand now active = going_of current held (work_of stand) (subst (λ (at : Stand). FreeNow current held at) (active_with stand active) now)
 
   -- an idle session has none
   pub none_now : (current : Option Transaction) (held : List (List VersionWritten)) (stand : Stand) → FreeNow current held stand → stand ≡ world.idle → current ≡ None

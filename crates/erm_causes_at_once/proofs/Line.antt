@@ -1,5 +1,5 @@
 -- A line of a session that names a table leaves its transaction so that it touches objects of its lines' tables alone.
-use Rattle.std.proofs.Common.{◌≡◌, ℕ, zero, suc, ◌+◌, ◌<◌, ◌≤◌, Bool, false, cond, eqb, List, [], ◌∷◌, ◌++◌, Option, Some, None, sum_by, inl, inr, refl, sym, ap, subst, arith, le_trans, slice_get}
+use Rattle.std.proofs.Common.{◌≡◌, ℕ, zero, suc, ◌+◌, ◌<◌, ◌≤◌, Bool, false, cond, eqb, List, [], ◌∷◌, ◌++◌, Some, None, sum_by, inl, inr, refl, sym, ap, subst, arith, le_trans, slice_get}
 use Rattle.std.specs.Option.{option_to_list}
 use Rattle.std.proofs.lemmas.List.Sums.{sum_by-append, sum_by-cons}
 use Rattle.erm_model.specs.declared.outcome.Phase.TheVariants.{Active}

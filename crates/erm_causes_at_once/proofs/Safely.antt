@@ -37,7 +37,7 @@ use Rattle.erm_lines_at_once.specs.Executions.{DidOwn, IsOwnRun}
 use Rattle.erm_lines_at_once.specs.Looks.{DidLookBeside}
 use Rattle.erm_lines_at_once.proofs.Watched.{in_phase}
 use Rattle.erm_told.specs.Snapshots.{IsKeptSafe}
-use Rattle.erm_told.proofs.Comes.{Comes, IsPlain, hears_comes, looks_with, replied_none}
+use Rattle.erm_told.proofs.Comes.{Comes, IsPlain, back_none, hears_comes, looks_with, replied_none, saved_none}
 use Rattle.erm_told.proofs.Executed.{Knows, hears, turns}
 use Rattle.erm_told.proofs.Keeping.{kept_like, kept_new, kept_with}
 use Rattle.erm_told.proofs.Lasting.{Lasts}
@@ -214,9 +214,40 @@ module _ (f : View) where
       (λ is_there done. let has = snapshot_there v seat is_there in looked v seat p has.0 has.1 tells keeps l.command r t fits.0 done)
       (did_in v t l (answer.Replied r) did fits.0)
 
+  -- a savepoint is none of a snapshot's
+  never_saved : (seat held : ℕ) (c : Command) (v t : View) → DidOfSnapshotBeside f seat c (answer.Saved held) v t → ⊥
+  never_saved seat held command.Safe v t did = did
+  never_saved seat held c v t did = did
+
+  never_back : (seat n : ℕ) (c : Command) (v t : View) → DidOfSnapshotBeside f seat c (answer.Back n) v t → ⊥
+  never_back seat n command.Safe v t did = did
+  never_back seat n c v t did = did
+
+  saved_line : (v t : View) (l : ScriptLine) (held : ℕ) (p : Progress) → DidLineBeside f l (answer.Saved held) v t → Tells l.session p (v.session l.session) → Keeps p
+      → Keeps (heard l.session (Some l.command) (answer.Saved held) p)
+  saved_line v t l held p did tells keeps =
+      let seat = l.session in
+      let fits = answers_so (phase_at v seat) l.command (answer.Saved held) refl did.fits in
+      in_phase (Keeps (heard seat (Some l.command) (answer.Saved held) p)) f seat l.command (answer.Saved held) v t
+      (λ plain done.
+      keeps_comes p (heard seat (Some l.command) (answer.Saved held) p) (saved_none seat (Some l.command) held p (none_at p.snapshot (v.session seat).stand plain tells.watched)) keeps)
+      (λ is_there done. absurd (never_saved seat held l.command v t done)) (did_in v t l (answer.Saved held) did fits.0)
+
+  back_line : (v t : View) (l : ScriptLine) (n : ℕ) (p : Progress) → DidLineBeside f l (answer.Back n) v t → Tells l.session p (v.session l.session) → Keeps p
+      → Keeps (heard l.session (Some l.command) (answer.Back n) p)
+  back_line v t l n p did tells keeps =
+      let seat = l.session in
+      let fits = answers_so (phase_at v seat) l.command (answer.Back n) refl did.fits in
+      in_phase (Keeps (heard seat (Some l.command) (answer.Back n) p)) f seat l.command (answer.Back n) v t
+      (λ plain done.
+      keeps_comes p (heard seat (Some l.command) (answer.Back n) p) (back_none seat (Some l.command) n p (none_at p.snapshot (v.session seat).stand plain tells.watched)) keeps)
+      (λ is_there done. absurd (never_back seat n l.command v t done)) (did_in v t l (answer.Back n) did fits.0)
+
   own_line : (v t : View) (l : ScriptLine) (a : Answer) (p : Progress) → DidLineBeside f l a v t → Tells l.session p (v.session l.session) → Keeps p → Keeps (heard l.session (Some l.command) a p)
   own_line v t l (answer.Safe begin) p did tells keeps = safe_line v t l begin p did tells keeps
   own_line v t l (answer.Replied r) p did tells keeps = replied_line v t l r p did tells keeps
+  own_line v t l (answer.Saved held) p did tells keeps = saved_line v t l held p did tells keeps
+  own_line v t l (answer.Back n) p did tells keeps = back_line v t l n p did tells keeps
   own_line v t l a p did tells keeps = keeps_comes p (heard l.session (Some l.command) a p) (hears_comes l.session (Some l.command) a p tt) keeps
 
   -- and its end
@@ -231,6 +262,16 @@ module _ (f : View) where
   closes_plain phase.Sealed (answer.Replied r) fits = fits
   closes_plain phase.Pending (answer.Replied r) fits = fits
   closes_plain phase.Safe (answer.Replied r) fits = fits
+  closes_plain phase.Idle (answer.Saved held) fits = fits
+  closes_plain phase.Active (answer.Saved held) fits = fits
+  closes_plain phase.Sealed (answer.Saved held) fits = fits
+  closes_plain phase.Pending (answer.Saved held) fits = fits
+  closes_plain phase.Safe (answer.Saved held) fits = fits
+  closes_plain phase.Idle (answer.Back n) fits = fits
+  closes_plain phase.Active (answer.Back n) fits = fits
+  closes_plain phase.Sealed (answer.Back n) fits = fits
+  closes_plain phase.Pending (answer.Back n) fits = fits
+  closes_plain phase.Safe (answer.Back n) fits = fits
   closes_plain ph a fits = tt
 
   own_end : (v t : View) (seat : ℕ) (a : Answer) (p : Progress) → DidEndBeside seat a v t → Keeps p → Keeps (heard seat None a p)

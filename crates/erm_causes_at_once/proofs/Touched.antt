@@ -98,7 +98,7 @@ module _ (tree : TreeLaws) (laws : HistoryLaws) (begun : NoneRuns)
       (goes_last seat session) (first_stands seat session))
 
   -- with the savepoints that it held in the end
-  held : (seat : ℕ) → IsSession f seat → List (List VersionWritten)
+  abbrev held : (seat : ℕ) → IsSession f seat → List (List VersionWritten)
   held seat session = (part_of seat session).last.saves seat
 
   free : (seat : ℕ) (session : IsSession f seat) → IsFree table f (progress_of seat said) (held seat session) (f.session seat)

@@ -17,7 +17,7 @@ use Rattle.erm_world.specs.Going.{Extends}
 use Rattle.erm_world.specs.Laws.{IsSerializable}
 use Rattle.erm_world.specs.World.{GivenUp, IsSession, Session, Stand, View, Work, made_in, phase_at, phase_of, work_at, work_of}
 use Rattle.erm_world.specs.World as world
-use Rattle.erm_maps.specs.Runs.{IsAnswered, IsRunOf, kept_at}
+use Rattle.erm_maps.specs.Runs.{IsAnswered, kept_at}
 use Rattle.erm_good_report.specs.Causes.{WritesTable}
 use Rattle.erm_good_report.specs.Transactions.{Progress, Transaction, heard, said_of, table_of, with_line}
 use Rattle.erm_lines.specs.Executions.{Move, close, flush, line, line_moves, log, move_of, said_in}
@@ -89,7 +89,7 @@ lined_made : (f : View) (seat : ℕ) (asked : Option Command) (a : Answer) (v t 
 lined_made f seat asked a v t (quiet did keeps) x = omega (arith, quieted_made asked a (v.session seat) (t.session seat) did x)
 lined_made f seat asked a v t (sealed_first stamp between active is did rests) x =
     omega (arith, quieted_made asked a between (t.session seat) did x, ap (λ (s : Session). made_in s x) is)
-lined_made f seat asked a v t (at_savepoint c u is none active passes did hears) x =
+lined_made f seat asked a v t (at_savepoint c u is none active passes did on_by) x =
     omega (arith, saves_made u t seat x (pointed_at c a u seat t did), ap (λ (s : Session). made_in s x) passes.own)
 lined_made f seat asked a v t (named c k is names active did) x = operation_made f seat c a v t active did x
 
@@ -196,7 +196,7 @@ module _ (tree : TreeLaws) (laws : HistoryLaws) (begun : NoneRuns)
       quieted_free begun table f seat asked a p (t.saves seat) (t.saves seat) between (t.session seat) (subst (λ (s : Session). TellsNow seat p.current s.stand) (sym is) sealed)
       (rests_keep (t.session seat).stand between.stand (t.saves seat) (t.saves seat) rests) did
       (subst (λ (s : Session). IsFree table f p (t.saves seat) s) (sym is) (sealed_free table f p (v.saves seat) (t.saves seat) (v.session seat) stamp active free))
-  lined_free asked a v t p tells (at_savepoint c u is none active passes did hears) range right goes free =
+  lined_free asked a v t p tells (at_savepoint c u is none active passes did on_by) range right goes free =
       let own : v.session seat ≡ u.session seat = sym passes.own in
       let here : IsFree table f p (u.saves seat) (u.session seat) =
       subst (λ (held : List (List VersionWritten)). IsFree table f p held (u.session seat)) (sym passes.saves) (subst (λ (s : Session). IsFree table f p (v.saves seat) s) own free) in
@@ -205,9 +205,9 @@ module _ (tree : TreeLaws) (laws : HistoryLaws) (begun : NoneRuns)
       let on = saves_of u t seat (pointed_at c a u seat t did) in
       let stand = active_with (t.session seat).stand (on.active there) in
       subst (λ (b : Option Command). IsFree table f (heard seat b a p) (t.saves seat) (t.session seat)) (sym is)
-      (went_free table f seat c a p (u.saves seat) (t.saves seat) (u.session seat) (t.session seat) now.told hears now.is on.over stand (saved_going c a u t now.told (pointed_at c a u seat t did) now.going) here)
+      (went_free table f seat c a p (u.saves seat) (t.saves seat) (u.session seat) (t.session seat) now.told on_by now.is on.over stand (saved_going c a u t now.told (pointed_at c a u seat t did) now.going) here)
   lined_free asked a v t p tells (named c k is names active did) range right goes free =
-      subst (λ (b : Option Command). IsFree table f (heard seat b a p) (t.session seat)) (sym is)
+      subst (λ (b : Option Command). IsFree table f (heard seat b a p) (t.saves seat) (t.session seat)) (sym is)
       (operation_free tree laws table f seat session holds opened c a k names (subst IsAskedInRange is range) v t active did goes (right k (ap table_asked is ∙ names)) p free tells)
 
   given_later : (p q : Progress) (x : GivenUp) → ((t : Transaction) → IsToldIn p t → StillTold t q) → TellsGiven table f seat p x → TellsGiven table f seat q x
