@@ -43,7 +43,7 @@ module _ (t : View) (holds : IsSerializable sound_law t) (v u : View) (l : Scrip
   other_turn : l.session ≢ seat → (w : View) × (x : View) × Passes seat v w × DidOwn false t seat (line l a) w x × (x ≡ u)
   other_turn another =
       let stands = turn.others seat (λ is. another (sym is)) in
-      (u, u, record { own = stands.0; opening = turn.later.opening; tail = turn.later.tail; flushed = turn.later.flushed; given_up = stands.1 }, refl, refl)
+      (u, u, record { own = stands.0; opening = turn.later.opening; tail = turn.later.tail; flushed = turn.later.flushed; given_up = stands.1; saves = stands.2 }, refl, refl)
 
 module _ (stays : (v t : View) → t ≡ v → MovesOn v t) (goes_on : (v t u : View) → MovesOn v t → MovesOn t u → MovesOn v u) where
   own_runs : (moves : List Move) (v t : View) → AreTurns v moves t → IsSerializable sound_law t → (seat : ℕ) → IsOwnRun t seat v moves t

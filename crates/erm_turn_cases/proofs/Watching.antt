@@ -1,6 +1,5 @@
 -- A line of a session with a snapshot, or one that begins a snapshot: no transaction of it is in progress then.
 use Rattle.std.proofs.Common.{◌≡◌, ℕ, true, Option, Some, None, sym, ap, ◌∙◌, subst}
-use Rattle.erm_model.specs.declared.outcome.Phase.TheVariants.{Active}
 use Rattle.erm_report.specs.declared.answer.Answer.{Answer}
 use Rattle.erm_report.specs.declared.answer.Answer.TheVariants as answer
 use Rattle.erm_script.specs.declared.script.Command.{Command}
@@ -11,42 +10,40 @@ use Rattle.erm_world.specs.World.{Session, Snapshot, Stand, View, phase_at, phas
 use Rattle.erm_world.specs.World as world
 use Rattle.erm_good_report.specs.Phases.{HasNoSnapshot, refusal_of}
 use Rattle.erm_lines.specs.Whole.{is_snapshot}
+use Rattle.erm_lines.proofs.Keeping.{rests, run_same}
 use Rattle.erm_lines_at_once.specs.Answers.{DidAskSafeBeside, DidAskSnapshotBeside, DidOfSnapshotBeside, TriedSafe, TriedSnapshot, WasAnsweredBeside, WasWatchedBeside}
 use Rattle.erm_lines_at_once.proofs.Watched.{plain_line, refused_line, snapshot_line}
 use Rattle.erm_turn_cases.specs.Turns.{IsRunNow, WasRun, WasTried, WasWatched}
-use Rattle.erm_turn_cases.proofs.Kept.{done_runs}
+use Rattle.erm_turn_cases.proofs.Kept.{done_runs, still_runs}
 
-snapshot_runs : (s : Session) (x : Snapshot) → s.stand ≡ world.snapshot x → IsRunNow s
-snapshot_runs s x is active = absurd (snapshot_not_active x (subst (λ (at : Stand). phase_of at ≡ Active) is active))
-
-same_runs : (s t : Session) → t ≡ s → IsRunNow s → IsRunNow t
-same_runs s t is run = subst (λ (x : Session). IsRunNow x) (sym is) run
+snapshot_runs : (v : View) (seat : ℕ) (x : Snapshot) → (v.session seat).stand ≡ world.snapshot x → IsRunNow v seat
+snapshot_runs v seat x is = rests v seat (world.snapshot x) is (λ active. snapshot_not_active x active)
 
 module _ (f : View) (seat : ℕ) where
-  asked_runs : (a : Answer) (v t : View) → DidAskSafeBeside f seat a v t → IsRunNow (t.session seat)
-  asked_runs (answer.Safe stamp) v t ((u, passes, (x, stand, now)), is, so) = snapshot_runs (t.session seat) (record x { is_safe = true }) (ap (λ (s : Session). s.stand) now.own)
+  asked_runs : (a : Answer) (v t : View) → DidAskSafeBeside f seat a v t → IsRunNow t seat
+  asked_runs (answer.Safe stamp) v t ((u, passes, (x, stand, now)), is, so) = snapshot_runs t seat (record x { is_safe = true }) (ap (λ (s : Session). s.stand) now.own)
   asked_runs (answer.Unsafe other stamp) v t ((u, passes, done), met) = done_runs u t seat (work_at u seat) world.aborts done
   asked_runs a v t did = absurd did
 
-  begun_runs : (a : Answer) (v t : View) → IsRunNow (v.session seat) → DidAskSnapshotBeside f seat a v t → IsRunNow (t.session seat)
-  begun_runs (answer.LogEnd tail) v t run (u, passes, did) = same_runs (v.session seat) (t.session seat) (ap (λ (x : View). x.session seat) did.0 ∙ passes.own) run
-  begun_runs answer.NumbersEnd v t run (u, passes, did) = same_runs (v.session seat) (t.session seat) (ap (λ (x : View). x.session seat) did.0 ∙ passes.own) run
+  begun_runs : (a : Answer) (v t : View) → IsRunNow v seat → DidAskSnapshotBeside f seat a v t → IsRunNow t seat
+  begun_runs (answer.LogEnd tail) v t run (u, passes, did) = still_runs v u t seat passes did.0 run
+  begun_runs answer.NumbersEnd v t run (u, passes, did) = still_runs v u t seat passes did.0 run
   begun_runs a v t run did = asked_runs a did.between t did.asked
 
-  watched_runs : (c : Command) (a : Answer) (v t : View) → IsRunNow (v.session seat) → DidOfSnapshotBeside f seat c a v t → IsRunNow (t.session seat)
+  watched_runs : (c : Command) (a : Answer) (v t : View) → IsRunNow v seat → DidOfSnapshotBeside f seat c a v t → IsRunNow t seat
   watched_runs command.Safe a v t run did = asked_runs a v t did
-  watched_runs (command.Get table key) (answer.Replied reply) v t run did = same_runs (v.session seat) (t.session seat) did.passes.own run
-  watched_runs (command.Next table from) (answer.Replied reply) v t run did = same_runs (v.session seat) (t.session seat) did.passes.own run
-  watched_runs (command.Scan table low high) (answer.Replied reply) v t run did = same_runs (v.session seat) (t.session seat) did.passes.own run
+  watched_runs (command.Get table key) (answer.Replied reply) v t run did = run_same v t seat did.passes.own did.passes.saves run
+  watched_runs (command.Next table from) (answer.Replied reply) v t run did = run_same v t seat did.passes.own did.passes.saves run
+  watched_runs (command.Scan table low high) (answer.Replied reply) v t run did = run_same v t seat did.passes.own did.passes.saves run
   watched_runs command.Commit answer.Ended v t run (u, passes, did) = done_runs u t seat (work_at u seat) world.aborts did
   watched_runs command.Abort answer.Aborted v t run (u, passes, did) = done_runs u t seat (work_at u seat) world.aborts did
-  watched_runs command.Durable (answer.Durable stamp) v t run (u, passes, did) = same_runs (v.session seat) (t.session seat) (ap (λ (x : View). x.session seat) did.0 ∙ passes.own) run
-  watched_runs command.Durable answer.NoReceipt v t run (u, passes, did) = same_runs (v.session seat) (t.session seat) (ap (λ (x : View). x.session seat) did.0 ∙ passes.own) run
+  watched_runs command.Durable (answer.Durable stamp) v t run (u, passes, did) = still_runs v u t seat passes did.0 run
+  watched_runs command.Durable answer.NoReceipt v t run (u, passes, did) = still_runs v u t seat passes did.0 run
   watched_runs c a v t run did = absurd did
 
   -- BEGUN, and asked
-  pub snapshot_runs_now : (tried : Option Answer) (v t : View) → IsRunNow (v.session seat) → TriedSnapshot f seat tried v t → IsRunNow (t.session seat)
-  snapshot_runs_now None v t run (begin, u, (w, passes, did), more) = snapshot_runs (t.session seat) _ (ap (λ (s : Session). s.stand) (more.own ∙ did.2.own))
+  pub snapshot_runs_now : (tried : Option Answer) (v t : View) → IsRunNow v seat → TriedSnapshot f seat tried v t → IsRunNow t seat
+  snapshot_runs_now None v t run (begin, u, (w, passes, did), more) = snapshot_runs t seat _ (ap (λ (s : Session). s.stand) (more.own ∙ did.2.own))
   snapshot_runs_now (Some a) v t run was = begun_runs a v t run was.did
 
   pub snapshot_tried : (tried : Option Answer) (v t : View) → TriedSnapshot f seat tried v t → WasTried f seat command.Safe tried v t
@@ -58,8 +55,8 @@ module _ (f : View) (seat : ℕ) where
   safe_watched None v t was = was
   safe_watched (Some a) v t was = was
 
-  pub watched_now : (c : Command) (tried : Option Answer) (v t : View) → IsRunNow (v.session seat) → WasWatched f seat c tried v t → IsRunNow (t.session seat)
-  watched_now c None v t run passes = same_runs (v.session seat) (t.session seat) passes.own run
+  pub watched_now : (c : Command) (tried : Option Answer) (v t : View) → IsRunNow v seat → WasWatched f seat c tried v t → IsRunNow t seat
+  watched_now c None v t run passes = run_same v t seat passes.own passes.saves run
   watched_now c (Some a) v t run was = watched_runs c a v t run was.did
 
 -- LINES

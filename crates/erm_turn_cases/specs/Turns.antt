@@ -8,9 +8,9 @@ use Rattle.erm_report.specs.declared.answer.Answer.{Answer}
 use Rattle.erm_script.specs.declared.script.Command.{Command}
 use Rattle.erm_script.specs.declared.script.ScriptLine.{ScriptLine}
 use Rattle.erm_world.specs.Laws.{IsSerializable}
-use Rattle.erm_world.specs.World.{IsSession, Session, View, phase_of, work_of}
+use Rattle.erm_world.specs.World.{IsSession, View, phase_at}
 use Rattle.erm_safe_world.specs.Moves.{MovesOn}
-use Rattle.erm_maps.specs.Runs.{IsRunOf}
+use Rattle.erm_maps.specs.Runs.{IsRunOf, kept_at}
 use Rattle.erm_lines.specs.Executions.{Move, close, flush, line, log}
 use Rattle.erm_lone.specs.Later.{EndsIn, IsLaterWorld}
 use Rattle.erm_beside.specs.Calls.{Passes}
@@ -18,8 +18,8 @@ use Rattle.erm_lines_at_once.specs.Answers.{DidLineBeside, WasAnsweredBeside, Wa
 use Rattle.erm_lines_at_once.specs.Executions.{IsOwnRun}
 
 -- a session's transaction in progress is the run of some operations
-abbrev pub IsRunNow : Session → Type 0
-IsRunNow s = phase_of s.stand ≡ Active → (steps : List Step) × IsRunOf (work_of s.stand) steps
+abbrev pub IsRunNow : View → ℕ → Type 0
+IsRunNow v seat = phase_at v seat ≡ Active → (steps : List Step) × IsRunOf (kept_at v seat) steps
 
 -- the command was answered, or it waits, in a session without a snapshot
 abbrev pub WasTried : View → ℕ → Command → Option Answer → View → View → Type 0
@@ -36,12 +36,12 @@ abbrev pub WasRun : (View → Type 0) → ScriptLine → Option Answer → View 
 WasRun ends l (Some a) v t = (f : View) → ends f → DidLineBeside f l a v t
 WasRun ends l None v t = Unit {0}
 
--- A turn of a session: its line was run so, whichever later world all end in; the other sessions stand, with the claims that they gave up, and the world
--- is a later one, to which it moved on.
+-- A turn of a session: its line was run so, whichever later world all end in; the other sessions stand, with the claims that they gave up and their
+-- savepoints, and the world is a later one, to which it moved on.
 pub record IsTurn (law : Law) (v : View) (l : ScriptLine) (a : Answer) (t : View) : Type 0 where
   pub session : IsSession v l.session
   pub did : (f : View) → EndsIn law t l.session f → DidLineBeside f l a v t
-  pub others : (q : ℕ) → q ≢ l.session → (t.session q ≡ v.session q) × (t.given_up q ≡ v.given_up q)
+  pub others : (q : ℕ) → q ≢ l.session → (t.session q ≡ v.session q) × (t.given_up q ≡ v.given_up q) × (t.saves q ≡ v.saves q)
   pub later : IsLaterWorld v t
   pub moves : MovesOn v t
 

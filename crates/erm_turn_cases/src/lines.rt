@@ -5,10 +5,10 @@ ghost use Rattle.erm_model.specs.declared.outcome.Phase.TheVariants.{Active, Sea
 ghost use Rattle.erm_model.specs.RowTransaction.{SameLaw};
 ghost use Rattle.erm_model.specs.Run.{Step};
 ghost use Rattle.erm_node.specs.Sound.{sound_law};
-ghost use Rattle.erm_maps.specs.Runs.{IsRunOf};
+ghost use Rattle.erm_maps.specs.Runs.{IsRunOf, kept_at};
 ghost use Rattle.erm_good_report.specs.Phases.{HasNoSnapshot, need_of, refusal_of};
 ghost use Rattle.erm_good_report.specs.Transactions.{table_of};
-ghost use Rattle.erm_world.specs.World.{View, phase_at, work_at};
+ghost use Rattle.erm_world.specs.World.{View, phase_at};
 ghost use Rattle.erm_beside.specs.Laws.{GoesOnward};
 ghost use Rattle.erm_lines_at_once.specs.Operations.{TriedOnce};
 ghost use Rattle.erm_turn_cases.specs.Turns.{IsRunNow, WasRun, WasTried};
@@ -17,7 +17,8 @@ use crate::snapshots::try_watch;
 use erm_beside::{SafeSession, SharedSession, SharedTxn};
 use erm_lines::refusal_of;
 use erm_lines_at_once::{
-    abort, begin, begin_snapshot, decide, del, get, has_snapshot, next, put, scan, seal, tidy,
+    abort, back, begin, begin_snapshot, decide, del, get, has_snapshot, next, put, save, scan, seal,
+    tidy,
 };
 use erm_model::{Receipt, RowRead};
 use erm_report::Answer;
@@ -32,7 +33,7 @@ fn operate_by<'a, S: SharedSession>(
 ) -> Result<Option<Answer>, AllocError>
     requires law { SameLaw S.law sound_law }
     requires active { ⟦<SharedTxn<'a, S> as RowRead>⟧.face.active txn.old }
-    requires ran { (steps : List Step) × IsRunOf (work_at (S.own txn.old.session.now) (S.seat txn.old.session.now)) steps }
+    requires ran { (steps : List Step) × IsRunOf (kept_at (S.own txn.old.session.now) (S.seat txn.old.session.now)) steps }
     requires named { IsSome (table_of command.now) }
     requires table { IfSome (table_of command.now) (λ table. table < TABLES) }
     ensures follows { ⟦<SharedTxn<'a, S> as RowRead>⟧.face.follows txn.old txn.new }
@@ -57,11 +58,11 @@ fn operate_on<'a, S: SharedSession>(
 ) -> Result<Option<Answer>, AllocError>
     requires law { SameLaw S.law sound_law }
     requires active { ⟦<SharedTxn<'a, S> as RowRead>⟧.face.active txn.old }
-    requires ran { (steps : List Step) × IsRunOf (work_at (S.own txn.old.session.now) (S.seat txn.old.session.now)) steps }
+    requires ran { (steps : List Step) × IsRunOf (kept_at (S.own txn.old.session.now) (S.seat txn.old.session.now)) steps }
     requires named { IsSome (table_of command.now) }
     requires table { IfSome (table_of command.now) (λ table. table < TABLES) }
     ensures follows { ⟦<SharedTxn<'a, S> as RowRead>⟧.face.follows txn.old txn.new }
-    ensures ran { OnOk result (IsRunNow ((S.own txn.new.session.now).session (S.seat txn.old.session.now))) }
+    ensures ran { OnOk result (IsRunNow (S.own txn.new.session.now) (S.seat txn.old.session.now)) }
     ensures tried { IfOk result (λ tried. (f : View) → S.ends txn.new.session.now f → TriedOnce f (S.seat txn.old.session.now) command.now tried (S.own txn.old.session.now) (S.own txn.new.session.now)) }
 {
     operate_by(alloc, txn, command)
@@ -77,12 +78,12 @@ fn operate<S: SharedSession>(
     requires law { SameLaw S.law sound_law }
     requires stands { S.stands shared.now session.old }
     requires active { phase_at (S.own session.old) (S.seat session.old) ≡ Active }
-    requires ran { (steps : List Step) × IsRunOf (work_at (S.own session.old) (S.seat session.old)) steps }
+    requires ran { (steps : List Step) × IsRunOf (kept_at (S.own session.old) (S.seat session.old)) steps }
     requires named { IsSome (table_of command.now) }
     requires table { IfSome (table_of command.now) (λ table. table < TABLES) }
     ensures stands { S.stands shared.now session.new }
     ensures onward { GoesOnward (S.seat session.old) (S.seat session.new) (S.ends session.old) (S.ends session.new) }
-    ensures ran { OnOk result (IsRunNow ((S.own session.new).session (S.seat session.old))) }
+    ensures ran { OnOk result (IsRunNow (S.own session.new) (S.seat session.old)) }
     ensures tried { IfOk result (λ tried. (f : View) → S.ends session.new f → TriedOnce f (S.seat session.old) command.now tried (S.own session.old) (S.own session.new)) }
 {
     let mut txn = SharedTxn { shared, session };
@@ -99,7 +100,7 @@ fn settle<S: SharedSession>(
     requires sealed { phase_at (S.own session.old) (S.seat session.old) ≡ Sealed }
     ensures stands { S.stands shared.now session.new }
     ensures onward { GoesOnward (S.seat session.old) (S.seat session.new) (S.ends session.old) (S.ends session.new) }
-    ensures ran { IsRunNow ((S.own session.new).session (S.seat session.old)) }
+    ensures ran { IsRunNow (S.own session.new) (S.seat session.old) }
     ensures tried { (f : View) → WasTried f (S.seat session.old) Command.Settle result (S.own session.old) (S.own session.new) }
 {
     match decide(session, shared, receipt) {
@@ -117,10 +118,10 @@ fn commit<S: SharedSession>(
     requires law { SameLaw S.law sound_law }
     requires stands { S.stands shared.now session.old }
     requires active { phase_at (S.own session.old) (S.seat session.old) ≡ Active }
-    requires ran { (steps : List Step) × IsRunOf (work_at (S.own session.old) (S.seat session.old)) steps }
+    requires ran { (steps : List Step) × IsRunOf (kept_at (S.own session.old) (S.seat session.old)) steps }
     ensures stands { S.stands shared.now session.new }
     ensures onward { GoesOnward (S.seat session.old) (S.seat session.new) (S.ends session.old) (S.ends session.new) }
-    ensures ran { IsRunNow ((S.own session.new).session (S.seat session.old)) }
+    ensures ran { IsRunNow (S.own session.new) (S.seat session.old) }
     ensures tried { (f : View) → WasTried f (S.seat session.old) Command.Commit result (S.own session.old) (S.own session.new) }
 {
     session.seal(shared);
@@ -140,17 +141,19 @@ fn run<S: SafeSession>(
     requires plain { HasNoSnapshot (phase_at (S.own session.old) (S.seat session.old)) }
     requires allowed { refusal_of (phase_at (S.own session.old) (S.seat session.old)) command.now ≡ None }
     requires asks { IsSome (need_of command.now) }
-    requires ran { IsRunNow ((S.own session.old).session (S.seat session.old)) }
+    requires ran { IsRunNow (S.own session.old) (S.seat session.old) }
     requires table { IfSome (table_of command.now) (λ table. table < TABLES) }
     ensures stands { S.stands shared.now session.new }
     ensures onward { GoesOnward (S.seat session.old) (S.seat session.new) (S.ends session.old) (S.ends session.new) }
-    ensures ran { OnOk result (IsRunNow ((S.own session.new).session (S.seat session.old))) }
+    ensures ran { OnOk result (IsRunNow (S.own session.new) (S.seat session.old)) }
     ensures tried { IfOk result (λ tried. (f : View) → S.ends session.new f → WasTried f (S.seat session.old) command.now tried (S.own session.old) (S.own session.new)) }
 {
     erm_maps::begun_transactions_are_runs();
     match command {
         Command::Begin => Ok(Some(begin(session, shared)?)),
         Command::Safe => begin_snapshot(session, shared),
+        Command::Save => Ok(Some(save(session, shared)?)),
+        Command::Back { n } => Ok(Some(back(session, shared, *n))),
         Command::Seal => Ok(Some(seal(session, shared))),
         Command::Settle => Ok(settle(session, shared, receipt)),
         Command::Commit => Ok(commit(session, shared, receipt)),
@@ -174,10 +177,10 @@ pub fn try_line<S: SafeSession>(
     requires seat { S.seat session.old ≡ line.now.session }
     requires asks { IsSome (need_of line.now.command) }
     requires table { IfSome (table_of line.now.command) (λ table. table < TABLES) }
-    requires ran { IsRunNow ((S.own session.old).session (S.seat session.old)) }
+    requires ran { IsRunNow (S.own session.old) (S.seat session.old) }
     ensures stands { S.stands shared.now session.new }
     ensures onward { GoesOnward (S.seat session.old) (S.seat session.new) (S.ends session.old) (S.ends session.new) }
-    ensures ran { OnOk result (IsRunNow ((S.own session.new).session (S.seat session.new))) }
+    ensures ran { OnOk result (IsRunNow (S.own session.new) (S.seat session.new)) }
     ensures did { IfOk result (λ tried. WasRun (S.ends session.new) line.now tried (S.own session.old) (S.own session.new)) }
 {
     let phase = session.phase(shared);

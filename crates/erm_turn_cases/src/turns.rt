@@ -33,12 +33,12 @@ fn turn_beside<W: SafeWorld, O: Others>(
     requires others { OthersStand O.standing (W.view world) line.now.session }
     requires asks { IsSome (need_of line.now.command) }
     requires table { IfSome (table_of line.now.command) (λ table. table < TABLES) }
-    requires ran { IsRunNow ((W.view world).session line.now.session) }
+    requires ran { IsRunNow (W.view world) line.now.session }
     ensures stands { W.stands result.0 }
     ensures others { OthersStand O.standing (W.view result.0) line.now.session }
     ensures later { IsLaterWorld (W.view world) (W.view result.0) }
     ensures moves { MovesOn (W.view world) (W.view result.0) }
-    ensures ran { OnOk result.1 (IsRunNow ((W.view result.0).session line.now.session)) }
+    ensures ran { OnOk result.1 (IsRunNow (W.view result.0) line.now.session) }
     ensures did { IfOk result.1 (λ tried. WasRun (λ f. EndsIn W.law (W.view result.0) line.now.session f) line.now tried (W.view world) (W.view result.0)) }
 {
     let mut session = LoneSession::<W, O> {

@@ -14,5 +14,5 @@ returns-clause-ran g c =
     let standing = c.operate_by.ensures.follows.1 c.requires.active.0 in
     let some = g.met.S.SharedSession.some c.operate_by.new.txn.shared.now after standing in
     on_ok_of c.operate_by.result (λ (tried : Option Answer). (f : View) → g.S.SharedSession.ends after f → TriedOnce f seat c.args.command.now tried before (g.S.SharedSession.own after))
-    (IsRunNow ((g.S.SharedSession.own after).session seat))
+    (IsRunNow (g.S.SharedSession.own after) seat)
     (λ tried was. tried_runs some.0 seat c.args.command.now tried before (g.S.SharedSession.own after) c.requires.active.1 c.requires.ran (was some.0 some.1)) c.operate_by.ensures.tried

@@ -8,7 +8,7 @@ use Rattle.erm_lines.proofs.Watched.{active_in, idle_where, operates, settle_whe
 use Rattle.erm_lines_at_once.specs.Answers.{TriedSnapshot, WasAnsweredBeside}
 use Rattle.erm_lines_at_once.specs.Operations.{TriedOnce}
 use Rattle.erm_turn_cases.specs.Turns.{IsRunNow, WasTried}
-use Rattle.erm_turn_cases.proofs.Kept.{aborted_now, begun_now, on_ok_of, operation_tried, sealed_now}
+use Rattle.erm_turn_cases.proofs.Kept.{aborted_now, back_now, begun_now, on_ok_of, operation_tried, saved_now, sealed_now}
 use Rattle.erm_turn_cases.proofs.Watching.{snapshot_runs_now, snapshot_tried}
 use Rattle.erm_turn_cases.proofs.lines.run.Goals as goal
 
@@ -19,6 +19,18 @@ begin-requires-clause-idle g c = idle_where (phase_at (g.S.SharedSession.own c.a
 pub begin_snapshot-requires-clause-idle : goal.begin_snapshot-requires-clause-idle
 begin_snapshot-requires-clause-idle g c =
     start_where (phase_at (g.S.SharedSession.own c.args.session.now) (g.S.SharedSession.seat c.args.session.now)) c.args.command.now c.requires.allowed c.in-Safe.is c.requires.plain
+
+pub save-requires-clause-active : goal.save-requires-clause-active
+save-requires-clause-active g c =
+    active_in (phase_at (g.S.SharedSession.own c.args.session.now) (g.S.SharedSession.seat c.args.session.now)) c.args.command.now NeedsWriter (ap need_of c.in-Save.is) tt c.requires.plain c.requires.allowed
+
+pub back-requires-clause-active : goal.back-requires-clause-active
+back-requires-clause-active g c =
+    active_in (phase_at (g.S.SharedSession.own c.args.session.now) (g.S.SharedSession.seat c.args.session.now)) c.args.command.now NeedsWriter (ap need_of c.in-Back.is) tt c.requires.plain c.requires.allowed
+
+pub back-requires-clause-ran : goal.back-requires-clause-ran
+back-requires-clause-ran g c =
+    c.requires.ran (active_in (phase_at (g.S.SharedSession.own c.args.session.now) (g.S.SharedSession.seat c.args.session.now)) c.args.command.now NeedsWriter (ap need_of c.in-Back.is) tt c.requires.plain c.requires.allowed)
 
 pub seal-requires-clause-active : goal.seal-requires-clause-active
 seal-requires-clause-active g c =
@@ -46,7 +58,7 @@ abort-requires-clause-active g c =
 pub operate-requires : goal.operate-requires
 operate-requires g c =
     let phase = phase_at (g.S.SharedSession.own c.args.session.now) (g.S.SharedSession.seat c.args.session.now) in
-    let it = operates c.args.command.now c.requires.asks c.in_default.not-Begin c.in_default.not-Safe c.in_default.not-Seal c.in_default.not-Settle c.in_default.not-Commit c.in_default.not-Abort in
+    let it = operates c.args.command.now c.requires.asks c.in_default.not-Begin c.in_default.not-Safe c.in_default.not-Save c.in_default.not-Back c.in_default.not-Seal c.in_default.not-Settle c.in_default.not-Commit c.in_default.not-Abort in
     let active = active_in phase c.args.command.now it.need it.needs it.of c.requires.plain c.requires.allowed in
     record { law = c.requires.law; stands = c.requires.stands; active = active; ran = c.requires.ran active; named = it.named; table = c.requires.table }
 
@@ -58,7 +70,7 @@ returns-in-Safe-clause-ran g c =
     let after = c.begin_snapshot.new.session in
     let some = g.met.S.SharedSession.some c.args.shared.now after c.begin_snapshot.ensures.stands in
     on_ok_of c.begin_snapshot.result (λ (tried : Option Answer). (f : View) → g.S.SharedSession.ends after f → TriedSnapshot f seat tried v (g.S.SharedSession.own after))
-    (IsRunNow ((g.S.SharedSession.own after).session seat))
+    (IsRunNow (g.S.SharedSession.own after) seat)
     (λ tried was. snapshot_runs_now some.0 seat tried v (g.S.SharedSession.own after) c.requires.ran (was some.0 some.1)) c.begin_snapshot.ensures.tried
 
 pub returns-in-Safe-clause-tried : goal.returns-in-Safe-clause-tried
@@ -76,11 +88,34 @@ returns-in-Safe-clause-tried g c =
 pub returns-in_ok-begin-in-Begin-clause-ran : goal.returns-in_ok-begin-in-Begin-clause-ran
 returns-in_ok-begin-in-Begin-clause-ran g c =
     let before = g.S.SharedSession.own c.args.session.now in
-    begun_now c.begun_transactions_are_runs.ensures before (g.S.SharedSession.seat c.args.session.now) before (g.S.SharedSession.own c.begin.new.session) _ c.requires.ran (c.in_ok-begin-in-Begin.ensures.answered before).did
+    let seat = g.S.SharedSession.seat c.args.session.now in
+    begun_now c.begun_transactions_are_runs.ensures before seat before (g.S.SharedSession.own c.begin.new.session) _ (idle_where (phase_at before seat) c.args.command.now c.requires.allowed c.in-Begin.is) c.requires.ran (c.in_ok-begin-in-Begin.ensures.answered before).did
 
 pub returns-in_ok-begin-in-Begin-clause-tried : goal.returns-in_ok-begin-in-Begin-clause-tried
 returns-in_ok-begin-in-Begin-clause-tried g c = λ f end.
     subst (λ (x : Command). WasAnsweredBeside f (g.S.SharedSession.seat c.args.session.now) x c.in_ok-begin-in-Begin.field-0 (g.S.SharedSession.own c.args.session.now) (g.S.SharedSession.own c.begin.new.session)) (sym c.in-Begin.is) (c.in_ok-begin-in-Begin.ensures.answered f)
+
+pub returns-in_ok-save-in-Save-clause-ran : goal.returns-in_ok-save-in-Save-clause-ran
+returns-in_ok-save-in-Save-clause-ran g c =
+    let seat = g.S.SharedSession.seat c.args.session.now in
+    let before = g.S.SharedSession.own c.args.session.now in
+    saved_now before seat before (g.S.SharedSession.own c.save.new.session) c.in_ok-save-in-Save.field-0
+    (c.requires.ran (active_in (phase_at before seat) c.args.command.now NeedsWriter (ap need_of c.in-Save.is) tt c.requires.plain c.requires.allowed)) (c.in_ok-save-in-Save.ensures.answered before).did
+
+pub returns-in_ok-save-in-Save-clause-tried : goal.returns-in_ok-save-in-Save-clause-tried
+returns-in_ok-save-in-Save-clause-tried g c = λ f end.
+    subst (λ (x : Command). WasAnsweredBeside f (g.S.SharedSession.seat c.args.session.now) x c.in_ok-save-in-Save.field-0 (g.S.SharedSession.own c.args.session.now) (g.S.SharedSession.own c.save.new.session)) (sym c.in-Save.is) (c.in_ok-save-in-Save.ensures.answered f)
+
+pub returns-in-Back-clause-ran : goal.returns-in-Back-clause-ran
+returns-in-Back-clause-ran g c =
+    let seat = g.S.SharedSession.seat c.args.session.now in
+    let before = g.S.SharedSession.own c.args.session.now in
+    back_now before seat c.in-Back.n before (g.S.SharedSession.own c.back.new.session) c.back.result
+    (c.requires.ran (active_in (phase_at before seat) c.args.command.now NeedsWriter (ap need_of c.in-Back.is) tt c.requires.plain c.requires.allowed)) (c.back.ensures.answered before).did
+
+pub returns-in-Back-clause-tried : goal.returns-in-Back-clause-tried
+returns-in-Back-clause-tried g c = λ f end.
+    subst (λ (x : Command). WasAnsweredBeside f (g.S.SharedSession.seat c.args.session.now) x c.back.result (g.S.SharedSession.own c.args.session.now) (g.S.SharedSession.own c.back.new.session)) (sym c.in-Back.is) (c.back.ensures.answered f)
 
 pub returns-in-Seal-clause-ran : goal.returns-in-Seal-clause-ran
 returns-in-Seal-clause-ran g c =
@@ -112,5 +147,5 @@ returns-in_default g c =
       tried = IfOk-weaker c.operate.result (λ (tried : Option Answer). (f : View) → g.S.SharedSession.ends after f → TriedOnce f seat c.args.command.now tried before (g.S.SharedSession.own after))
           (λ (tried : Option Answer). (f : View) → g.S.SharedSession.ends after f → WasTried f seat c.args.command.now tried before (g.S.SharedSession.own after))
           (λ tried was f end. operation_tried f seat c.args.command.now tried before (g.S.SharedSession.own after) c.requires.asks
-          c.in_default.not-Begin c.in_default.not-Safe c.in_default.not-Seal c.in_default.not-Settle c.in_default.not-Commit c.in_default.not-Abort (was f end)) c.operate.ensures.tried;
+          c.in_default.not-Begin c.in_default.not-Safe c.in_default.not-Save c.in_default.not-Back c.in_default.not-Seal c.in_default.not-Settle c.in_default.not-Commit c.in_default.not-Abort (was f end)) c.operate.ensures.tried;
     }

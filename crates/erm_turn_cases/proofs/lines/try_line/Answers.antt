@@ -32,8 +32,8 @@ returns-then-has_snapshot-clause-ran g c =
     let t = g.S.SharedSession.own after in
     let some = g.met.S.SharedSession.some c.args.shared.now after c.try_watch.ensures.stands in
     on_ok_of c.try_watch.result (λ (tried : Option Answer). (f : View) → g.S.SharedSession.ends after f → WasWatched f seat c.args.line.now.command tried v t)
-    (IsRunNow (t.session (g.S.SharedSession.seat after)))
-    (λ tried was. subst (λ (n : ℕ). IsRunNow (t.session n)) (sym c.try_watch.ensures.onward.seat_is) (watched_now some.0 seat c.args.line.now.command tried v t c.requires.ran (was some.0 some.1)))
+    (IsRunNow t (g.S.SharedSession.seat after))
+    (λ tried was. subst (λ (n : ℕ). IsRunNow t n) (sym c.try_watch.ensures.onward.seat_is) (watched_now some.0 seat c.args.line.now.command tried v t c.requires.ran (was some.0 some.1)))
     c.try_watch.ensures.watched
 
 pub returns-then-has_snapshot-clause-did : goal.returns-then-has_snapshot-clause-did

@@ -11,7 +11,7 @@ returns-clause-opening g c = c.turn_beside.ensures.later.opening
 
 pub returns-clause-runs : goal.returns-clause-runs
 returns-clause-runs g c =
-    on_ok_weaker c.turn_beside.result.1 (λ ran. all_runs (g.W.RowWorld.view c.args.world) (g.W.RowWorld.view c.turn_beside.result.0) c.args.line.now.session c.turn_beside.ensures.later.opening (λ q another. (c.turn_beside.ensures.others q another).0)
+    on_ok_weaker c.turn_beside.result.1 (λ ran. all_runs (g.W.RowWorld.view c.args.world) (g.W.RowWorld.view c.turn_beside.result.0) c.args.line.now.session c.turn_beside.ensures.later.opening c.turn_beside.ensures.others
     c.requires.runs ran) c.turn_beside.ensures.ran
 
 pub returns-clause-did : goal.returns-clause-did
