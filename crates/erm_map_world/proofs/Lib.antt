@@ -4,5 +4,6 @@ mod MapClauses
 mod MapLaws
 mod MapPast
 mod MapRows
+mod MapSaves
 mod Preds
 mod Versions

@@ -1,5 +1,5 @@
 -- A world of one session whose transactions commit one after another: what its calls make of it.
-use Rattle.std.proofs.Common.{◌≡◌, ◌≢◌, ℕ, zero, suc, ◌+◌, ◌<◌, ◌≤◌, ◌⊎◌, Bool, true, false, cond, ◌==◌, List, [], ◌∷◌, ◌++◌, map, length, sum_by, Option, Some, None, option_map, inl, inr, refl, sym, ap, ◌∙◌, subst, arith, append-nil, length-append}
+use Rattle.std.proofs.Common.{◌≡◌, ◌≢◌, ℕ, zero, suc, ◌+◌, ◌<◌, ◌≤◌, ◌⊎◌, Bool, true, false, cond, ◌==◌, List, [], ◌∷◌, ◌++◌, map, length, sum_by, take, Option, Some, None, option_map, inl, inr, refl, sym, ap, ◌∙◌, subst, arith, append-nil, length-append}
 use Rattle.std.specs.List.{slice_get}
 use Rattle.std.proofs.lemmas.Bool.Decides.{eqb_tells}
 use Rattle.std.proofs.lemmas.Grind.{flat_map-append}
@@ -7,6 +7,8 @@ use Rattle.std.proofs.lemmas.List.Sums.{sum_by_push}
 use Rattle.std.proofs.lemmas.Option.{slice_get-map}
 use Rattle.erm_model.specs.declared.history.VersionRead.{VersionRead}
 use Rattle.erm_model.specs.declared.history.VersionWritten.{VersionWritten}
+use Rattle.erm_model.specs.declared.limits.TheConstants.{SAVES}
+use Rattle.erm_model.specs.Member.{◌∈◌}
 use Rattle.erm_model.specs.History.{History, IsNewestBelow, IsPredecessorStamp}
 use Rattle.erm_model.specs.Lawful.{times_made}
 use Rattle.erm_model.specs.RowTransaction.{Law, did_make, made_by}
@@ -14,12 +16,16 @@ use Rattle.erm_model.specs.Rows.{Rows}
 use Rattle.erm_model.proofs.Members.{∈-push, slice_get-push}
 use Rattle.erm_map_world.specs.MapWorks.{commit_with, finished, newest, rows_now}
 use Rattle.erm_map_world.specs.MapWorld.{AreOver, IsMapWorld, Map, Saw, made_of}
+use Rattle.erm_map_world.proofs.MapSaves.{FitSaves-back, FitSaves-more, FitSaves-none, FitSaves-push, resaved, claiming_more, making_more, reading_more, setting_more}
 use Rattle.erm_map_world.proofs.MapPast.{over_aborted, over_committed}
 use Rattle.erm_map_world.proofs.Versions.{is_among, never_both, oid_kept}
+use Rattle.erm_world.specs.Going.{Extends}
 use Rattle.erm_world.specs.Laws.{IsLawfulWork}
+use Rattle.erm_world.specs.Saves.{HasClaimed, restored, with_claims}
 use Rattle.erm_world.specs.Works.{claiming, is_claimed, making, reading, setting, with_row}
 use Rattle.erm_world.specs.World.{Finished, Work, begun, commit_of, committed_in, size_of}
 use Rattle.erm_world.specs.World as world
+use Rattle.erm_world.proofs.Restored.{OnceOf-restored, extends_restored, from_restored, kept_restored}
 use Rattle.erm_world.proofs.Works.{times_made-push}
 
 -- CLAIMS. One more, of an object that isn't claimed.
@@ -149,6 +155,26 @@ module _ (law : Law) (rows : Rows) (over : List Finished) (bound number : ℕ) (
     };
   }
 
+  saw_back : (w : Work) (saved : List VersionWritten) → HasClaimed saved w.claims → ((s : VersionWritten) → s ∈ saved → s.is_set ≡ false → s.row ≡ s.base)
+      → Saw law rows h (rows_now rows over) number w → Saw law rows h (rows_now rows over) number (with_claims (restored saved w.claims) w)
+  saw_back w saved has kept is = record {
+    number_is = is.number_is;
+    reads = is.reads;
+    claims = λ r within.
+        let from = from_restored saved w.claims has within.0 r within.1 in
+        subst (λ (f : ℕ × ℕ × List ℕ). IsNewestBelow h rows f.0 w.begin f.1 f.2) (sym from.2) (is.claims from.0 (within.0, from.1));
+    kept = λ r within. kept_restored saved w.claims has kept within.0 r within.1;
+    once = OnceOf-restored saved w.claims has is.once;
+    fits = record {
+      meets = is.fits.meets;
+      reads = is.fits.reads;
+      claims = λ r within.
+          let from = from_restored saved w.claims has within.0 r within.1 in
+          subst (λ (f : ℕ × ℕ × List ℕ). rows_now rows over f.0 ≡ f.2) (sym from.2) (is.fits.claims from.0 (within.0, from.1));
+      unreached = is.fits.unreached;
+    };
+  }
+
   saw_making : (w : Work) (next : ℕ) → law.reach (rows_now rows over) next ≡ 0 → Saw law rows h (rows_now rows over) number w → Saw law rows h (rows_now rows over) number (making next w)
   saw_making w next unreached is = record {
     number_is = is.number_is;
@@ -174,7 +200,7 @@ committed_push over f =
 
 -- THE WORLD between two calls
 module _ (law : Law) (m : Map) where
-  pub map_begun : IsMapWorld law (record m { stand = world.idle }) → IsMapWorld law (record m { stand = world.active (begun (m.begun + 1) m.tail); begun = m.begun + 1 })
+  pub map_begun : IsMapWorld law (record m { stand = world.idle }) → IsMapWorld law (record m { stand = world.active (begun (m.begun + 1) m.tail); begun = m.begun + 1; saves = [] })
   map_begun is = record {
     positive = is.positive;
     meets = is.meets;
@@ -197,6 +223,7 @@ module _ (law : Law) (m : Map) where
         };
       },
     );
+    saves = FitSaves-none (begun (m.begun + 1) m.tail);
     made_once = is.made_once;
     made_new = is.made_new;
     made_all = is.made_all;
@@ -204,15 +231,16 @@ module _ (law : Law) (m : Map) where
   }
 
   -- where nothing was made
-  goes : (w u : Work) → u.made ≡ w.made → u.begin ≡ w.begin → Saw law m.rows (committed_in 1 m.over) (rows_now m.rows m.over) m.begun u
+  goes : (w u : Work) → u.made ≡ w.made → Extends w u → Saw law m.rows (committed_in 1 m.over) (rows_now m.rows m.over) m.begun u
       → IsMapWorld law (record m { stand = world.active w }) → IsMapWorld law (record m { stand = world.active u })
-  goes w u same begin saw is =
+  goes w u same more saw is =
       let made = λ (x : ℕ). ap (λ (list : List ℕ). sum_by (λ (f : Finished). times_made f.work.made x) m.over + times_made list x) same in record {
         positive = is.positive;
         meets = is.meets;
         reach = is.reach;
         past = is.past;
-        now_is = (is.now_is.0, begin ∙ is.now_is.1, saw);
+        now_is = (is.now_is.0, more.begin ∙ is.now_is.1, saw);
+        saves = FitSaves-more w u m.saves more is.saves;
         made_once = λ x. omega (arith, made x, is.made_once x);
         made_new = λ x some. is.made_new x (omega (arith, made x, some));
         made_all = λ x above below. omega (arith, made x, is.made_all x above below);
@@ -221,7 +249,7 @@ module _ (law : Law) (m : Map) where
 
   pub map_read : (w : Work) (oid : ℕ) → IsMapWorld law (record m { stand = world.active w }) → IsMapWorld law (record m { stand = world.active (reading (newest m.rows m.over oid) w) })
   map_read w oid is =
-      goes w (reading (newest m.rows m.over oid) w) refl refl
+      goes w (reading (newest m.rows m.over oid) w) refl (reading_more (newest m.rows m.over oid) w)
       (saw_reading law m.rows m.over m.tail m.begun (committed_in 1 m.over) is.past.newest_is w oid is.now_is.1 is.now_is.2) is
 
   abbrev pub claim_at : ℕ → VersionWritten
@@ -230,13 +258,25 @@ module _ (law : Law) (m : Map) where
   pub map_claimed : (w : Work) (oid : ℕ) → is_claimed w.claims oid ≡ false → IsMapWorld law (record m { stand = world.active w })
       → IsMapWorld law (record m { stand = world.active (claiming (claim_at oid) w) })
   map_claimed w oid none is =
-      goes w (claiming (claim_at oid) w) refl refl
+      goes w (claiming (claim_at oid) w) refl (claiming_more (claim_at oid) w)
       (saw_claiming law m.rows m.over m.tail m.begun (committed_in 1 m.over) is.past.newest_is w oid is.now_is.1 none is.now_is.2) is
 
   pub map_set : (w : Work) (oid : ℕ) (row : List ℕ) → IsMapWorld law (record m { stand = world.active w }) → IsMapWorld law (record m { stand = world.active (setting oid row w) })
   map_set w oid row is =
-      goes w (setting oid row w) refl refl
+      goes w (setting oid row w) refl (setting_more oid row w)
       (saw_setting law m.rows m.over m.tail m.begun (committed_in 1 m.over) is.past.newest_is w oid row is.now_is.2) is
+
+  pub map_saved : (w : Work) → length m.saves < SAVES → IsMapWorld law (record m { stand = world.active w }) → IsMapWorld law (record m { stand = world.active w; saves = m.saves ++ w.claims ∷ [] })
+  map_saved w room is =
+      resaved law (record m { stand = world.active w }) (m.saves ++ w.claims ∷ []) (FitSaves-push w m.saves room is.now_is.2.kept is.saves) is
+
+  pub map_back : (n : ℕ) (w : Work) (k : ℕ) (saved : List VersionWritten) → slice_get m.saves k ≡ Some saved → IsMapWorld law (record m { stand = world.active w })
+      → IsMapWorld law (record m { stand = world.active (with_claims (restored saved w.claims) w); saves = take n m.saves })
+  map_back n w k saved at is =
+      let u : Work = with_claims (restored saved w.claims) w in
+      let has : HasClaimed saved w.claims = is.saves.0 k saved at in
+      let went = goes w u refl (extends_restored w saved has) (saw_back law m.rows m.over m.tail m.begun (committed_in 1 m.over) is.past.newest_is w saved has (is.saves.2 k saved at) is.now_is.2) is in
+      resaved law (record m { stand = world.active u }) (take n m.saves) (FitSaves-back n w m.saves k saved at is.saves) went
 
   -- an object that nobody has made isn't reached
   next_unreached : (w : Work) → IsMapWorld law (record m { stand = world.active w }) → law.reach (rows_now m.rows m.over) m.next ≡ 0
@@ -256,6 +296,7 @@ module _ (law : Law) (m : Map) where
       is.now_is.1,
       saw_making law m.rows m.over m.tail m.begun (committed_in 1 m.over) is.past.newest_is w m.next (next_unreached w is) is.now_is.2,
     );
+    saves = FitSaves-more w (making m.next w) m.saves (making_more m.next w) is.saves;
     made_once = λ x. elim (made_at m.next x) as (λ _. made_of m.over (world.active (making m.next w)) x ≤ 1) [
       | inl here ↦ elim (zero_or_more (made_of m.over (world.active w) x)) as (λ _. made_of m.over (world.active (making m.next w)) x ≤ 1) [
         | inl none ↦ omega (arith, times_made-push w.made m.next x, here.1, none)
@@ -282,6 +323,7 @@ module _ (law : Law) (m : Map) where
     reach = is.reach;
     past = subst (λ (b : ℕ). AreOver law m.rows m.start b (committed_in 1 m.over) m.over) (sym is.now_is.1) is.past;
     now_is = (is.now_is.0, refl, omega (arith, end_is, is.now_is.1), lawful, is.now_is.2);
+    saves = tt;
     made_once = is.made_once;
     made_new = is.made_new;
     made_all = is.made_all;
@@ -300,6 +342,7 @@ module _ (law : Law) (m : Map) where
         past = subst (λ (h : History). AreOver law m.rows m.start m.tail h (m.over ++ finished w (Some pred) ∷ [])) (sym (committed_push m.over (finished w (Some pred))))
             (over_committed law m.rows m.start w.begin m.tail (committed_in 1 m.over) m.over w pred is.positive refl (omega (arith, is.now_is.2)) is.now_is.3 saw pred_is is.past);
         now_is = omega (arith, is.now_is.0, count);
+        saves = tt;
         made_once = λ x. omega (arith, made x, is.made_once x);
         made_new = λ x some. is.made_new x (omega (arith, made x, some));
         made_all = λ x above below. omega (arith, made x, is.made_all x above below);
@@ -317,6 +360,7 @@ module _ (law : Law) (m : Map) where
         past = subst (λ (h : History). AreOver law m.rows m.start m.tail h (m.over ++ finished w None ∷ [])) (sym (committed_push m.over (finished w None) ∙ append-nil (committed_in 1 m.over)))
             (over_aborted law m.rows m.start m.tail (committed_in 1 m.over) m.over w (rows_now m.rows m.over) saw (omega (arith, is.past.above, is.now_is.1)) (omega (arith, is.now_is.1)) is.past);
         now_is = omega (arith, is.now_is.0, count);
+        saves = tt;
         made_once = λ x. omega (arith, made x, is.made_once x);
         made_new = λ x some. is.made_new x (omega (arith, made x, some));
         made_all = λ x above below. omega (arith, made x, is.made_all x above below);

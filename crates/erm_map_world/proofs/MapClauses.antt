@@ -1,9 +1,10 @@
 -- A world of one session whose transactions commit one after another: its calls, as the contract says them.
-use Rattle.std.proofs.Common.{◌≡◌, ◌≢◌, ℕ, ◌+◌, ◌<◌, ◌≤◌, Bool, true, false, cond, ◌==◌, List, [], ◌∷◌, ◌++◌, length, Option, Some, None, ◌⊎◌, inl, inr, refl, sym, ap, ◌∙◌, subst, arith}
+use Rattle.std.proofs.Common.{◌≡◌, ◌≢◌, ℕ, suc, ◌+◌, ◌<◌, ◌≤◌, Bool, true, false, cond, ◌==◌, List, [], ◌∷◌, ◌++◌, length, take, Option, Some, None, ◌⊎◌, inl, inr, refl, sym, ap, ◌∙◌, subst, arith}
+use Rattle.std.specs.List.{slice_get}
 use Rattle.std.proofs.lemmas.Bool.Decides.{eqb_tells}
 use Rattle.erm_model.specs.declared.history.VersionRead.{VersionRead}
 use Rattle.erm_model.specs.declared.history.VersionWritten.{VersionWritten}
-use Rattle.erm_model.specs.declared.limits.TheConstants.{READ_LIMIT, WRITE_LIMIT}
+use Rattle.erm_model.specs.declared.limits.TheConstants.{READ_LIMIT, SAVES, WRITE_LIMIT}
 use Rattle.erm_model.specs.declared.outcome.Phase.{Phase}
 use Rattle.erm_model.specs.declared.outcome.Phase.TheVariants.{Active, Idle, Sealed, Pending, Safe}
 use Rattle.erm_model.specs.declared.outcome.Outcome.TheVariants.{Committed}
@@ -15,16 +16,20 @@ use Rattle.erm_model.proofs.Members.{none_in_nil}
 use Rattle.erm_world.proofs.Lists.{∈-last}
 use Rattle.erm_map_world.specs.MapWorks.{commit_with, finished, found_row, newest}
 use Rattle.erm_map_world.specs.MapWorld.{IsMapWorld, IsWorld, Map, map_view, stand_of}
-use Rattle.erm_map_world.proofs.MapCalls.{committed_push, map_aborted, map_begun, map_claimed, map_committed, map_made, map_read, map_sealed, map_set}
+use Rattle.erm_map_world.proofs.MapCalls.{committed_push, map_aborted, map_back, map_begun, map_claimed, map_committed, map_made, map_read, map_saved, map_sealed, map_set}
 use Rattle.erm_map_world.proofs.MapLaws.{history_is, map_safe, the_first, world_is}
+use Rattle.erm_map_world.proofs.MapSaves.{FitSaves-none, resaved}
 use Rattle.erm_map_world.proofs.Versions.{found_none, oid_kept}
 use Rattle.erm_world.specs.Calls.{AreReady, Becomes, DidAbort, DidBegin, DidClaim, DidRead, DidSettle, DidWrite, HasNoNewer, IsDone, IsUnowned, Works}
 use Rattle.erm_world.specs.Calls as calls
 use Rattle.erm_world.specs.Laws.{IsLawfulWork}
 use Rattle.erm_world.specs.Safe.{DidBeginSafe, DidSafe, DidSafeRead, HasSnapshot, with_snapshot}
+use Rattle.erm_world.specs.Saves.{DidSave, HasNoSave, WentBack, holding, restored, with_claims}
 use Rattle.erm_world.specs.Snapshots.{snapshot_not_active}
 use Rattle.erm_world.specs.Works.{claiming, making, reading, row_read, setting}
-use Rattle.erm_world.specs.World.{Finished, IsSession, Session, Snapshot, Stand, View, Work, begun, history_of, history_upto, phase_at, phase_of, size_of, work_at, work_of}
+use Rattle.erm_world.proofs.Saves.{becomes_then, same_by, works_nowhere, works_then}
+use Rattle.erm_world.proofs.WithSaves.{holds_with}
+use Rattle.erm_world.specs.World.{Finished, IsSession, Session, Snapshot, Stand, View, Work, begun, history_of, phase_at, phase_of, size_of, work_at, work_of}
 use Rattle.erm_world.specs.World as world
 
 -- PHASE. It is that of the one session.
@@ -39,9 +44,9 @@ phase_of_stand Safe w = refl
 not_first : (q : ℕ) → q ≢ 1 → (q == 1) ≡ false
 not_first q another = elim (eqb_tells q 1) as (λ _. (q == 1) ≡ false) [ inl here ↦ absurd (another here.1) | inr there ↦ there.0 ]
 
-becomes : (m : Map) (then_over : List Finished) (stand : Stand) (s : Session) → record { over = then_over; stand = stand } ≡ s
+becomes : (m : Map) (then_over : List Finished) (stand : Stand) (s : Session) → (phase_of s.stand ≡ Active → phase_of m.stand ≡ Active) → record { over = then_over; stand = stand } ≡ s
     → Becomes (map_view m) 1 s (map_view (record m { over = then_over; stand = stand }))
-becomes m then_over stand s is = record {
+becomes m then_over stand s so is = record {
   own = is;
   others = λ q another.
       ap (λ (test : Bool). cond test (record { over = then_over; stand = stand }) (record { over = []; stand = world.idle })) (not_first q another)
@@ -51,10 +56,11 @@ becomes m then_over stand s is = record {
   flushed = refl;
   pinned = refl;
   given_up = refl;
+  saves = record { own = same_by s.stand m.stand m.saves so; others = λ q another. refl };
 }
 
 works : (m : Map) (w u : Work) → Works (map_view (record m { stand = world.active w })) 1 u (map_view (record m { stand = world.active u }))
-works m w u = becomes (record m { stand = world.active w }) m.over (world.active u) (record { over = m.over; stand = world.active u }) refl
+works m w u = becomes (record m { stand = world.active w }) m.over (world.active u) (record { over = m.over; stand = world.active u }) (λ active. refl) refl
 
 -- NOBODY ELSE. Another seat has no session, and has committed nothing.
 unowned : (m : Map) (oid : ℕ) → IsUnowned (map_view m) 1 oid
@@ -154,6 +160,67 @@ module _ (law : Law) (m : Map) (p : Phase) (w : Work) (seat : ℕ) (session : Is
   make_stands u active is standing =
       after u (m.next + 1) active (subst (λ (x : Work). IsMapWorld law (record m { stand = world.active x; next = m.next + 1 })) (sym is) (map_made law m w (within Active active standing)))
 
+  -- SAVE, BACK
+  again : (u : Work) (saves : List (List VersionWritten)) → phase_at before seat ≡ Active → IsMapWorld law (record m { stand = world.active u; saves = saves })
+      → IsWorld law (record m { stand = stand_of p u; saves = saves })
+  again u saves active is =
+      subst (λ (x : Phase). IsWorld law (record m { stand = stand_of x u; saves = saves })) (sym (phase_is Active active)) (world_is law (record m { stand = world.active u; saves = saves }) is)
+
+  pub save_stands : (saves : List (List VersionWritten)) → phase_at before seat ≡ Active → length m.saves < SAVES → saves ≡ m.saves ++ w.claims ∷ []
+      → IsWorld law (record m { stand = stand_of p w }) → IsWorld law (record m { stand = stand_of p w; saves = saves })
+  save_stands saves active room is standing =
+      again w saves active
+      (subst (λ (held : List (List VersionWritten)). IsMapWorld law (record m { stand = world.active w; saves = held })) (sym is) (map_saved law m w room (within Active active standing)))
+
+  -- the savepoints are the one session's
+  held_is : (saves : List (List VersionWritten)) (x : Phase) (u : Work) → map_view (record m { stand = stand_of x u; saves = saves }) ≡ holding seat saves (map_view (record m { stand = stand_of x u }))
+  held_is saves x u =
+      subst (λ (q : ℕ). map_view (record m { stand = stand_of x u; saves = saves }) ≡ holding q saves (map_view (record m { stand = stand_of x u }))) (sym one)
+      (holds_with (map_view (record m { stand = stand_of x u })).saves (map_view (record m { stand = stand_of x u; saves = saves })).saves (map_view (record m { stand = stand_of x u })) 1 saves refl
+      (λ q another. ap (λ (test : Bool). cond test saves []) (not_first q another) ∙ sym (ap (λ (test : Bool). cond test m.saves []) (not_first q another))))
+
+  saves_are : before.saves seat ≡ m.saves
+  saves_are = subst (λ (q : ℕ). before.saves q ≡ m.saves) (sym one) refl
+
+  pub save_done : (held : ℕ) (saves : List (List VersionWritten)) → phase_at before seat ≡ Active → length m.saves < SAVES → held ≡ length m.saves + 1 → saves ≡ m.saves ++ w.claims ∷ []
+      → DidSave before seat held (map_view (record m { stand = stand_of p w; saves = saves }))
+  save_done held saves active room held_so is =
+      let all : saves ≡ before.saves seat ++ (work_at before seat).claims ∷ [] =
+      is ∙ ap (λ (old : List (List VersionWritten)). old ++ w.claims ∷ []) (sym saves_are) ∙ ap (λ (u : Work). before.saves seat ++ u.claims ∷ []) (sym (work_is active))
+      in
+      let count = ap length saves_are in record {
+        room = omega (arith, count, room);
+        held_is = omega (arith, count, held_so);
+        saved = held_is saves p w ∙ ap (λ (held_then : List (List VersionWritten)). holding seat held_then before) all;
+      }
+
+  pub save_full : phase_at before seat ≡ Active → length m.saves ≡ SAVES → length (before.saves seat) ≡ SAVES
+  save_full active full = ap length saves_are ∙ full
+
+  pub back_stands : (n : ℕ) (u : Work) (saves : List (List VersionWritten)) (k : ℕ) (saved : List VersionWritten) → phase_at before seat ≡ Active → slice_get m.saves k ≡ Some saved
+      → u ≡ with_claims (restored saved w.claims) w → saves ≡ take n m.saves → IsWorld law (record m { stand = stand_of p w }) → IsWorld law (record m { stand = stand_of p u; saves = saves })
+  back_stands n u saves k saved active at is cut standing =
+      again u saves active
+      (subst (λ (held : List (List VersionWritten)). IsMapWorld law (record m { stand = world.active u; saves = held })) (sym cut)
+      (subst (λ (x : Work). IsMapWorld law (record m { stand = world.active x; saves = take n m.saves })) (sym is) (map_back law m n w k saved at (within Active active standing))))
+
+  pub back_done : (n : ℕ) (u : Work) (saves : List (List VersionWritten)) (k : ℕ) (saved : List VersionWritten) → phase_at before seat ≡ Active → n ≡ suc k → slice_get m.saves k ≡ Some saved
+      → u ≡ with_claims (restored saved w.claims) w → saves ≡ take n m.saves → WentBack before seat n (map_view (record m { stand = stand_of p u; saves = saves }))
+  back_done n u saves k saved active number at is cut =
+      let back : Work → Work = λ x. with_claims (restored saved x.claims) x in
+      let shown : u ≡ back (work_at before seat) = is ∙ ap back (sym (work_is active)) in record {
+        place = k;
+        saved = saved;
+        number = number;
+        was_saved = ap (λ (held : List (List VersionWritten)). slice_get held k) saves_are ∙ at;
+        between = map_view (record m { stand = stand_of p u });
+        claims = subst (λ (x : Work). Works before seat x (map_view (record m { stand = stand_of p u }))) shown (works_now u active);
+        saves = held_is saves p u ∙ ap (λ (held : List (List VersionWritten)). holding seat held (map_view (record m { stand = stand_of p u }))) (cut ∙ ap (take n) (sym saves_are));
+      }
+
+  pub none_held : (n held : ℕ) → held ≡ length m.saves → ((n ≡ 0) ⊎ (held < n)) → HasNoSave before seat n held before
+  none_held n held is none = (refl, is ∙ sym (ap length saves_are), none)
+
   -- SEAL
   pub seal_stands : (end : ℕ) → phase_at before seat ≡ Active → end ≡ m.tail + size_of w → IsLawfulWork law (work_at before seat)
       → IsWorld law (record m { stand = stand_of p w }) → IsWorld law (record m { stand = world.sealed w w.begin; tail = end })
@@ -179,16 +246,17 @@ module _ (law : Law) (m : Map) (p : Phase) (w : Work) (seat : ℕ) (session : Is
       → IsDone before seat w (finished w pred).fate (map_view (record m { stand = world.idle; over = then_over }))
   done_with then_over pred q at working is =
       while q at (λ (s : ℕ) (x : Phase). IsDone (map_view (record m { stand = stand_of x w })) s w (finished w pred).fate (map_view (record m { stand = world.idle; over = then_over })))
-      (becomes (record m { stand = stand_of q w }) then_over world.idle (record { over = m.over ++ finished w pred ∷ []; stand = world.idle })
+      (becomes (record m { stand = stand_of q w }) then_over world.idle (record { over = m.over ++ finished w pred ∷ []; stand = world.idle }) (λ active. absurd (cc active))
       (ap (λ (list : List Finished). record { over = list; stand = world.idle }) is))
 
   -- BEGIN
-  pub begin_stands : (then_over : List Finished) (u : Work) → phase_at before seat ≡ Idle → then_over ≡ m.over → u ≡ begun (m.begun + 1) m.tail
-      → IsWorld law (record m { stand = stand_of p w }) → IsWorld law (record m { stand = world.active u; begun = m.begun + 1; over = then_over })
-  begin_stands then_over u idle same is standing =
-      world_is law (record m { stand = world.active u; begun = m.begun + 1; over = then_over })
-      (subst (λ (list : List Finished). IsMapWorld law (record m { stand = world.active u; begun = m.begun + 1; over = list })) (sym same)
-      (subst (λ (x : Work). IsMapWorld law (record m { stand = world.active x; begun = m.begun + 1 })) (sym is) (map_begun law m (within Idle idle standing))))
+  pub begin_stands : (then_over : List Finished) (u : Work) (saves : List (List VersionWritten)) → phase_at before seat ≡ Idle → then_over ≡ m.over → u ≡ begun (m.begun + 1) m.tail
+      → saves ≡ [] → IsWorld law (record m { stand = stand_of p w }) → IsWorld law (record m { stand = world.active u; begun = m.begun + 1; over = then_over; saves = saves })
+  begin_stands then_over u saves idle same is none standing =
+      world_is law (record m { stand = world.active u; begun = m.begun + 1; over = then_over; saves = saves })
+      (subst (λ (held : List (List VersionWritten)). IsMapWorld law (record m { stand = world.active u; begun = m.begun + 1; over = then_over; saves = held })) (sym none)
+      (subst (λ (list : List Finished). IsMapWorld law (record m { stand = world.active u; begun = m.begun + 1; over = list; saves = [] })) (sym same)
+      (subst (λ (x : Work). IsMapWorld law (record m { stand = world.active x; begun = m.begun + 1; saves = [] })) (sym is) (map_begun law m (within Idle idle standing)))))
 
 -- WRITE. A claim, and then the row is set.
 active_as : (stand : Stand) → phase_of stand ≡ Active → stand ≡ world.active (work_of stand)
@@ -200,15 +268,7 @@ active_as (world.snapshot s) active = absurd (snapshot_not_active s active)
 pub claim_works : (v : View) (seat oid : ℕ) (t : View) → phase_at v seat ≡ Active → DidClaim v seat oid t → (u : Work) × Works v seat u t
 claim_works v seat oid t active (calls.before is claimed) = (
   work_at v seat,
-  record {
-    own = ap (λ (x : View). x.session seat) is ∙ ap (λ (stand : Stand). record { over = (v.session seat).over; stand = stand }) (active_as (v.session seat).stand active);
-    others = λ q another. ap (λ (x : View). x.session q) is;
-    opening = ap (λ (x : View). x.opening) is;
-    tail = ap (λ (x : View). x.tail) is;
-    flushed = ap (λ (x : View). x.flushed) is;
-    pinned = ap (λ (x : View). x.pinned) is;
-    given_up = ap (λ (x : View). x.given_up) is;
-  },
+  subst (λ (x : View). Works v seat (work_at v seat) x) (sym is) (works_nowhere v seat (work_at v seat) (active_as (v.session seat).stand active)),
 )
 claim_works v seat oid t active (calls.now stamp base none few free newest now) =
     (claiming (record { oid = oid; stamp = stamp; base = base; row = base; is_set = false }) (work_at v seat), now)
@@ -223,19 +283,10 @@ claim_session v seat oid t active did session =
 pub write_after : (v : View) (seat oid : ℕ) (row : List ℕ) (b t : View) (u : Work) → phase_at v seat ≡ Active → DidClaim v seat oid b → Works b seat u t → u ≡ setting oid row (work_at b seat)
     → DidWrite v seat oid row t
 write_after v seat oid row b t u active claim set is =
-    let first = (claim_works v seat oid b active claim).1 in record {
+    let first = claim_works v seat oid b active claim in record {
       between = b;
       claim = claim;
-      set = record {
-        own = set.own ∙ ap (λ (s : Session). record { over = s.over; stand = world.active u }) first.own
-            ∙ ap (λ (x : Work). record { over = (v.session seat).over; stand = world.active x }) is;
-        others = λ q another. set.others q another ∙ first.others q another;
-        opening = set.opening ∙ first.opening;
-        tail = set.tail ∙ first.tail;
-        flushed = set.flushed ∙ first.flushed;
-        pinned = set.pinned ∙ first.pinned;
-        given_up = set.given_up ∙ first.given_up;
-      };
+      set = subst (λ (x : Work). Works v seat x t) is (works_then v b t seat first.0 u first.1 set);
     }
 
 -- SETTLED. The stamps are those of the history with the commit.
@@ -257,7 +308,7 @@ module _ (law : Law) (m : Map) (w : Work) (pred : ℕ) (pred_is : IsPredecessorS
         refl,
         ready (record m { stand = world.sealed w w.begin }) w w.begin,
         (
-          becomes (record m { stand = world.sealed w w.begin }) (m.over ++ finished w (Some pred) ∷ []) world.idle (record { over = m.over ++ finished w (Some pred) ∷ []; stand = world.idle }) refl,
+          becomes (record m { stand = world.sealed w w.begin }) (m.over ++ finished w (Some pred) ∷ []) world.idle (record { over = m.over ++ finished w (Some pred) ∷ []; stand = world.idle }) (λ active. absurd (cc active)) refl,
           number_is,
           stamp_is,
           end_is ∙ is.now_is.2,
@@ -279,11 +330,11 @@ settle_done law m p w seat session pred then_over sealed over_is pred_is standin
     (settled law m w pred pred_is (within law m p w seat session Sealed sealed standing) w.number w.begin m.tail refl refl refl))
 
 -- OPENED. A world in which no transaction has begun.
-pub map_opened : (law : Law) (start : ℕ) (rows : Rows) (first : ℕ) (over : List Finished) → 0 < start → law.meets rows → ((x : ℕ) → first ≤ x → law.reach rows x ≡ 0) → over ≡ []
-    → IsWorld law (record { start = start; rows = rows; first = first; next = first; tail = start; begun = 0; over = over; stand = world.idle })
-map_opened law start rows first over positive meets reach none =
-    subst (λ (list : List Finished). IsWorld law (record { start = start; rows = rows; first = first; next = first; tail = start; begun = 0; over = list; stand = world.idle })) (sym none)
-    (world_is law (record { start = start; rows = rows; first = first; next = first; tail = start; begun = 0; over = []; stand = world.idle }) (record {
+pub map_opened : (law : Law) (start : ℕ) (rows : Rows) (first : ℕ) (over : List Finished) (saves : List (List VersionWritten)) → 0 < start → law.meets rows → ((x : ℕ) → first ≤ x → law.reach rows x ≡ 0) → over ≡ []
+    → IsWorld law (record { start = start; rows = rows; first = first; next = first; tail = start; begun = 0; over = over; stand = world.idle; saves = saves })
+map_opened law start rows first over saves positive meets reach none =
+    subst (λ (list : List Finished). IsWorld law (record { start = start; rows = rows; first = first; next = first; tail = start; begun = 0; over = list; stand = world.idle; saves = saves })) (sym none)
+    (world_is law (record { start = start; rows = rows; first = first; next = first; tail = start; begun = 0; over = []; stand = world.idle; saves = saves }) (record {
       positive = positive;
       meets = meets;
       reach = reach;
@@ -299,6 +350,7 @@ map_opened law start rows first over positive meets reach none =
         reach = λ x. omega arith;
       };
       now_is = refl;
+      saves = tt;
       made_once = λ x. omega arith;
       made_new = λ x some. absurd (omega (arith, some));
       made_all = λ x above below. absurd (omega (arith, above, below));
@@ -306,17 +358,6 @@ map_opened law start rows first over positive meets reach none =
     }))
 
 -- SNAPSHOTS. One that only reads is a transaction that has done nothing; what is so of the world stays so when it becomes one.
-becomes_both : (v t u : View) (seat : ℕ) (s r : Session) → Becomes v seat s t → Becomes t seat r u → Becomes v seat r u
-becomes_both v t u seat s r first second = record {
-  own = second.own;
-  others = λ q another. second.others q another ∙ first.others q another;
-  opening = second.opening ∙ first.opening;
-  tail = second.tail ∙ first.tail;
-  flushed = second.flushed ∙ first.flushed;
-  pinned = second.pinned ∙ first.pinned;
-  given_up = second.given_up ∙ first.given_up;
-}
-
 map_raised : (law : Law) (m : Map) (number start : ℕ) (safe : Bool) → IsMapWorld law (record m { stand = world.active (begun number start) })
     → IsMapWorld law (record m { stand = world.snapshot (record { number = number; begin = start; is_safe = safe }) })
 map_raised law m number start safe is = record {
@@ -325,19 +366,21 @@ map_raised law m number start safe is = record {
   reach = is.reach;
   past = is.past;
   now_is = is.now_is;
+  saves = tt;
   made_once = is.made_once;
   made_new = is.made_new;
   made_all = is.made_all;
   next_above = is.next_above;
 }
 
-map_lowered : (law : Law) (m : Map) (s : Snapshot) → IsMapWorld law (record m { stand = world.snapshot s }) → IsMapWorld law (record m { stand = world.active (begun s.number s.begin) })
+map_lowered : (law : Law) (m : Map) (s : Snapshot) → IsMapWorld law (record m { stand = world.snapshot s }) → IsMapWorld law (record m { stand = world.active (begun s.number s.begin); saves = [] })
 map_lowered law m s is = record {
   positive = is.positive;
   meets = is.meets;
   reach = is.reach;
   past = is.past;
   now_is = is.now_is;
+  saves = FitSaves-none (begun s.number s.begin);
   made_once = is.made_once;
   made_new = is.made_new;
   made_all = is.made_all;
@@ -400,16 +443,17 @@ module _ (law : Law) (m : Map) (p : Phase) (w : Work) (seat begin : ℕ) (v : Vi
       let last : View = map_view (record m { stand = stand_of Pending w }) in
       let raised : Becomes then_view seat (with_snapshot v seat s) last =
       subst (λ (q : ℕ). Becomes then_view q (with_snapshot v seat s) last) (sym one)
-      (becomes (record m { stand = stand_of p w }) m.over (stand_of Pending w) (with_snapshot v seat s) is)
+      (becomes (record m { stand = stand_of p w }) m.over (stand_of Pending w) (with_snapshot v seat s) (λ active. absurd (snapshot_not_active s active)) is)
       in
-      (did.0, did.1, did.2, becomes_both v then_view last seat (record { over = (v.session seat).over; stand = world.active (begun number begin) }) (with_snapshot v seat s) did.3 raised)
+      (did.0, did.1, did.2, becomes_then v seat (record { over = (v.session seat).over; stand = world.active (begun number begin) }) then_view (with_snapshot v seat s) last (λ active. absurd (snapshot_not_active s active)) did.3 raised)
 
 -- SAFE. It is safe where it began.
 module _ (law : Law) (m : Map) (p : Phase) (w : Work) (seat : ℕ) (session : IsSession (map_view (record m { stand = stand_of p w })) seat) where
   safe_map : phase_at (map_view (record m { stand = stand_of p w })) seat ≡ Pending → IsWorld law (record m { stand = stand_of p w }) → IsMapWorld law (record m { stand = stand_of Safe w })
   safe_map pending standing =
       let s : Snapshot = record { number = w.number; begin = w.begin; is_safe = false } in
-      map_raised law m w.number w.begin true (map_lowered law m s (within law m p w seat session Pending pending standing))
+      resaved law (record m { stand = stand_of Safe w; saves = [] }) m.saves tt
+      (map_raised law (record m { saves = [] }) w.number w.begin true (map_lowered law m s (within law m p w seat session Pending pending standing)))
 
   pub safe_stands : phase_at (map_view (record m { stand = stand_of p w })) seat ≡ Pending → IsWorld law (record m { stand = stand_of p w }) → IsWorld law (record m { stand = stand_of Safe w })
   safe_stands pending standing = world_is law (record m { stand = stand_of Safe w }) (safe_map pending standing)
@@ -422,7 +466,7 @@ module _ (law : Law) (m : Map) (p : Phase) (w : Work) (seat : ℕ) (session : Is
       while law m p w seat session Pending pending (λ (q : ℕ) (x : Phase). DidSafe (map_view (record m { stand = stand_of x w })) q (map_view (record m { stand = stand_of Safe w }))) (
         s,
         refl,
-        becomes (record m { stand = stand_of Pending w }) m.over (stand_of Safe w) (record { over = m.over; stand = stand_of Safe w }) refl,
+        becomes (record m { stand = stand_of Pending w }) m.over (stand_of Safe w) (record { over = m.over; stand = stand_of Safe w }) (λ active. absurd (cc active)) refl,
         map_safe law (record m { stand = stand_of Safe w }) is 1 (omega arith, omega arith) refl,
       )
 
@@ -471,7 +515,8 @@ module _ (law : Law) (m : Map) (p : Phase) (w : Work) (seat : ℕ) (session : Is
       world_is law (record m { stand = world.idle; over = then_over })
       (subst (λ (list : List Finished). IsMapWorld law (record m { stand = world.idle; over = list })) (sym is)
       (subst (λ (x : Work). IsMapWorld law (record m { stand = world.idle; over = m.over ++ finished x None ∷ [] })) (sym one_is.2)
-      (map_aborted law m (begun s.number s.begin) (map_lowered law m s there))))
+      (resaved law (record m { stand = world.idle; over = m.over ++ finished (begun s.number s.begin) None ∷ []; saves = [] }) m.saves tt
+      (map_aborted law (record m { saves = [] }) (begun s.number s.begin) (map_lowered law m s there)))))
 
   pub end_done : (then_over : List Finished) → HasSnapshot (map_view (record m { stand = stand_of p w })) seat → then_over ≡ m.over ++ finished (begun m.begun m.tail) None ∷ []
       → IsWorld law (record m { stand = stand_of p w }) → DidAbort (map_view (record m { stand = stand_of p w })) seat (map_view (record m { stand = world.idle; over = then_over }))
@@ -480,5 +525,5 @@ module _ (law : Law) (m : Map) (p : Phase) (w : Work) (seat : ℕ) (session : Is
       let work : begun m.begun m.tail ≡ work_of (stand_of p w) = one_is.2 ∙ sym (ap work_of one_is.1) in
       let ended : Session = record { over = m.over ++ finished (work_of (stand_of p w)) None ∷ []; stand = world.idle } in
       subst (λ (q : ℕ). DidAbort (map_view (record m { stand = stand_of p w })) q (map_view (record m { stand = world.idle; over = then_over }))) (sym (one law m p w seat session))
-      (becomes (record m { stand = stand_of p w }) then_over world.idle ended
+      (becomes (record m { stand = stand_of p w }) then_over world.idle ended (λ active. absurd (cc active))
       (ap (λ (list : List Finished). record { over = list; stand = world.idle }) (is ∙ ap (λ (x : Work). m.over ++ finished x None ∷ []) work)))

@@ -1,8 +1,9 @@
 -- A world of one session whose transactions commit one after another: what is so of its view.
 use Rattle.std.proofs.Common.{◌≡◌, ℕ, ◌+◌, ◌<◌, ◌≤◌, List, length, Some, inl, inr, refl, sym, ap, ◌∙◌, subst, arith}
 use Rattle.std.specs.List.{slice_get}
-use Rattle.erm_model.specs.declared.limits.TheConstants.{OID_LIMIT}
-use Rattle.erm_model.specs.declared.outcome.Phase.TheVariants.{Safe}
+use Rattle.erm_model.specs.declared.history.VersionWritten.{VersionWritten}
+use Rattle.erm_model.specs.declared.limits.TheConstants.{OID_LIMIT, SAVES}
+use Rattle.erm_model.specs.declared.outcome.Phase.TheVariants.{Active, Safe}
 use Rattle.erm_model.specs.History.{History, IsCertified, IsSnapshot}
 use Rattle.erm_model.specs.Member.{◌∈◌}
 use Rattle.erm_model.specs.RowTransaction.{Law}
@@ -11,10 +12,12 @@ use Rattle.erm_model.specs.Safe.{IsSafeAt}
 use Rattle.erm_world.specs.Calls.{AreAllMade}
 use Rattle.erm_world.specs.Laws.{IsLawfulWork, IsNumbered, IsPossibleIn, IsSerializable, SeesSnapshot}
 use Rattle.erm_world.specs.Safe.{HasSafeStamps}
+use Rattle.erm_world.specs.Saves.{AreSavesOf, OnceOf}
+use Rattle.erm_world.specs.Snapshots.{snapshot_not_active}
 use Rattle.erm_map_world.specs.MapWorks.{rows_now}
-use Rattle.erm_map_world.specs.MapWorld.{AreOver, IsMapWorld, IsNow, IsWorld, Map, Saw, bound_of, made_of, map_view}
+use Rattle.erm_map_world.specs.MapWorld.{AreOver, FitSaves, IsMapWorld, IsNow, IsWorld, Map, Saw, bound_of, made_of, map_view}
 use Rattle.erm_map_world.proofs.Histories.{none_overwrites}
-use Rattle.erm_world.specs.World.{Finished, Has, HasStamp, IsCurrent, IsSession, IsWorking, Snapshot, Stand, View, Work, committed_in, history_of, history_upto, made_by_all, made_upto, phase_at, phase_of, size_of, stamp_of, work_at, work_of}
+use Rattle.erm_world.specs.World.{Finished, Has, HasStamp, IsCurrent, IsSession, IsWorking, Snapshot, Stand, View, Work, committed_in, history_of, history_upto, made_by_all, made_upto, phase_at, phase_of, stamp_of, work_at, work_of}
 use Rattle.erm_world.specs.World as world
 
 pub history_is : (m : Map) → history_of (map_view m) ≡ committed_in 1 m.over
@@ -138,6 +141,20 @@ same_number law m is w u stamp (inr stand) (inr other) = ap (λ (x : Work). x.nu
   one_sealed : (w u : Work) (stamp : ℕ) → world.sealed w stamp ≡ world.sealed u stamp → w ≡ u
   one_sealed w u stamp same = cc
 
+-- each object is claimed once by the one in progress
+once_now : (law : Law) (rows : Rows) (over : List Finished) (tail number : ℕ) (stand : Stand) → IsNow law rows over tail number stand → OnceOf (work_of stand).claims
+once_now law rows over tail number world.idle is = λ i j c d at. absurd (cc)
+once_now law rows over tail number (world.active w) is = is.2.once
+once_now law rows over tail number (world.sealed w stamp) is = is.4.once
+once_now law rows over tail number (world.snapshot s) is = λ i j c d at. absurd (cc)
+
+-- it holds no more savepoints than it may
+pub few_fit : (stand : Stand) (saves : List (List VersionWritten)) → phase_of stand ≡ Active → FitSaves stand saves → length saves ≤ SAVES
+few_fit world.idle saves active fit = absurd (cc)
+few_fit (world.active w) saves active fit = fit.1
+few_fit (world.sealed w stamp) saves active fit = absurd (cc)
+few_fit (world.snapshot s) saves active fit = absurd (snapshot_not_active s active)
+
 -- SERIALIZABLE. What the laws of a world ask.
 map_serializable : (law : Law) (m : Map) → IsMapWorld law m → IsSerializable law (map_view m)
 map_serializable law m is =
@@ -164,6 +181,15 @@ map_serializable law m is =
         now = λ w current. let now = currently law m.rows m.over m.tail m.begun m.stand w is.now_is current in now.saw.number_is ∙ now.number_is;
       });
       apart = λ p q c d session other another. absurd (another (one p session ∙ sym (one q other)));
+      once = λ seat session. subst (λ (q : ℕ). OnceOf (work_at v q).claims) (sym (one seat session)) (once_now law m.rows m.over m.tail m.begun m.stand is.now_is);
+      saves = λ seat w session stand.
+          let at : m.stand ≡ world.active w = subst (λ (q : ℕ). (v.session q).stand ≡ world.active w) (one seat session) stand in
+          let fit = subst (λ (x : Stand). FitSaves x m.saves) at is.saves in
+          subst (λ (q : ℕ). AreSavesOf w (v.saves q)) (sym (one seat session)) fit.0;
+      few_saves = λ seat session active.
+          let at = subst (λ (q : ℕ). phase_at v q ≡ Active) (one seat session) active in
+          let few = few_fit m.stand m.saves at is.saves in
+          subst (λ (q : ℕ). length (v.saves q) ≤ SAVES) (sym (one seat session)) few;
       opening_meets = is.meets;
       opening_reach = is.reach;
       lawful = λ seat w stamp session is_one. (stamped seat w stamp session is_one).lawful;

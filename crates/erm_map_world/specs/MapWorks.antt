@@ -7,6 +7,7 @@ use Rattle.erm_model.specs.History.{OverwritesFrom, OverwritesReadOf, ReadsFrom}
 use Rattle.erm_model.specs.Rows.{Rows}
 use Rattle.erm_map_world.specs.declared.works.MapDone.{MapDone}
 use Rattle.erm_map_world.specs.declared.works.MapWork.{MapWork}
+use Rattle.erm_world.specs.Saves.{undone}
 use Rattle.erm_world.specs.Works.{is_claimed, own_row}
 use Rattle.erm_world.specs.World.{Fate, Finished, Work, record_of}
 use Rattle.erm_world.specs.World as world
@@ -14,6 +15,11 @@ use Rattle.erm_world.specs.World as world
 -- the own row of a claimed object
 abbrev pub found_row : List VersionWritten → ℕ → Option (List ℕ)
 found_row claims oid = if is_claimed claims oid then Some (own_row claims oid []) else None
+
+-- a claim as it was saved, or undone where it wasn't
+abbrev pub restored_claim : Option VersionWritten → VersionWritten → VersionWritten
+restored_claim (Some s) c = s
+restored_claim None c = undone c
 
 -- what a transaction has done
 abbrev pub work_in : MapWork → Work

@@ -3,6 +3,7 @@ use Rattle.std.specs.Prelude.{◌≡◌, ℕ, ◌+◌, ◌==◌, ◌<◌, ◌≤
 use Rattle.erm_model.specs.declared.history.TransactionRecord.{TransactionRecord}
 use Rattle.erm_model.specs.declared.history.VersionRead.{VersionRead}
 use Rattle.erm_model.specs.declared.history.VersionWritten.{VersionWritten}
+use Rattle.erm_model.specs.declared.limits.TheConstants.{SAVES}
 use Rattle.erm_model.specs.declared.outcome.Phase.{Phase}
 use Rattle.erm_model.specs.declared.outcome.Phase.TheVariants as phase
 use Rattle.erm_model.specs.History.{History, IsNewestBelow, IsPredecessorStamp, IsSnapshot, rank_of}
@@ -14,11 +15,12 @@ use Rattle.erm_model.specs.SerialOrder.{StampsDiffer}
 use Rattle.erm_map_world.specs.MapWorks.{newest, rows_now}
 use Rattle.erm_world.specs.Laws.{FitsWork, IsLawfulWork, IsPossibleIn, IsSerializable}
 use Rattle.erm_world.specs.Safe.{HasSafeStamps}
+use Rattle.erm_world.specs.Saves.{AreSavesOf}
 use Rattle.erm_world.specs.World.{Finished, Stand, View, Work, committed_in, size_of, stamp_of, work_of}
 use Rattle.erm_world.specs.World as world
 
 -- The world: where its log begins, the rows that it was opened on, the first object that it makes and the next one, the end of its
--- log, how many transactions have begun, those that are over, in order, and where its session stands.
+-- log, how many transactions have begun, those that are over, in order, where its session stands, and the savepoints of the last one that began.
 pub record Map : Type 0 where
   pub start : ℕ
   pub rows : Rows
@@ -28,6 +30,7 @@ pub record Map : Type 0 where
   pub begun : ℕ
   pub over : List Finished
   pub stand : Stand
+  pub saves : List (List VersionWritten)
 
 -- where the session stands: its transaction has its block where it began
 abbrev pub stand_of : Phase → Work → Stand
@@ -46,6 +49,7 @@ map_view m = record {
   flushed = m.start;
   pinned = None;
   given_up = λ q. [];
+  saves = λ q. if q == 1 then m.saves else [];
 }
 
 -- a world of one session that was just opened on these rows, whose log begins at this place, and which makes objects from this one on
@@ -114,6 +118,15 @@ IsNow law rows over tail number (world.sealed w stamp) = (number ≡ length over
 IsNow law rows over tail number (world.snapshot s) =
     (number ≡ length over + 1) × (s.begin ≡ tail) × Saw law rows (committed_in 1 over) (rows_now rows over) number (world.begun s.number s.begin)
 
+-- at each savepoint a claim that no write had set left the row that it found
+abbrev pub AreKept : List (List VersionWritten) → Type 0
+AreKept saves = (j : ℕ) (saved : List VersionWritten) → slice_get saves j ≡ Some saved → (s : VersionWritten) → s ∈ saved → s.is_set ≡ false → s.row ≡ s.base
+
+-- what is so of the savepoints of an active one
+abbrev pub FitSaves : Stand → List (List VersionWritten) → Type 0
+FitSaves (world.active w) saves = AreSavesOf w saves × (length saves ≤ SAVES) × AreKept saves
+FitSaves stand saves = Unit {0}
+
 -- how often its transactions made an object
 abbrev pub made_of : List Finished → Stand → ℕ → ℕ
 made_of over stand x = sum_by (λ f. times_made f.work.made x) over + times_made (work_of stand).made x
@@ -125,6 +138,7 @@ pub record IsMapWorld (law : Law) (m : Map) : Type 0 where
   pub reach : (x : ℕ) → m.first ≤ x → law.reach m.rows x ≡ 0
   pub past : AreOver law m.rows m.start (bound_of m.stand m.tail) (committed_in 1 m.over) m.over
   pub now_is : IsNow law m.rows m.over m.tail m.begun m.stand
+  pub saves : FitSaves m.stand m.saves
   pub made_once : (x : ℕ) → made_of m.over m.stand x ≤ 1
   pub made_new : (x : ℕ) → 0 < made_of m.over m.stand x → (m.first ≤ x) × (x < m.next)
   pub made_all : (x : ℕ) → m.first ≤ x → x < m.next → 0 < made_of m.over m.stand x

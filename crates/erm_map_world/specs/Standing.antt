@@ -1,11 +1,16 @@
 -- The world of one session as its program keeps it.
-use Rattle.std.specs.Prelude.{map}
+use Rattle.std.specs.Prelude.{List, Vec, map}
+use Rattle.erm_model.specs.declared.history.VersionWritten.{VersionWritten}
 use Rattle.erm_model.specs.RowTransaction.{Law}
 use Rattle.erm_model.specs.Rows.{rows_of}
 use Rattle.erm_map_world.specs.declared.map_world.MapWorld.{MapWorld}
 use Rattle.erm_map_world.specs.MapWorks.{done_of, work_in}
 use Rattle.erm_map_world.specs.MapWorld.{IsWorld, Map, map_view, stand_of}
 use Rattle.erm_world.specs.World.{View}
+
+-- the claims that savepoints keep
+abbrev pub saves_in : {A : Type 0} → List (Vec VersionWritten A) → List (List VersionWritten)
+saves_in saves = map (λ saved. saved.items) saves
 
 abbrev pub map_of : {L : Type 0} → MapWorld L → Map
 map_of w = record {
@@ -17,6 +22,7 @@ map_of w = record {
   begun = w.begun;
   over = map done_of w.over.items;
   stand = stand_of w.phase (work_in w.work);
+  saves = saves_in w.saves.items;
 }
 
 abbrev pub view_of : {L : Type 0} → MapWorld L → View

@@ -1,15 +1,17 @@
 //! A world of one session over rows in memory.
 ghost use Rattle.std.specs.Prelude.{[], ◌≡◌, ◌+◌, ◌<◌, ◌≤◌, ℕ, vec_capacity, vec_len};
-ghost use Rattle.erm_model.specs.declared.limits.TheConstants.{OID_LIMIT, READ_LIMIT, STOP, WRITE_LIMIT};
+ghost use Rattle.erm_model.specs.declared.limits.TheConstants.{OID_LIMIT, READ_LIMIT, SAVES, STOP, WRITE_LIMIT};
 ghost use Rattle.erm_model.specs.declared.outcome.Phase.TheVariants.{Active, Pending, Safe, Sealed};
 ghost use Rattle.erm_model.specs.Rows.{rows_of};
 
-use crate::works::{MapDone, MapWork, block_size, newest_version, own, predecessor, seen, set_row};
-use erm_model::{
-    LAST_NUMBER, OID_LIMIT, Oid, Outcome, Phase, READ_LIMIT, Receipt, Row, RowLaw, RowStop, STOP,
-    Seat, Stamp, VersionWritten, WRITE_LIMIT,
+use crate::works::{
+    MapDone, MapWork, block_size, copied, newest_version, own, predecessor, restore, seen, set_row,
 };
-use erm_world::{BeginStop, NotFlushed, RowWorld, Wait};
+use erm_model::{
+    LAST_NUMBER, OID_LIMIT, Oid, Outcome, Phase, READ_LIMIT, Receipt, Row, RowLaw, RowStop, SAVES,
+    STOP, Seat, Stamp, VersionWritten, WRITE_LIMIT,
+};
+use erm_world::{BeginStop, NoSave, NotFlushed, RowWorld, SaveStop, Wait};
 use std::alloc::Global;
 use std::marker::PhantomData;
 use std::mem;
@@ -35,12 +37,15 @@ pub struct MapWorld<L> {
     /// The last one that began, where the session isn't idle.
     pub work: MapWork,
     pub phase: Phase,
+    /// The savepoints of the last one that began: its claims as they were at each, the oldest first.
+    pub saves: Vec<Vec<VersionWritten>>,
     pub alloc: Global,
     pub law: PhantomData<L>,
     ghost rows_there: { vec_len rows ≡ OID_LIMIT },
     ghost next_below: { next ≤ OID_LIMIT },
     ghost reads_few: { vec_len work.reads ≤ READ_LIMIT },
     ghost claims_few: { vec_len work.claims ≤ WRITE_LIMIT },
+    ghost saves_few: { vec_len saves ≤ SAVES },
     ghost room_active: { phase ≡ Active → vec_len over < vec_capacity over },
     ghost room_sealed: { phase ≡ Sealed → vec_len over < vec_capacity over },
     ghost room_pending: { phase ≡ Pending → vec_len over < vec_capacity over },
@@ -90,6 +95,7 @@ impl<L: RowLaw> RowWorld for MapWorld<L> {
         }
         self.begun += 1;
         self.work = self.blank();
+        self.saves.clear();
         self.phase = Phase::Active;
         Ok(self.tail)
     }
@@ -161,6 +167,33 @@ impl<L: RowLaw> RowWorld for MapWorld<L> {
     fn tidy(&mut self, seat: Seat, oid: Oid) -> Result<u32, RowStop> {
         self.claim(seat, oid)?;
         Ok(0)
+    }
+
+    fn save(&mut self, _seat: Seat) -> Result<u32, SaveStop> {
+        let held = self.saves.len();
+        if held == SAVES {
+            return Err(SaveStop::SavesFull { held: held as u32 });
+        }
+        let Ok(claims) = copied(self.alloc, self.work.claims.as_slice()) else {
+            return Err(SaveStop::Memory);
+        };
+        if self.saves.push(claims).is_err() {
+            return Err(SaveStop::Memory);
+        }
+        Ok(held as u32 + 1)
+    }
+
+    fn back(&mut self, _seat: Seat, n: u32) -> Result<(), NoSave> {
+        let held = self.saves.len() as u32;
+        if n == 0 || held < n {
+            return Err(NoSave { held });
+        }
+        restore(
+            &mut self.work.claims,
+            self.saves[n as usize - 1].as_slice(),
+        );
+        self.saves.truncate(n as usize);
+        Ok(())
     }
 
     fn seal(&mut self, _seat: Seat) -> Stamp {
@@ -245,6 +278,7 @@ impl<L: RowLaw> MapWorld<L> {
                 made: Vec::new(alloc),
             },
             phase: Phase::Idle,
+            saves: Vec::new(alloc),
             alloc,
             law: PhantomData,
         }

@@ -1,15 +1,18 @@
 //! The transactions of a world of one session, and the versions that they leave.
-ghost use Rattle.std.specs.Prelude.{[], ◌≡◌, ◌+◌, ◌<◌, ◌≤◌, ◌↔◌, ◌++◌, IsTrue, length, map, vec_len};
+ghost use Rattle.std.specs.Prelude.{[], ◌≡◌, ◌+◌, ◌<◌, ◌≤◌, ◌↔◌, ◌++◌, IfOk, IsTrue, length, map, vec_len};
+ghost use Rattle.std.specs.Option.{option_copied};
 ghost use Rattle.erm_model.specs.declared.limits.TheConstants.{GREATEST_BLOCK, WRITE_LIMIT};
 ghost use Rattle.erm_model.specs.History.{History, IsPredecessorStamp, Makes, Overwrites, OverwritesFrom, OverwritesReadOf, ReadsFrom};
 ghost use Rattle.erm_model.specs.Rows.{rows_of};
 ghost use Rattle.erm_record.specs.Stored.{block_words};
-ghost use Rattle.erm_map_world.specs.MapWorks.{Follows, commit_with, done_of, found_row, newest, version_after, work_in};
+ghost use Rattle.erm_map_world.specs.MapWorks.{Follows, commit_with, done_of, found_row, newest, restored_claim, version_after, work_in};
 ghost use Rattle.erm_world.specs.World.{commit_of, committed_in};
+ghost use Rattle.erm_world.specs.Saves.{restored};
 ghost use Rattle.erm_world.specs.Works.{row_read, with_row};
 
 use erm_model::{LEAST_BLOCK, Oid, Row, Stamp, VersionRead, VersionWritten};
 use erm_record::stored_length;
+use std::alloc::{AllocError, Global};
 
 /// What a transaction has done.
 #[derive(Drop)]
@@ -71,6 +74,54 @@ pub fn set_row(claims: &mut Vec<VersionWritten>, oid: Oid, row: &Row)
 {
     for c in claims.iter_mut() {
         set_one(c, oid, row);
+    }
+}
+
+// A claim once more.
+fn copy_of(claim: &VersionWritten) -> VersionWritten
+    ensures { result ≡ claim.now }
+{
+    VersionWritten {
+        oid: claim.oid,
+        stamp: claim.stamp,
+        base: claim.base,
+        row: claim.row,
+        is_set: claim.is_set,
+    }
+}
+
+/// Claims once more, as a savepoint keeps them.
+pub fn copied(alloc: Global, claims: &[VersionWritten]) -> Result<Vec<VersionWritten>, AllocError>
+    ensures { IfOk result (λ copy. copy.items ≡ claims.now) }
+{
+    let mut copy = Vec::new(alloc);
+    for c in claims {
+        copy.push(copy_of(c))?;
+    }
+    Ok(copy)
+}
+
+// A claim is as it was saved, or leaves the row that it found where it wasn't saved.
+fn restore_one(claim: &mut VersionWritten, saved: Option<&VersionWritten>)
+    ensures { claim.new ≡ restored_claim (option_copied saved.entry) claim.old }
+{
+    match saved {
+        Some(saved) => *claim = copy_of(saved),
+        None => {
+            claim.row = claim.base;
+            claim.is_set = false;
+        }
+    }
+}
+
+/// Claims go back to those that a savepoint kept, which were the first of them: each of those is as it was, and each made since leaves the
+/// row that it found.
+pub fn restore(claims: &mut Vec<VersionWritten>, saved: &[VersionWritten])
+    ensures rows { claims.new.items ≡ restored saved.now claims.old.items }
+    ensures len { vec_len claims.new ≡ vec_len claims.old }
+{
+    for (i, c) in claims.iter_mut().enumerate() {
+        restore_one(c, saved.get(i));
     }
 }
 

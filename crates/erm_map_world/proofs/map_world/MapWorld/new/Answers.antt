@@ -8,7 +8,7 @@ use Rattle.erm_map_world.proofs.map_world.MapWorld.new.Goals as goal
 
 pub returns-clause-stands : goal.returns-clause-stands
 returns-clause-stands g c =
-    map_opened g.L.RowLaw.law c.args.start (rows_of c.args.rows.items) c.args.first _ c.requires.start c.requires.meets c.requires.reach (ap (map done_of) c.new.ensures.items)
+    map_opened g.L.RowLaw.law c.args.start (rows_of c.args.rows.items) c.args.first _ _ c.requires.start c.requires.meets c.requires.reach (ap (map done_of) c.new.ensures.items)
 
 pub returns-clause-opened : goal.returns-clause-opened
 returns-clause-opened g c = record {
