@@ -2,6 +2,7 @@
 use Rattle.std.proofs.Common.{◌≡◌, ◌≢◌, ℕ, ◌<◌, ◌≤◌, Bool, true, false, ◌&&◌, List, [], ◌∷◌, flat_map, Some, None, unwrap_or, refl, sym, ap, ◌∙◌, subst, arith, le_trans}
 use Rattle.std.specs.Prelude.{if◌then◌else◌, nat_lt, nat_le, ◌==◌}
 use Rattle.std.proofs.lemmas.Bool.{and_parts, eq-eqb, leb-true, ltb-true, ne_eqb}
+use Rattle.erm_model.specs.declared.history.VersionWritten.{VersionWritten}
 use Rattle.erm_model.specs.declared.limits.TheConstants.{SESSIONS}
 use Rattle.erm_model.specs.declared.outcome.Phase.TheVariants.{Active}
 use Rattle.erm_model.specs.Lawful.{times_made}
@@ -25,6 +26,7 @@ use Rattle.erm_sound.specs.Kept.{SoundUnder}
 use Rattle.erm_core_shown.specs.Shown.{HasOnly, NoneElse, given_up_of, shown_of, shown_session}
 use Rattle.erm_core_view.specs.Views.{IsBetween, session_of, stand_of, work_of}
 use Rattle.erm_core_view.proofs.Made.{at_most_once, current_made, times_both}
+use Rattle.erm_core_view.proofs.Onces.{works_once}
 use Rattle.erm_core_view.proofs.Parts.{current_stands}
 use Rattle.erm_core_view.proofs.Snapshots.{active_plain, plain_new, shown_work}
 use Rattle.erm_rule.specs.declared.view.Book.{Book}
@@ -39,12 +41,16 @@ use Rattle.erm_rule.proofs.Telling.{held_part}
 use Rattle.erm_beside.specs.Calls.{Passes}
 use Rattle.erm_beside.specs.Laws.{IsSound}
 use Rattle.erm_beside.specs.Later.{IsLater}
+use Rattle.erm_beside.proofs.Saved.{within_with}
 use Rattle.erm_lone.specs.Within.{later_itself}
 use Rattle.erm_lone.proofs.Later.{later_then}
 use Rattle.erm_world.specs.Calls.{Becomes}
 use Rattle.erm_world.specs.Laws.{FitsWork, IsSerializable}
+use Rattle.erm_world.specs.Saves.{OnceOf, with_saves}
 use Rattle.erm_world.specs.World.{GivenUp, Opening, Session, Stand, View, Work, phase_at, phase_of, work_at}
 use Rattle.erm_world.specs.World as world
+use Rattle.erm_world.proofs.Restored.{AreSavesOf-none}
+use Rattle.erm_world.proofs.Saves.{without}
 use Rattle.erm_own_view.specs.Own.{EndsIn, MayCall, WasOf, no_session, opening_of, own_view}
 use Rattle.erm_own_view.proofs.Along.{none_of, was_before, was_itself}
 
@@ -135,6 +141,11 @@ module _ (law : Law) (seat tail flushed : ℕ) (b : Book) (may : MayCall law sea
             let shown = current_made part.place part.task part.current x in
             let is : times_made (work_at own seat).made x ≡ times_made (world.work_of (stand_of part.place part.task part.current)).made x = ap (λ (w : Work). times_made w.made x) work in
             omega (arith, all, both, now, shown, is);
+        claimed_once =
+            subst (λ (w : Work). OnceOf w.claims) (ap (λ (x : Part). world.work_of (stand_of x.place x.task x.current)) here ∙ sym work)
+            (works_once SESSIONS may.core may.under.sound seat);
+        saves = λ active. AreSavesOf-none (work_at own seat);
+        few_saves = λ active. omega arith;
       }
 
   -- AGAIN, after steps of the seat
@@ -193,6 +204,20 @@ ends_before law seat tail flushed then_tail then_flushed b e f goes start more_t
   };
 }
 
+-- SAVEPOINTS that are told beside the own view say nothing of the worlds in which all may end.
+pub ends_with : (saves : ℕ → List (List VersionWritten)) (law : Law) (seat : ℕ) (b : Book) (v f : View) → EndsIn law seat b v f → EndsIn law seat b (with_saves saves v) f
+ends_with saves law seat b v f end = record { core = end.core; was = end.was; under = end.under; shows = end.shows; within = within_with saves seat v f end.within }
+
+pub ends_without : (saves : ℕ → List (List VersionWritten)) (law : Law) (seat : ℕ) (b : Book) (v f : View) → EndsIn law seat b (with_saves saves v) f → EndsIn law seat b v f
+ends_without saves law seat b v f end =
+    let at = end.within in record {
+      core = end.core;
+      was = end.was;
+      under = end.under;
+      shows = end.shows;
+      within = record { session = at.session; own = at.own; opening = at.opening; tail = at.tail; flushed = at.flushed };
+    }
+
 -- THE OWN SESSION alone becomes another
 abbrev pub own_given : ℕ → List GivenUp → ℕ → List GivenUp
 own_given seat gs q = if q == seat then gs else []
@@ -210,12 +235,13 @@ own_becomes seat tail flushed b e s start is given = record {
   flushed = refl;
   pinned = refl;
   given_up = ap (own_given seat) given;
+  saves = record { own = without s.stand ((own_view seat tail flushed b).session seat).stand; others = λ q other. refl };
 }
 
 -- others went on, and the log was seen to have come further, where the seat's session is as it was
 pub own_passes : (seat tail flushed then_tail then_flushed : ℕ) (b : Book) → tail ≤ then_tail → flushed ≤ then_flushed
     → Passes seat (own_view seat tail flushed b) (own_view seat then_tail then_flushed b)
-own_passes seat tail flushed then_tail then_flushed b more_tail more_flushed = record { own = refl; opening = refl; tail = more_tail; flushed = more_flushed; given_up = refl }
+own_passes seat tail flushed then_tail then_flushed b more_tail more_flushed = record { own = refl; opening = refl; tail = more_tail; flushed = more_flushed; given_up = refl; saves = refl }
 
 -- nothing of the own view has changed, but for the claims that were given up
 pub own_gives : (seat tail flushed : ℕ) (b e : Book) → e.start ≡ b.start → session_of (part_of e.view seat) ≡ session_of (part_of b.view seat)

@@ -26,7 +26,7 @@ abbrev pub no_session : Session
 no_session = record { over = []; stand = world.idle }
 
 -- The own view, where the log has come as far at least, and is synced as far: of the sessions it has its own alone, as the pass has its seat's part, with the
--- claims that it gave up.
+-- claims that it gave up. Its savepoints are told beside it.
 abbrev pub own_view : (seat tail flushed : ℕ) → Book → View
 own_view seat tail flushed b = record {
   opening = opening_of b.start;
@@ -35,6 +35,7 @@ own_view seat tail flushed b = record {
   flushed = flushed;
   pinned = None;
   given_up = λ q. if q == seat then given_up_of (part_of b.view seat) else [];
+  saves = λ q. [];
 }
 
 -- a state of the book, or a later one, is this one
