@@ -18,6 +18,8 @@ COMMANDS = {
     "next": ("table", "key"),
     "scan": ("table", "first key", "last key"),
     "tidy": ("table", "key"),
+    "save": (),
+    "back": ("savepoint",),
     "seal": (),
     "settle": (),
     "commit": (),
@@ -98,8 +100,9 @@ def command(words):
 
 def number(what, word):
     """What is wrong with a number, or None."""
-    most = 15 if what == "table" else 2**64 - 1
-    means = f"a {what} is 0 to 15" if what == "table" else f"a key is 0 to {most}, that is below 2^64"
+    most = {"table": 15, "savepoint": 2**32 - 1}.get(what, 2**64 - 1)
+    below = {"table": "", "savepoint": ", that is below 2^32"}.get(what, ", that is below 2^64")
+    means = f"a {what if what in ('table', 'savepoint') else 'key'} is 0 to {most}{below}"
     if re.fullmatch("0|[1-9][0-9]*", word):
         return None if int(word[:30]) <= most and len(word) <= 20 else f"the {what} {word[:40]} is too large: {means}"
     if re.fullmatch("[0-9]+", word):

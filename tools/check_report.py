@@ -11,6 +11,8 @@ neither was before the other. It checks, of the answers, the order and the map t
 - the commits of the order are just those that the answers and the sessions closed tell, each once, with the same numbers;
 - run one by one in the printed order over one map, the transactions committed give their printed replies and end in the printed map;
 - each transaction, whether or not it committed, was answered as on the map of the commits below its begin stamp, its own writes included;
+- `saved`, `saves full`, `back` and `no save` are those of the savepoints that the transaction's own lines have made, eight at most; behind a `back` it
+  is answered, and commits, as it was at that savepoint, and what was written since stays claimed;
 - the order has the commits by their successor stamps, and of those with one such stamp by their stamps, the greatest first;
 - a commit's successor stamp is the least of its own stamp and the successor stamps of the commits that overwrote, first, a version that it read;
   its predecessor stamp is not below that of a commit which made a version that it read or overwrote;
@@ -49,10 +51,12 @@ import re
 import sys
 
 WAITS = ["wait"], ["not", "flushed"]
-REPLIES = "ok", "value", "none", "pair", "pairs", "cut"
+REPLIES = "ok", "value", "none", "pair", "pairs", "cut", "saved", "back"
 WRITERS = "put", "del", "tidy"
 DRAWERS = "seal", "commit"
 READERS = "get", "next", "scan"
+# How many savepoints a transaction holds at most.
+SAVES = 8
 # The words of the least block of the log, and of the greatest one.
 LEAST_BLOCK, GREATEST_BLOCK = 5, 2181
 STOP = 2**60
@@ -61,9 +65,9 @@ NUMBER, DIGITS = "(?:0|[1-9][0-9]*)", "(?:-|(?:[0-9a-f]{2})+)"
 WINDOW = f"succ {NUMBER} pred {NUMBER}"
 ANSWER = re.compile(
     f"ok|none|value {DIGITS}|pair {NUMBER} {DIGITS}|pairs {NUMBER}(?: {NUMBER} {DIGITS})*|committed {NUMBER} {WINDOW}|excluded (?:at {NUMBER} )?{WINDOW}"
-    f"|(?:begin|safe|cut|sealed|newer|durable|flushed|empty|unfilled|checkpoint|not flushed|wait ring|log end|cells full|oids full) {NUMBER}"
+    f"|(?:begin|safe|cut|saved|back|no save|sealed|newer|durable|flushed|empty|unfilled|checkpoint|not flushed|wait ring|log end|cells full|oids full) {NUMBER}"
     f"|(?:owned|wait|unsafe) {NUMBER} {NUMBER}|aborted|ended|no transaction|is sealed|not sealed|not idle|read only|not safe|no receipt|reads full"
-    "|writes full|numbers end"
+    "|writes full|saves full|numbers end"
 )
 COMMIT = re.compile(f"commit [a-z0-9]+ {NUMBER} stamp {NUMBER} {WINDOW}")
 SAFE = re.compile(f"safe [a-z0-9]+ {NUMBER} at {NUMBER}")
@@ -132,14 +136,27 @@ class Values:
 
 
 class Snapshot:
-    """A map below a transaction's own writes."""
+    """A map below a transaction's own writes, with its savepoints. Where no key gets an entry each one claimed stays so."""
 
-    def __init__(self, values):
-        self.values, self.own, self.claimed = values, {}, set()
+    def __init__(self, values, exact=False):
+        self.values, self.exact = values, exact
+        self.own, self.claimed, self.saves = {}, set(), []
 
     def put(self, place, value):
         self.own[place] = value
         self.claimed.add(place)
+
+    def save(self):
+        """Makes a savepoint: how many there are."""
+        self.saves.append((dict(self.own), set(self.claimed)))
+        return len(self.saves)
+
+    def back(self, number):
+        """Goes back to a savepoint. A key that had a value below stays claimed; the record of one that was new isn't the key's any more."""
+        own, claimed = self.saves[number - 1]
+        del self.saves[number:]
+        self.own = dict(own)
+        self.claimed = claimed | {place for place in self.claimed if self.exact or self.values.get(place) is not None}
 
     def get(self, place):
         return self.own[place] if place in self.own else self.values.get(place)
@@ -156,9 +173,19 @@ class Snapshot:
         yield from added
 
 
+def place_of(words):
+    """The table and the key that a command names."""
+    return int(words[1]), int(words[2])
+
+
 def answered(values, words):
-    """What an operation is answered on a map, which it changes."""
-    table, low = int(words[1]), int(words[2])
+    """What an operation is answered on a map below a transaction's writes, which it changes."""
+    if words[0] == "save":
+        return ["saved", str(values.save())]
+    if words[0] == "back":
+        values.back(int(words[1]))
+        return words
+    table, low = place_of(words)
     if words[0] in ("put", "del"):
         values.put((table, low), words[3] if words[0] == "put" else None)
         return ["ok"]
@@ -176,11 +203,11 @@ def answered(values, words):
 
 def passed(snapshot, entries, words):
     """The keys whose records an operation reads, unless they are claimed. A look passes the keys that have an entry, up to where it stops."""
-    table, low = int(words[1]), int(words[2])
     if words[0] == "get":
-        yield table, low
+        yield place_of(words)
     if words[0] not in ("next", "scan"):
         return
+    table, low = place_of(words)
     keys = entries.get(table, [])
     for key in keys[bisect.bisect_left(keys, low) :]:
         yield table, key
@@ -194,7 +221,8 @@ class Transaction:
         self.steps = []  # command, reply; that of a tidy is its first word
         self.ended_by = None  # the command that ended it
         self.reads = set()  # the keys whose records it read, where windows are told exactly
-        self.tidied, self.doubts = set(), set()  # the keys that its tidies claimed, and those that they may have claimed
+        self.saves = 0  # how many savepoints it holds
+        self.claimed, self.doubts = set(), set()  # the keys that it claimed, and those that it may have claimed
         self.sealed = None
         self.within = None  # where the block of its stamp ends at the latest
         self.ending = None  # "committed", "excluded" or "aborted"
@@ -208,26 +236,25 @@ class Transaction:
         return self.ending == "excluded" and self.stamp is None
 
     def writes(self):
-        """The last value that it set of each key, or None where it took it away."""
-        found = {}
+        """The last value that it set of each key, or None where it took it away, as far as it didn't go back behind that."""
+        found = Snapshot(Values({}))
         for words, reply in self.steps:
-            if reply == ["ok"]:
-                found[int(words[1]), int(words[2])] = words[3] if words[0] == "put" else None
-        return found
+            if reply == ["ok"] or reply[0] in ("saved", "back"):
+                answered(found, words)
+        return found.own
 
     def claims(self):
-        """The keys that it has written, or claimed by a tidy."""
-        return self.tidied | self.writes().keys()
+        """The keys that it has written, or claimed by a tidy, or by a write that was undone."""
+        return self.claimed | self.writes().keys()
 
     def gets(self):
         """The keys of its gets whose answer wasn't its own write."""
         own, found = set(), set()
         for words, reply in self.steps:
-            place = int(words[1]), int(words[2])
             if words[0] in WRITERS:
-                own.add(place)
-            elif words[0] == "get" and place not in own:
-                found.add(place)
+                own.add(place_of(words))
+            elif words[0] == "get" and place_of(words) not in own:
+                found.add(place_of(words))
         return found
 
 
@@ -237,7 +264,7 @@ class Watch:
     def __init__(self, session, number, least):
         self.name, self.begin, self.ended = (session, number), None, False
         self.least, self.most = least, None  # where it may have begun: the least stamp, and the greatest where there is one
-        self.steps, self.reads = [], set()
+        self.steps, self.reads, self.claimed = [], set(), set()
 
     def ended_early(self):
         return False
@@ -307,6 +334,8 @@ class Heard:
             self.check_reach(number, self.current[session].within, int(answer[1]))
         elif answer[0] == "durable" and int(answer[1]) != self.last.get(session):
             raise Bad(f"line {number} tells another commit than the session's last")
+        elif words[0] in ("save", "back") and (answer[0] in REPLIES or answer == ["saves", "full"] or answer[:2] == ["no", "save"]):
+            self.savepoint(number, self.current[session], words, answer)
         elif answer[0] in REPLIES:
             self.current[session].steps.append((words, answer[:1] if words[0] == "tidy" else answer))
         else:
@@ -314,6 +343,19 @@ class Heard:
         if words[0] in DRAWERS and answer[0] in ("sealed", "committed") or answer[:2] == ["excluded", "at"] and words[0] == "commit":
             stamp = int(answer[2] if answer[0] == "excluded" else answer[1])
             self.passes(session, stamp, stamp + LEAST_BLOCK)
+
+    def savepoint(self, number, transaction, words, answer):
+        """The answer to a line that makes a savepoint, or goes back to one."""
+        held, asked = transaction.saves, int(words[1]) if words[0] == "back" else 0
+        if words[0] == "save":
+            owed = ["saved", str(held + 1)] if held < SAVES else ["saves", "full"]
+        else:
+            owed = words if 0 < asked <= held else ["no", "save", str(held)]
+        if answer != owed:
+            raise Bad(f"line {number} is answered {answer}, and by the {held} savepoints held {owed}")
+        if answer[0] in REPLIES:
+            transaction.saves = int(answer[1])
+            transaction.steps.append((words, answer))
 
     def passes(self, session, stamp, end):
         """A line began at this stamp, or drew it: the snapshots that began since the last one that did lie at it or below, later ones at its end."""
@@ -528,10 +570,13 @@ def check_order(order, placed, seats, opening, pairs):
         raise Bad("the order isn't the serial order")
     values = Values(opening)
     for name in order:
+        snapshot = Snapshot(values)
         for words, reply in placed[name].steps:
-            owed = answered(values, words)
+            owed = answered(snapshot, words)
             if reply != owed:
                 raise Bad(f"{name}: {words} is answered {reply}, and by the order {owed}")
+        for place, value in snapshot.own.items():
+            values.put(place, value)
     if values.values != pairs:
         raise Bad("the printed map isn't the one behind the order")
 
@@ -540,12 +585,13 @@ def note(transaction, snapshot, entries, words):
     """Notes what an operation reads and claims besides what it writes: exactly, where the keys with an entry are given."""
     if entries is not None:
         transaction.reads.update(it for it in passed(snapshot, entries, words) if it not in snapshot.claimed)
-    if words[0] == "tidy":
-        place = int(words[1]), int(words[2])
-        certain = entries is not None or place in snapshot.claimed or snapshot.get(place) is not None
-        (transaction.tidied if certain else transaction.doubts).add(place)
-        if certain:
-            snapshot.claimed.add(place)
+    if words[0] not in WRITERS:
+        return
+    place = place_of(words)
+    if not snapshot.exact and place not in snapshot.claimed and snapshot.get(place) is None:
+        transaction.doubts.add(place)
+    elif words[0] == "tidy":
+        snapshot.claimed.add(place)
 
 
 def check_snapshots(told, committed, opening, entries):
@@ -556,7 +602,7 @@ def check_snapshots(told, committed, opening, entries):
             for place, value in by_stamp[done].writes().items():
                 values.put(place, value)
             done += 1
-        snapshot = Snapshot(values)
+        snapshot = Snapshot(values, entries is not None)
         for words, reply in transaction.steps:
             note(transaction, snapshot, entries, words)
             owed = answered(snapshot, words)
@@ -564,6 +610,7 @@ def check_snapshots(told, committed, opening, entries):
                 raise Bad(f"{transaction.name}: {words} is answered {reply}, and on its snapshot {owed}")
         if transaction.ended_early():
             note(transaction, snapshot, entries, transaction.ended_by)
+        transaction.claimed = snapshot.claimed
 
 
 def check_watched(told):
@@ -598,7 +645,7 @@ def writers_of(told):
 
 def check_windows(told):
     made = writers_of(told)
-    doubted = {place for it in told for place in it.doubts}
+    doubted = {place for it in told for place in it.doubts - it.claims()}
     for transaction in told:
         if transaction.ending == "aborted":
             continue
