@@ -12,7 +12,7 @@ use Rattle.erm_threads.specs.declared.job.Job.{Job}
 use Rattle.erm_threads.specs.Work.{IsJob}
 use Rattle.erm_engine.specs.Opened.{opened_view}
 
-opened_ready : (o : Opening) (seat : ℕ) → IsReady ((opened_view (start_of o)).session seat) None
+opened_ready : (o : Opening) (seat : ℕ) → IsReady (opened_view (start_of o)) seat None
 opened_ready o seat = record { run = λ active. absurd (cc); receipt = λ f in_none committed. none_in_nil f in_none }
 
 -- it may be worked, whatever the session is wrapped in
@@ -23,7 +23,7 @@ one_job stands place own o seat j standing here knows of none room = record {
   may = record {
     own = λ l m. (of l m).session ∙ sym here;
     may = λ l m. (of l m).may;
-    ready = subst (λ (v : View). IsReady (v.session (place j.session)) None) (sym knows) (opened_ready o (place j.session));
+    ready = subst (λ (v : View). IsReady v (place j.session) None) (sym knows) (opened_ready o (place j.session));
   };
   none = none;
   room = room;

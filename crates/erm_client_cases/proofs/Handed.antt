@@ -15,12 +15,12 @@ use Rattle.erm_script.specs.declared.script.ScriptLine.{ScriptLine}
 use Rattle.erm_worker.specs.Work.{IsReady}
 use Rattle.erm_world.specs.World.{View}
 
-opened_ready : (o : Opening) (seat : ℕ) → IsReady ((opened_view (start_of o)).session seat) None
+opened_ready : (o : Opening) (seat : ℕ) → IsReady (opened_view (start_of o)) seat None
 opened_ready o seat = record { run = λ active. absurd (cc); receipt = λ f in_none committed. none_in_nil f in_none }
 
 -- a session that was just handed out is ready for its first line
-pub new_ready : (o : Opening) (seat : ℕ) (v : View) → v ≡ opened_view (start_of o) → IsReady (v.session seat) None
-new_ready o seat v is = subst (λ (w : View). IsReady (w.session seat) None) (sym is) (opened_ready o seat)
+pub new_ready : (o : Opening) (seat : ℕ) (v : View) → v ≡ opened_view (start_of o) → IsReady v seat None
+new_ready o seat v is = subst (λ (w : View). IsReady w seat None) (sym is) (opened_ready o seat)
 
 -- of a client that was asked nothing no transaction committed
 pub none_committed : (Kind : List Step → Type 0) (seat : ℕ) (c : Transcript) → IsNew seat c → AllCommitted Kind c
