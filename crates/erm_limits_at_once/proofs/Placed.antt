@@ -13,7 +13,6 @@ use Rattle.erm_script.specs.Script.{IsInRange}
 use Rattle.erm_world.specs.Going.{Extends}
 use Rattle.erm_world.specs.Laws.{IsSerializable}
 use Rattle.erm_world.specs.World.{IsSession, Session, View, Work, claims_in, phase_at}
-use Rattle.erm_world.specs.World as world
 use Rattle.erm_maps.specs.Runs.{IsAnswered, IsRunOf, kept_at}
 use Rattle.erm_good_report.specs.Refusals.{claims_of, makes_of}
 use Rattle.erm_good_report.specs.Transactions.{Progress, Said, said_of}
@@ -44,6 +43,22 @@ says_line l a moves = by l.command
     by command.Checkpoint = refl
     by c = refl
 
+-- WHAT IS SO OF A PLACE of two lists, by induction
+the_line : (x y : ScriptLine) → Some x ≡ Some y → x ≡ y
+the_line x y is = cc
+
+the_answer : (x y : Answer) → Some x ≡ Some y → x ≡ y
+the_answer x y is = cc
+
+by_place : (P : List ScriptLine → List Answer → ℕ → Type 0) (l : ScriptLine) (a : Answer)
+    → ((k : ScriptLine) (b : Answer) (script : List ScriptLine) (answers : List Answer) → k ≡ l → b ≡ a → P (k ∷ script) (b ∷ answers) zero)
+    → ((k : ScriptLine) (b : Answer) (script : List ScriptLine) (answers : List Answer) (i : ℕ) → P script answers i → P (k ∷ script) (b ∷ answers) (suc i))
+    → (script : List ScriptLine) (answers : List Answer) (i : ℕ) → slice_get script i ≡ Some l → slice_get answers i ≡ Some a → P script answers i
+by_place P l a first later [] answers i at answered = cc
+by_place P l a first later (k ∷ script) [] i at answered = cc
+by_place P l a first later (k ∷ script) (b ∷ answers) zero at answered = first k b script answers (the_line k l at) (the_answer b a answered)
+by_place P l a first later (k ∷ script) (b ∷ answers) (suc i) at answered = later k b script answers i (by_place P l a first later script answers i at answered)
+
 module _ (laws : Laws) (begun : NoneRuns)
     (stay : (w u : Work) (steps : List Step) → Extends w u → IsAnswered w steps → IsAnswered u steps) (f : View) (seat : ℕ) (session : IsSession f seat) (holds : IsSerializable sound_law f) where
   -- what the line itself makes and claims counts once
@@ -64,12 +79,6 @@ module _ (laws : Laws) (begun : NoneRuns)
 
   own_is : (count : Command → ℕ) (l : ScriptLine) (a : Answer) → l.session ≡ seat → own_count count seat (place l a) ≡ count l.command
   own_is count l a own = ap (λ (b : Bool). cond b (count l.command) 0) (eq-eqb l.session seat own)
-
-  the_line : (x y : ScriptLine) → Some x ≡ Some y → x ≡ y
-  the_line x y is = cc
-
-  the_answer : (x y : Answer) → Some x ≡ Some y → x ≡ y
-  the_answer x y is = cc
 
   -- one line
   record StepCounts (k : ScriptLine) (b : Answer) (p : Progress) (phase : Phase) (u w : View) : Type 0 where
@@ -96,18 +105,13 @@ module _ (laws : Laws) (begun : NoneRuns)
         claims = one.claims_are;
       }
 
-  pub line_counts : (script : List ScriptLine) (answers : List Answer) (more : List Move) (p : Progress) (phase : Phase) (v t : View) (i : ℕ) (l : ScriptLine) (a : Answer)
-      → IsOwnRun f seat v (line_moves script answers ++ more) t → AreMovesInRange (line_moves script answers ++ more) → ((k : ScriptLine) (j : ℕ) → slice_get script j ≡ Some k → IsInRange k.command)
-      → Continues (t.session seat) (f.session seat) → Knows seat p phase v → Few f p (v.session seat) → l.session ≡ seat → slice_get script i ≡ Some l → slice_get answers i ≡ Some a
-      → LineCounts script answers (line_moves script answers ++ more) p v t i l a
-  line_counts [] answers more p phase v t i l a own_run range ranges goes knows few own at answered = cc
-  line_counts (k ∷ script) [] more p phase v t i l a own_run range ranges goes knows few own at answered = cc
-  line_counts (k ∷ script) (b ∷ answers) more p phase v t zero l a (u, w, passes, did, rest) range ranges goes knows few own at answered =
-      let moves = line_moves script answers ++ more in
-      let line_is : k ≡ l = the_line k l at in
-      let answer_is : b ≡ a = the_answer b a answered in
-      let one = step k b moves p phase v u w t passes did rest (ranges k zero refl) goes knows few in
-      let all = run_counts laws begun stay f seat session holds moves (hears seat p (place k b)) (turns seat phase (place k b)) w t rest range.1 goes one.knows one.few in
+  -- the first line, and one behind it
+  first_counts : (k : ScriptLine) (b : Answer) (script : List ScriptLine) (answers : List Answer) (moves : List Move) (p : Progress) (phase : Phase) (v u w t : View) (l : ScriptLine) (a : Answer)
+      → Passes seat v u → DidOwn (is_own seat (move_of k b)) f seat (move_of k b) u w → IsOwnRun f seat w moves t → AreMovesInRange moves → Continues (t.session seat) (f.session seat)
+      → Few f p (v.session seat) → StepCounts k b p phase u w → l.session ≡ seat → k ≡ l → b ≡ a
+      → LineCounts (k ∷ script) (b ∷ answers) (move_of k b ∷ moves) p v t zero l a
+  first_counts k b script answers moves p phase v u w t l a passes did rest range goes few one own line_is answer_is =
+      let all = run_counts laws begun stay f seat session holds moves (hears seat p (place k b)) (turns seat phase (place k b)) w t rest range goes one.knows one.few in
       let session_is : k.session ≡ seat = ap (λ (m : ScriptLine). m.session) line_is ∙ own in
       let m = total_then makes_of k b moves in
       let n = total_then claims_of k b moves in
@@ -125,10 +129,11 @@ module _ (laws : Laws) (begun : NoneRuns)
         mades = omega (arith, all.mades, m, own_is makes_of k b session_is, ap (λ (x : ScriptLine). makes_of x.command) line_is, first);
         claims = omega (arith, all.claims_are, n, own_is claims_of k b session_is, ap (λ (x : ScriptLine). claims_of x.command) line_is, second);
       }
-  line_counts (k ∷ script) (b ∷ answers) more p phase v t (suc i) l a (u, w, passes, did, rest) range ranges goes knows few own at answered =
-      let moves = line_moves script answers ++ more in
-      let one = step k b moves p phase v u w t passes did rest (ranges k zero refl) goes knows few in
-      let later = line_counts script answers more (hears seat p (place k b)) (turns seat phase (place k b)) w t i l a rest range.1 (λ x j. ranges x (suc j)) goes one.knows one.few own at answered in
+
+  later_counts : (k : ScriptLine) (b : Answer) (script : List ScriptLine) (answers : List Answer) (moves : List Move) (p : Progress) (phase : Phase) (v u w t : View) (i : ℕ) (l : ScriptLine) (a : Answer)
+      → Passes seat v u → StepCounts k b p phase u w → LineCounts script answers moves (hears seat p (place k b)) w t i l a
+      → LineCounts (k ∷ script) (b ∷ answers) (move_of k b ∷ moves) p v t (suc i) l a
+  later_counts k b script answers moves p phase v u w t i l a passes one later =
       let m = total_then makes_of k b moves in
       let n = total_then claims_of k b moves in
       let first : mades_in (u.session seat) ≡ mades_in (v.session seat) = ap (λ (s : Session). mades_in s) passes.own in
@@ -143,3 +148,30 @@ module _ (laws : Laws) (begun : NoneRuns)
         mades = omega (arith, later.mades, m, one.mades, first);
         claims = omega (arith, later.claims, n, one.claims, second);
       }
+
+  -- what is counted of a line, by its place
+  abbrev Counts : List Move → ScriptLine → Answer → List ScriptLine → List Answer → ℕ → Type 0
+  Counts more l a script answers i = (p : Progress) (phase : Phase) (v t : View) → IsOwnRun f seat v (line_moves script answers ++ more) t → AreMovesInRange (line_moves script answers ++ more)
+      → ((k : ScriptLine) (j : ℕ) → slice_get script j ≡ Some k → IsInRange k.command) → Continues (t.session seat) (f.session seat) → Knows seat p phase v → Few f p (v.session seat)
+      → LineCounts script answers (line_moves script answers ++ more) p v t i l a
+
+  first_place : (more : List Move) (l : ScriptLine) (a : Answer) → l.session ≡ seat → (k : ScriptLine) (b : Answer) (script : List ScriptLine) (answers : List Answer) → k ≡ l → b ≡ a
+      → Counts more l a (k ∷ script) (b ∷ answers) zero
+  first_place more l a own k b script answers line_is answer_is p phase v t (u, w, passes, did, rest) range ranges goes knows few =
+      let moves = line_moves script answers ++ more in
+      first_counts k b script answers moves p phase v u w t l a passes did rest range.1 goes few (step k b moves p phase v u w t passes did rest (ranges k zero refl) goes knows few) own line_is answer_is
+
+  later_place : (more : List Move) (l : ScriptLine) (a : Answer) (k : ScriptLine) (b : Answer) (script : List ScriptLine) (answers : List Answer) (i : ℕ) → Counts more l a script answers i
+      → Counts more l a (k ∷ script) (b ∷ answers) (suc i)
+  later_place more l a k b script answers i later p phase v t (u, w, passes, did, rest) range ranges goes knows few =
+      let moves = line_moves script answers ++ more in
+      let one = step k b moves p phase v u w t passes did rest (ranges k zero refl) goes knows few in
+      later_counts k b script answers moves p phase v u w t i l a passes one
+      (later (hears seat p (place k b)) (turns seat phase (place k b)) w t rest range.1 (λ x j. ranges x (suc j)) goes one.knows one.few)
+
+  pub line_counts : (script : List ScriptLine) (answers : List Answer) (more : List Move) (p : Progress) (phase : Phase) (v t : View) (i : ℕ) (l : ScriptLine) (a : Answer)
+      → IsOwnRun f seat v (line_moves script answers ++ more) t → AreMovesInRange (line_moves script answers ++ more) → ((k : ScriptLine) (j : ℕ) → slice_get script j ≡ Some k → IsInRange k.command)
+      → Continues (t.session seat) (f.session seat) → Knows seat p phase v → Few f p (v.session seat) → l.session ≡ seat → slice_get script i ≡ Some l → slice_get answers i ≡ Some a
+      → LineCounts script answers (line_moves script answers ++ more) p v t i l a
+  line_counts script answers more p phase v t i l a own_run range ranges goes knows few own at answered =
+      by_place (Counts more l a) l a (first_place more l a own) (later_place more l a) script answers i at answered p phase v t own_run range ranges goes knows few
