@@ -1,5 +1,5 @@
 -- Rows of claims are as they were, one claim after another.
-use Rattle.std.proofs.Common.{◌≡◌, ◌≢◌, ℕ, zero, suc, ◌+◌, ◌<◌, ◌≤◌, Bool, true, false, eqb, List, [], ◌∷◌, length, get_or, set, take, map, Option, Some, None, refl, sym, ap, ◌∙◌, subst, arith, add-one, length-set, get_or-set_same}
+use Rattle.std.proofs.Common.{◌≡◌, ℕ, zero, suc, ◌+◌, ◌<◌, true, false, List, [], ◌∷◌, length, get_or, set, map, Option, Some, None, refl, sym, ap, ◌∙◌, subst, arith, add-one, length-set, get_or-set_same}
 use Rattle.std.specs.List.{slice_get}
 use Rattle.std.proofs.lemmas.List.{get_or-map, length-map, set-set}
 use Rattle.erm_model.specs.declared.history.VersionWritten.{VersionWritten}
@@ -27,9 +27,9 @@ use Rattle.erm_core_steps.proofs.Readings.{still_active, still_session}
 use Rattle.erm_core_steps.proofs.Stored.{may_write}
 use Rattle.erm_lists.specs.declared.lists.Lists.{Lists}
 use Rattle.erm_lists.specs.Stands.{Stands, lists_view}
-use Rattle.erm_lists.specs.Restores.{AreKept, IsAsFound, WasFound, restored_claim, with_claim}
+use Rattle.erm_lists.specs.Restores.{AreKept, WasFound, restored_claim, with_claim}
 use Rattle.erm_world.specs.Saves.{HasClaimed, undone, with_claims}
-use Rattle.erm_world.proofs.Halfway.{halfway, halfway-at, halfway-length, halfway-none, setting-once}
+use Rattle.erm_world.proofs.Halfway.{halfway, halfway-at, halfway-length, halfway-none, saved_set, saved_unset, setting-once}
 use Rattle.erm_world.proofs.Saves.{works_nowhere, works_then}
 use Rattle.erm_world.specs.Calls.{Works}
 use Rattle.erm_world.specs.Going.{found_by}
@@ -37,22 +37,6 @@ use Rattle.erm_world.specs.Snapshots.{snapshot_not_active}
 use Rattle.erm_world.specs.Works.{setting, with_row}
 use Rattle.erm_world.specs.World.{IsSession, Stand, View, Work, phase_at, phase_of, work_at, work_of}
 use Rattle.erm_world.specs.World as world
-
--- A CLAIM AS IT WAS
-same_claim : (o p m n : ℕ) (a b r q : List ℕ) (x y : Bool) → o ≡ p → m ≡ n → a ≡ b → r ≡ q → x ≡ y
-    → ◌≡◌ {A = VersionWritten} (record { oid = o; stamp = m; base = a; row = r; is_set = x }) (record { oid = p; stamp = n; base = b; row = q; is_set = y })
-same_claim o p m n a b r q x y oid stamp base row is_set = cc
-
-pub as_set : (c s : VersionWritten) → IsAsFound c s → s.is_set ≡ true → ◌≡◌ {A = VersionWritten} (record c { row = s.row; is_set = true }) s
-as_set c s is set_it =
-    same_claim c.oid s.oid c.stamp s.stamp c.base s.base s.row s.row true s.is_set (ap (λ (f : ℕ × ℕ × List ℕ). f.0) is.found) (ap (λ (f : ℕ × ℕ × List ℕ). f.1) is.found)
-    (ap (λ (f : ℕ × ℕ × List ℕ). f.2) is.found) refl (sym set_it)
-
-pub as_kept : (c s : VersionWritten) → IsAsFound c s → s.is_set ≡ false → ◌≡◌ {A = VersionWritten} (undone c) s
-as_kept c s is unset_it =
-    let base : c.base ≡ s.base = ap (λ (f : ℕ × ℕ × List ℕ). f.2) is.found in
-    same_claim c.oid s.oid c.stamp s.stamp c.base s.base c.base s.row false s.is_set (ap (λ (f : ℕ × ℕ × List ℕ). f.0) is.found) (ap (λ (f : ℕ × ℕ × List ℕ). f.1) is.found) base
-    (base ∙ sym (is.kept unset_it)) (sym unset_it)
 
 -- A CLAIM is set, and then undone.
 pub set_then_undone : (v t s : View) (seat place : ℕ) (c : VersionWritten) → Works v seat (with_claim place (record c { row = c.base; is_set = true }) (work_at v seat)) t
@@ -178,11 +162,11 @@ module _ {L : Type 0} (law : Law) (p q : Lists L) (seat place : ℕ) (stands : S
 -- what a claim becomes
 pub restored_set : (o : Option VersionWritten) (s c : VersionWritten) → o ≡ Some s → WasFound o c → s.is_set ≡ true → ◌≡◌ {A = VersionWritten} (record c { row = s.row; is_set = true }) (restored_claim o c)
 restored_set o s c is found set_it =
-    subst (λ (p : Option VersionWritten). WasFound p c → ◌≡◌ {A = VersionWritten} (record c { row = s.row; is_set = true }) (restored_claim p c)) (sym is) (λ so. as_set c s so set_it) found
+    subst (λ (p : Option VersionWritten). WasFound p c → ◌≡◌ {A = VersionWritten} (record c { row = s.row; is_set = true }) (restored_claim p c)) (sym is) (λ so. saved_set s c so.found set_it) found
 
 pub restored_kept : (o : Option VersionWritten) (s c : VersionWritten) → o ≡ Some s → WasFound o c → s.is_set ≡ false → ◌≡◌ {A = VersionWritten} (undone c) (restored_claim o c)
 restored_kept o s c is found unset_it =
-    subst (λ (p : Option VersionWritten). WasFound p c → ◌≡◌ {A = VersionWritten} (undone c) (restored_claim p c)) (sym is) (λ so. as_kept c s so unset_it) found
+    subst (λ (p : Option VersionWritten). WasFound p c → ◌≡◌ {A = VersionWritten} (undone c) (restored_claim p c)) (sym is) (λ so. saved_unset s c so.found unset_it (so.kept unset_it)) found
 
 pub restored_none : (o : Option VersionWritten) (c : VersionWritten) → o ≡ None → ◌≡◌ {A = VersionWritten} (undone c) (restored_claim o c)
 restored_none o c is = subst (λ (p : Option VersionWritten). ◌≡◌ {A = VersionWritten} (undone c) (restored_claim p c)) (sym is) refl

@@ -108,13 +108,13 @@ looks_become sessions seat b c s session looks shows = record {
   saves = record { own = without s.stand (session_of (b.seats seat)).stand; others = λ q other. refl };
 }
 
-becomes_same : (v t : View) (seat : ℕ) → Becomes v seat (v.session seat) t → t ≡ v
-becomes_same v t seat did =
+becomes_same : (v t : View) (seat : ℕ) → t.saves ≡ v.saves → Becomes v seat (v.session seat) t → t ≡ v
+becomes_same v t seat saves did =
     same_view v t did.opening
     (fun_ext (λ q. ⊎_elim
     (λ (here : q ≡ seat). subst (λ (n : ℕ). t.session n ≡ v.session n) (sym here) did.own)
     (λ (there : q ≡ seat → ⊥). did.others q there)
-    (cases_eq q seat))) did.tail did.flushed did.pinned did.given_up
+    (cases_eq q seat))) did.tail did.flushed did.pinned did.given_up saves
 
 looks_show : (seat : ℕ) (b c : Core) → OnlyLooks seat b c → is_active (b.seats seat).place ≡ true → is_snapshot (b.seats seat).task ≡ true
     → is_snapshot (c.seats seat).task ≡ true → is_safe (c.seats seat).task ≡ is_safe (b.seats seat).task → session_of (c.seats seat) ≡ session_of (b.seats seat)
@@ -129,7 +129,7 @@ pub looks_unseen : (sessions seat : ℕ) (b c : Core) → is_session seat ≡ tr
 looks_unseen sessions seat b c session looks active before after same = record {
   others = looks.others;
   view =
-      becomes_same (view_of sessions b) (view_of sessions c) seat
+      becomes_same (view_of sessions b) (view_of sessions c) seat refl
       (looks_become sessions seat b c (session_of (b.seats seat)) session looks (looks_show seat b c looks active before after same));
 }
 
