@@ -1,5 +1,5 @@
 -- One element of a list changes, and what all of them mean.
-use Rattle.std.proofs.Common.{◌≡◌, ℕ, ◌<◌, List, length, map, set, get_or, sym, ap, ◌∙◌, subst, arith}
+use Rattle.std.proofs.Common.{◌≡◌, ℕ, ◌<◌, List, length, map, set, get_or, sym, ap, ◌∙◌, arith}
 use Rattle.std.proofs.lemmas.List.{get_or-map, length-map, map-set, set-get_or}
 
 module _ {X Y : Type 0} (f : X → Y) (xs : List X) (means : List Y) (is : map f xs ≡ means) (i : ℕ) (d : Y) (within : i < length means) where

@@ -1,11 +1,17 @@
 -- The savepoints that sessions hold, where one of them goes on.
-use Rattle.std.proofs.Common.{◌≡◌, ◌≢◌, ℕ, ◌+◌, false, true, ◌<◌, ◌≤◌, List, [], Result, Ok, Err, IfOk, IfErr, OnOk, length, set, Some, inl, inr, refl, sym, ap, ◌∙◌, subst, arith, get_or-set_other, get_or-set_same, length-set}
+use Rattle.std.proofs.Common.{◌≡◌, ◌≢◌, ℕ, zero, suc, ◌+◌, false, true, ◌<◌, ◌≤◌, List, [], ◌∷◌, ◌++◌, Result, Ok, Err, IfOk, IfErr, OnOk, length, get_or, set, take, replicate, Some, inl, inr, refl, sym, ap, ◌∙◌, subst, arith, get_or-set_other, get_or-set_same, length-append, length-set, length-take}
+use Rattle.std.specs.List.{slice_get}
 use Rattle.std.proofs.lemmas.Bool.{cases_eq}
+use Rattle.std.proofs.lemmas.List.{length-replicate}
+use Rattle.std.proofs.lemmas.Option.{slice_get-get_or}
+use Rattle.erm_model.specs.declared.limits.TheConstants.{SAVES}
 use Rattle.erm_model.specs.declared.history.VersionWritten.{VersionWritten}
 use Rattle.erm_model.specs.declared.outcome.Outcome.{Outcome}
 use Rattle.erm_model.specs.declared.outcome.Outcome.TheVariants.{Committed, Excluded}
-use Rattle.erm_model.specs.declared.outcome.Phase.TheVariants.{Active}
+use Rattle.erm_model.specs.declared.outcome.Phase.TheVariants.{Active, Idle}
 use Rattle.erm_model.specs.declared.row_stop.RowStop.{RowStop}
+use Rattle.erm_model.proofs.Members.{slice_get-push}
+use Rattle.erm_model.proofs.Savings.{slice_get-take}
 use Rattle.erm_model.specs.RowTransaction.{Asked, Event, Law}
 use Rattle.erm_world.specs.declared.stops.BeginStop.{BeginStop}
 use Rattle.erm_world.specs.declared.stops.BeginStop.TheVariants as begin
@@ -15,13 +21,16 @@ use Rattle.erm_world.specs.declared.stops.Wait.{Wait}
 use Rattle.erm_world.specs.Calls.{Becomes, DidNotSettle, DidSeal, DidSettle, MayNotBegin}
 use Rattle.erm_world.specs.Face.{Answered, Goes, Grows, WasRefused, ends, same, works}
 use Rattle.erm_world.specs.Going.{Extends}
+use Rattle.erm_world.specs.Laws.{IsSerializable}
+use Rattle.erm_world.specs.Saves.{restored, with_claims}
 use Rattle.erm_world.specs.Safe.{DidBeginSafe, DidNotSafe, DidSafe}
-use Rattle.erm_world.specs.Snapshots.{snapshot_not_active}
+use Rattle.erm_world.specs.Snapshots.{snapshot_not_active, snapshot_not_idle}
 use Rattle.erm_world.specs.Whole.{KeepsSessions}
-use Rattle.erm_world.specs.World.{IsSession, Opening, Session, Stand, View, Work, phase_at, phase_of, work_of}
+use Rattle.erm_world.specs.World.{IsCurrent, IsSession, Opening, Session, Stand, View, Work, phase_at, phase_of, work_at, work_of}
 use Rattle.erm_world.specs.World as world
-use Rattle.erm_world.proofs.Restored.{AreSavesOf-extended, AreSavesOf-none}
+use Rattle.erm_world.proofs.Restored.{AreSavesOf-extended, AreSavesOf-front, AreSavesOf-more, AreSavesOf-none, AreSavesOf-restored}
 use Rattle.erm_world.proofs.Txns.{stopped, went}
+use Rattle.erm_lists.specs.Restores.{AreKept}
 use Rattle.erm_lists.specs.declared.lists.Lists.{Lists}
 use Rattle.erm_lists.specs.Stands as lists
 use Rattle.erm_lists.specs.Stands.{lists_view}
@@ -35,7 +44,13 @@ active_with (world.active w) active = refl
 active_with (world.sealed w stamp) active = absurd (cc)
 active_with (world.snapshot s) active = absurd (snapshot_not_active s active)
 
-one_active : (stand : Stand) (w u : Work) → stand ≡ world.active w → stand ≡ world.active u → w ≡ u
+pub idle_with : (stand : Stand) → phase_of stand ≡ Idle → stand ≡ world.idle
+idle_with world.idle idle = refl
+idle_with (world.active w) idle = absurd (cc)
+idle_with (world.sealed w stamp) idle = absurd (cc)
+idle_with (world.snapshot s) idle = absurd (snapshot_not_idle s idle)
+
+pub one_active : (stand : Stand) (w u : Work) → stand ≡ world.active w → stand ≡ world.active u → w ≡ u
 one_active stand w u first second = ap work_of (sym first ∙ second)
 
 -- A TRANSACTION THAT GOES ON may go back to where it might before.
@@ -45,6 +60,32 @@ may_still w u held more may = record { few = may.few; saves = AreSavesOf-extende
 -- one that has begun holds no savepoint
 pub may_begin : (w : Work) → MayGoBack w []
 may_begin w = record { few = omega arith; saves = AreSavesOf-none w; kept = λ place saved at. absurd (cc) }
+
+-- its claims leave the row that they found where no write has set it
+pub claims_kept : (law : Law) (v : View) (seat : ℕ) → IsSerializable law v → IsSession v seat → phase_at v seat ≡ Active → AreKept (work_at v seat).claims
+claims_kept law v seat serializable session active k c at unset =
+    let stand = active_with (v.session seat).stand active in
+    (serializable.sees seat (work_at v seat) session (inr (subst (λ (s : Stand). IsCurrent s (work_at v seat)) (sym stand) refl))).kept c (k, at) unset
+
+-- one savepoint more
+pub may_more : (w : Work) (held : List (List VersionWritten)) → MayGoBack w held → length held < SAVES → AreKept w.claims → MayGoBack w (held ++ w.claims ∷ [])
+may_more w held may room kept = record {
+  few = let long = length-append held (w.claims ∷ []) in omega (arith, long, room);
+  saves = AreSavesOf-more w held may.saves;
+  kept = λ place saved at. elim (slice_get-push held w.claims saved place at) [
+    | inl before ↦ may.kept place saved before.1
+    | inr last ↦ subst AreKept last.1 kept
+  ];
+}
+
+-- one that has gone back
+pub may_restored : (w : Work) (held : List (List VersionWritten)) (n place : ℕ) (saved : List VersionWritten) → slice_get held place ≡ Some saved → MayGoBack w held
+    → MayGoBack (with_claims (restored saved w.claims) w) (take n held)
+may_restored w held n place saved at may = record {
+  few = let few = may.few in let less = length-take n held in omega (arith, few, less);
+  saves = AreSavesOf-front n (with_claims (restored saved w.claims) w) held (AreSavesOf-restored w held place saved may.saves at);
+  kept = λ k claims there. may.kept k claims (slice_get-take n held k claims there);
+}
 
 -- ONE SESSION CHANGES, and what it holds
 pub change_held : (v t : View) (seat : ℕ) (held more : ℕ → List (List VersionWritten)) → t.opening ≡ v.opening → ((q : ℕ) → q ≢ seat → t.session q ≡ v.session q)
@@ -62,6 +103,17 @@ change_held v t seat held more opening others keeps own all q w session stand =
 pub record Keeps (v t : View) (held : ℕ → List (List VersionWritten)) : Type 0 where
   pub opening : t.opening ≡ v.opening
   pub all : AllMayGoBack v held → AllMayGoBack t held
+
+-- what the session holds then, and the others
+pub held_now : (saves : List (List (List VersionWritten))) (seat : ℕ) (own : List (List VersionWritten)) → seat < length saves → held_by (set saves seat own) seat ≡ own
+held_now saves seat own within = get_or-set_same saves seat own [] within
+
+pub held_else : (saves : List (List (List VersionWritten))) (seat : ℕ) (own : List (List VersionWritten)) (q : ℕ) → q ≢ seat → held_by (set saves seat own) q ≡ held_by saves q
+held_else saves seat own q another = get_or-set_other saves seat q own [] another
+
+-- the claims of a savepoint that is held
+pub saved_at : (held : List (List VersionWritten)) (place : ℕ) (saved : List VersionWritten) → saved ≡ get_or held place [] → place < length held → slice_get held place ≡ Some saved
+saved_at held place saved is within = slice_get-get_or held place [] within ∙ ap (λ (claims : List VersionWritten). Some claims) (sym is)
 
 -- IT HOLDS WHAT IT DID
 module _ (v t : View) (seat : ℕ) (held : ℕ → List (List VersionWritten)) where
@@ -149,6 +201,21 @@ kept_stands law p new stands now keeps = record {
   held = keeps.all stands.held;
 }
 
+-- as it is opened, where nothing is held
+none_held : (n seat : ℕ) → held_by (replicate n []) seat ≡ []
+none_held zero seat = refl
+none_held (suc n) zero = refl
+none_held (suc n) (suc seat) = none_held n seat
+
+pub opened_stands : {L : Type 0} (law : Law) (new : Lists L) (saves : List (List (List VersionWritten))) (sessions : ℕ) → lists.Stands law new → new.sessions ≡ sessions
+    → saves ≡ replicate (sessions + 1) [] → Stands law (record { lists = new; saves = saves })
+opened_stands law new saves sessions stands many none = record {
+  lists = stands;
+  room = let long = ap (λ (held : List (List (List VersionWritten))). length held) none ∙ length-replicate (sessions + 1) [] in omega (arith, long, many);
+  held = λ seat w session stand.
+      subst (λ (held : List (List VersionWritten)). MayGoBack w held) (sym (ap (λ (all : List (List (List VersionWritten))). held_by all seat) none ∙ none_held (sessions + 1) seat)) (may_begin w);
+}
+
 -- and with what one session holds as this
 pub holding_stands : {L : Type 0} (law : Law) (p : Plain L) (new : Lists L) (seat : ℕ) (own : List (List VersionWritten)) → Stands law p → lists.Stands law new
     → (lists_view new).opening ≡ (lists_view p.lists).opening → ((q : ℕ) → q ≢ seat → (lists_view new).session q ≡ (lists_view p.lists).session q) → seat < length p.saves
@@ -156,6 +223,6 @@ pub holding_stands : {L : Type 0} (law : Law) (p : Plain L) (new : Lists L) (sea
 holding_stands law p new seat own stands now opening others within may = record {
   lists = now;
   room = let many : new.sessions ≡ p.lists.sessions = ap (λ (o : Opening). o.sessions) opening in let room = stands.room in let long = length-set p.saves seat own in omega (arith, many, room, long);
-  held = change_held (lists_view p.lists) (lists_view new) seat (held_by p.saves) (held_by (set p.saves seat own)) opening others (λ q another. get_or-set_other p.saves seat q own [] another)
-      (λ w session stand. subst (λ (held : List (List VersionWritten)). MayGoBack w held) (sym (get_or-set_same p.saves seat own [] within)) (may w session stand)) stands.held;
+  held = change_held (lists_view p.lists) (lists_view new) seat (held_by p.saves) (held_by (set p.saves seat own)) opening others (held_else p.saves seat own)
+      (λ w session stand. subst (λ (held : List (List VersionWritten)). MayGoBack w held) (sym (held_now p.saves seat own within)) (may w session stand)) stands.held;
 }

@@ -1,5 +1,5 @@
 //! The world in lists, with the savepoints of its sessions' transactions.
-ghost use Rattle.std.specs.Prelude.{◌≡◌, ◌<◌, ◌≤◌, ℕ, IfOk, length};
+ghost use Rattle.std.specs.Prelude.{◌≡◌, ◌+◌, ◌<◌, ◌≤◌, ℕ, IfOk, length};
 ghost use Rattle.erm_model.specs.declared.limits.TheConstants.{LAST_RUN, MOST_CELLS, OID_LIMIT, SESSIONS, STOP};
 ghost use Rattle.erm_model.specs.History.{History, rank_of, rows_after};
 ghost use Rattle.erm_model.specs.SerialOrder.{IsSerialOrder};

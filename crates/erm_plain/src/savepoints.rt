@@ -1,6 +1,5 @@
 //! The savepoints that sessions hold.
-ghost use Rattle.std.specs.Prelude.{◌≡◌, ◌+◌, ◌<◌, ◌≤◌, [], ◌∷◌, ◌++◌, length, map, replicate, slice_get, slice_index_or, slice_set, take, IfOk, OnErr, OnOk};
-ghost use Rattle.std.specs.Option.{option_copied};
+ghost use Rattle.std.specs.Prelude.{◌≡◌, ◌+◌, ◌<◌, [], ◌∷◌, ◌++◌, length, map, replicate, slice_index_or, slice_set, take, IfOk, OnErr, OnOk};
 ghost use Rattle.erm_machine.specs.Decided.{written_of};
 
 use erm_machine::Claim;

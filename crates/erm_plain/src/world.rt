@@ -15,9 +15,9 @@ impl<L: RowLaw> RowWorld for Plain<L> {
 
     fn begin(&mut self, seat: Seat) -> Result<Stamp, BeginStop> {
         standing_worlds_have_laws::<L>();
-        let begin = self.lists.begin(seat)?;
+        let stamp = self.lists.begin(seat)?;
         self.saves.cut(seat, 0);
-        Ok(begin)
+        Ok(stamp)
     }
 
     fn phase(&self, seat: Seat) -> Phase {
@@ -55,10 +55,10 @@ impl<L: RowLaw> RowWorld for Plain<L> {
         if held >= SAVES {
             return Err(SaveStop::SavesFull { held: held as u32 });
         }
-        if self.saves.save(seat, self.lists.claims_made(seat)).is_err() {
-            return Err(SaveStop::Memory);
+        match self.saves.save(seat, self.lists.claims_made(seat)) {
+            Ok(()) => Ok(held as u32 + 1),
+            Err(_) => Err(SaveStop::Memory),
         }
-        Ok(held as u32 + 1)
     }
 
     fn back(&mut self, seat: Seat, n: u32) -> Result<(), NoSave> {

@@ -16,7 +16,7 @@ returns-clause-ok g c =
     let v = lists_view c.args.self.now.lists in
     let t = lists_view c.safe.new.self in
     let held = held_by c.args.self.now.saves in
-    on_ok_weaker c.safe.result _ _ (λ did. did_safe held v t c.args.seat did) c.safe.ensures.ok
+    on_ok_weaker c.safe.result (λ did. did_safe held v t c.args.seat did) c.safe.ensures.ok
 
 pub returns-clause-err : goal.returns-clause-err
 returns-clause-err g c =

@@ -1,6 +1,5 @@
-use Rattle.std.proofs.Common.{◌≡◌, Result, Ok, Err, OnErr, List, [], ◌∷◌, ◌++◌, get_or, map, ap, sym, ◌∙◌}
+use Rattle.std.proofs.Common.{Result, Ok, Err, OnErr, List, [], ◌∷◌, ◌++◌, get_or, map, ap, ◌∙◌}
 use Rattle.std.proofs.lemmas.List.{map-append}
-use Rattle.erm_machine.specs.Decided.{written_of}
 use Rattle.erm_model.specs.declared.history.VersionWritten.{VersionWritten}
 use Rattle.erm_plain.specs.Saves.{lists_of}
 use Rattle.erm_plain.proofs.Held.{means_at, means_set, means_still}

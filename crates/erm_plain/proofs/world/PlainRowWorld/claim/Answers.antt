@@ -17,7 +17,7 @@ returns-clause-ok g c =
     let v = lists_view c.args.self.now.lists in
     let t = lists_view c.claim.new.self in
     let held = held_by c.args.self.now.saves in
-    on_ok_weaker c.claim.result _ _ (λ did. did_claim held v t c.args.seat c.args.oid c.requires.active did) c.claim.ensures.ok
+    on_ok_weaker c.claim.result (λ did. did_claim held v t c.args.seat c.args.oid c.requires.active did) c.claim.ensures.ok
 
 pub returns-clause-err : goal.returns-clause-err
 returns-clause-err g c =

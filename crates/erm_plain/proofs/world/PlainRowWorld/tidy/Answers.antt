@@ -23,7 +23,7 @@ returns-clause-ok g c =
     let v = lists_view c.args.self.now.lists in
     let t = lists_view c.tidy.new.self in
     let held = held_by c.args.self.now.saves in
-    on_ok_weaker c.tidy.result _ _ (λ did. did_claim held v t c.args.seat c.args.oid c.requires.active did) c.tidy.ensures.ok
+    on_ok_weaker c.tidy.result (λ did. did_claim held v t c.args.seat c.args.oid c.requires.active did) c.tidy.ensures.ok
 
 pub returns-clause-count : goal.returns-clause-count
 returns-clause-count g c = none_cut c.tidy.result c.tidy.ensures.none

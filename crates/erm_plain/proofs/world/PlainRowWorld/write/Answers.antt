@@ -17,7 +17,7 @@ returns-clause-ok g c =
     let v = lists_view c.args.self.now.lists in
     let t = lists_view c.write.new.self in
     let held = held_by c.args.self.now.saves in
-    on_ok_weaker c.write.result _ _ (λ did. did_write held v t c.args.seat c.args.oid c.args.row.now c.requires.active did) c.write.ensures.ok
+    on_ok_weaker c.write.result (λ did. did_write held v t c.args.seat c.args.oid c.args.row.now c.requires.active did) c.write.ensures.ok
 
 pub returns-clause-err : goal.returns-clause-err
 returns-clause-err g c =
