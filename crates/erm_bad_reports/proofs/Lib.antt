@@ -5,6 +5,7 @@ pub mod OfCutWaits
 pub mod OfDecided
 pub mod OfFlushed
 pub mod OfGood
+pub mod OfGoodSaves
 pub mod OfLaterCommits
 pub mod OfLines
 pub mod OfLog
@@ -17,10 +18,12 @@ pub mod OfRefusals
 pub mod OfReplies
 pub mod OfSafeAtOnce
 pub mod OfSafeBegins
+pub mod OfSaves
 pub mod OfSnapshots
 pub mod OfStampParts
 pub mod OfStamps
 pub mod OfStampsOfTwo
+pub mod OfUndone
 pub mod OfUntold
 pub mod OfWaiting
 pub mod OfWatched

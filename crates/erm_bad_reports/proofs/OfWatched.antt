@@ -40,7 +40,7 @@ unnamed : (t : Transaction) (a b : Answer) → (names_none a || begins_none b) �
 unnamed t (answer.Owned seat number) b pass names = some_from_test (λ begin. t.begin ≤ begin) (λ begin. false) (λ begin is. absurd (cc is)) (begin_told b) pass
 unnamed t a b pass names = absurd names
 
-named_kept : (t : Transaction) (said : List Said) → pairs_pass (λ a b. not (a.session == b.session) || (names_none a.answer || begins_none b.answer)) said ≡ true
+pub named_kept : (t : Transaction) (said : List Said) → pairs_pass (λ a b. not (a.session == b.session) || (names_none a.answer || begins_none b.answer)) said ≡ true
     → AllInTime AtOnce (λ a b. Names a.answer t → IfSome (begin_told b.answer) (λ begin. t.begin ≤ begin)) said
 named_kept t said pass =
     all_pairs_from_test (λ a b. (a.session == b.session) ≡ true → Names a.answer t → IfSome (begin_told b.answer) (λ begin. t.begin ≤ begin))

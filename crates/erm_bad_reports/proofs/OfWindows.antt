@@ -42,7 +42,7 @@ low_of told t (Excludes None succ pred) tight = tt
 low_of told t (Excludes (Some stamp) succ pred) tight = tight.low
 low_of told t Aborts tight = tt
 
-lows_of : (told : List Transaction) → HaveTightWindows told → (t : Transaction) → t ∈ told → IsLowAt t.ending told t
+pub lows_of : (told : List Transaction) → HaveTightWindows told → (t : Transaction) → t ∈ told → IsLowAt t.ending told t
 lows_of told tight t at = low_of told t t.ending (tight t at)
 
 high_of : (told : List Transaction) (t : Transaction) (ending : Ending) → IsTightAt ending told t → IsHighAt ending told t
@@ -52,7 +52,7 @@ high_of told t (Excludes None succ pred) tight = tt
 high_of told t (Excludes (Some stamp) succ pred) tight = tight.high
 high_of told t Aborts tight = tt
 
-highs_of : (told : List Transaction) → HaveTightWindows told → (t : Transaction) → t ∈ told → IsHighAt t.ending told t
+pub highs_of : (told : List Transaction) → HaveTightWindows told → (t : Transaction) → t ∈ told → IsHighAt t.ending told t
 highs_of told tight t at = high_of told t t.ending (tight t at)
 
 -- ---- a predecessor stamp that is too low

@@ -7,4 +7,5 @@ pub mod ReaderCases
 pub mod Refused
 pub mod SafeAtOnceCases
 pub mod SafeCases
+pub mod SaveCases
 pub mod StampParts

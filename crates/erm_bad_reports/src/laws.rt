@@ -1,6 +1,7 @@
 //! Laws of reports that break one clause. Each holds as it stands, and its function does nothing.
-ghost use Rattle.erm_good_report.specs.GoodReport.{IsGoodReport};
-ghost use Rattle.erm_good_report.specs.Opening.{InTurn, Opening};
+ghost use Rattle.erm_good_at_once.specs.GoodAtOnce.{IsGoodAtOnce};
+ghost use Rattle.erm_good_report.specs.GoodReport.{IsGoodReport, IsTightReport};
+ghost use Rattle.erm_good_report.specs.Opening.{AtOnce, InTurn, Mode, Opening};
 ghost use Rattle.erm_report.specs.declared.answer.Answer.TheVariants as answer;
 ghost use Rattle.std.specs.Prelude.{ℕ, [], ◌+◌, ◌<◌};
 ghost use Rattle.erm_model.specs.declared.limits.TheConstants.{MOST_CELLS, SESSIONS};
@@ -19,6 +20,7 @@ ghost use Rattle.erm_bad_reports.specs.Refused.{NoneTellsCells, alone, answers_a
 ghost use Rattle.erm_bad_reports.specs.StampParts.{BreaksPartAlone, Differ, Least, Begun, Sealed, Begins, Draws, Ascends, Flushes, FlushesFirst, BeginsAscend, Stops, UntoldAfter, UntoldBefore, stamp_below_begin, sealed_with_another, begun_at_a_commit, begun_at_a_newer, drawn_below, drawn_within, begun_below_the_flushed, drawn_below_the_flushed, stamp_of_two, begins_fall, begun_at_the_stop, begun_above_untold, begun_below_untold};
 ghost use Rattle.erm_bad_reports.specs.SafeCases.{begin_moves, look_refused, reply_of_now, safe_at_a_commit, safe_at_last, safe_at_the_stop, safe_out_of_reach, safe_too_early, safe_behind_one_that_went_back, safe_below_the_flushed, safe_left_open, safes_fall, snapshot_behind, snapshot_left_out, snapshots_turned, unsafe_again, unsafe_by_no_turn, waits_for_idle};
 ghost use Rattle.erm_bad_reports.specs.SafeAtOnceCases.{BreaksRiseAlone, Watched, safe_at_one_met, safe_below_its_owner, safe_beside_one_that_went_back, waits_at_once};
+ghost use Rattle.erm_bad_reports.specs.SaveCases.{claim_stays, given_up, gone_back, held_from_before, lines_miscounted, lines_misread, new_key_undone, saved_idle, saved_safe, saved_sealed, undone_lines_forgotten, undone_was_left};
 ghost use Rattle.std.specs.List.{AllByRecursion};
 
 /// Lines: a line is missing; a number doesn't fit its type; an answer is missing; a session that is active isn't closed, nor one that has a safe
@@ -183,4 +185,30 @@ pub fn places_are_needed()
 /// ends, is good.
 pub fn snapshots_may_be_good()
     ensures { IsGoodReport safe_at_last.mode safe_at_last.opening safe_at_last.names safe_at_last.script (lines_of safe_at_last) }
+{}
+
+/// Savepoints, of lines that are run in turn and of sessions at once: they are counted wrongly, or outlive their transaction; a get is answered an undone
+/// value, or not the one that the key had at the savepoint, or as if a refused way back had undone a put; an undone value is left in the map; one is made
+/// by a session without a transaction, by one that is sealed, and by a snapshot that only reads; and a window is told as if an undone get were no read,
+/// and an undone put overwrote nothing.
+pub fn savepoints_are_needed()
+    ensures counts { (mode : Mode) → AllByRecursion (λ lines. BreaksAlone Refusals (given_up mode lines)) lines_miscounted }
+    ensures ends { (mode : Mode) → BreaksAlone Refusals (held_from_before mode) }
+    ensures replies { (mode : Mode) → AllByRecursion (λ lines. BreaksAlone Snapshots (given_up mode lines)) lines_misread }
+    ensures left { (mode : Mode) → BreaksAlone Runs (undone_was_left mode) }
+    ensures idle { (mode : Mode) → BreaksAlone Phases (saved_idle mode) }
+    ensures sealed { (mode : Mode) → BreaksAlone Phases (saved_sealed mode) }
+    ensures safe { (mode : Mode) → BreaksAlone Phases (saved_safe mode) }
+    ensures windows { (mode : Mode) → BreaksAlone HighEnds (undone_lines_forgotten mode) }
+{}
+
+/// Reports with savepoints may be good, and their windows tight, in turn and at once: of a transaction that goes back, and reads what it read before; of one
+/// whose put is undone, and still refuses that of another session; and of one whose put of a new key is undone, which makes no record.
+pub fn savepoints_may_be_good()
+    ensures back { (mode : Mode) → IsTightReport mode (gone_back mode).opening (gone_back mode).names (gone_back mode).script (lines_of (gone_back mode)) }
+    ensures claims { (mode : Mode) → IsTightReport mode (claim_stays mode).opening (claim_stays mode).names (claim_stays mode).script (lines_of (claim_stays mode)) }
+    ensures undone { (mode : Mode) → IsTightReport mode (new_key_undone mode).opening (new_key_undone mode).names (new_key_undone mode).script (lines_of (new_key_undone mode)) }
+    ensures back_at_once { IsGoodAtOnce (gone_back AtOnce).opening (gone_back AtOnce).names (gone_back AtOnce).script (lines_of (gone_back AtOnce)) }
+    ensures claims_at_once { IsGoodAtOnce (claim_stays AtOnce).opening (claim_stays AtOnce).names (claim_stays AtOnce).script (lines_of (claim_stays AtOnce)) }
+    ensures undone_at_once { IsGoodAtOnce (new_key_undone AtOnce).opening (new_key_undone AtOnce).names (new_key_undone AtOnce).script (lines_of (new_key_undone AtOnce)) }
 {}

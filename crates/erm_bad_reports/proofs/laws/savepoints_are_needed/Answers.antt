@@ -1,0 +1,27 @@
+use Rattle.erm_bad_reports.proofs.OfSaves.{miscounted, misread}
+use Rattle.erm_bad_reports.proofs.OfUndone.{forgotten_breaks, held_breaks, idle_breaks, left_breaks, reader_breaks, sealed_breaks}
+use Rattle.erm_bad_reports.proofs.laws.savepoints_are_needed.Goals as goal
+
+pub returns-clause-counts : goal.returns-clause-counts
+returns-clause-counts c = miscounted
+
+pub returns-clause-ends : goal.returns-clause-ends
+returns-clause-ends c = held_breaks
+
+pub returns-clause-replies : goal.returns-clause-replies
+returns-clause-replies c = misread
+
+pub returns-clause-left : goal.returns-clause-left
+returns-clause-left c = left_breaks
+
+pub returns-clause-idle : goal.returns-clause-idle
+returns-clause-idle c = idle_breaks
+
+pub returns-clause-sealed : goal.returns-clause-sealed
+returns-clause-sealed c = sealed_breaks
+
+pub returns-clause-safe : goal.returns-clause-safe
+returns-clause-safe c = reader_breaks
+
+pub returns-clause-windows : goal.returns-clause-windows
+returns-clause-windows c = forgotten_breaks
