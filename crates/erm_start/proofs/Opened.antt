@@ -1,7 +1,7 @@
 -- The view and the log of a world that was just opened.
-use Rattle.std.proofs.Common.{◌≡◌, ℕ, ◌+◌, ◌-◌, ◌<◌, ◌≤◌, Result, Ok, Err, IfOk, ◌⊎◌, Bool, true, false, if◌then◌else◌, [], None, inl, inr, refl, sym, ap, ◌∙◌, subst, arith}
-use Rattle.std.proofs.lemmas.Bool.{cases_lt, lt-ltb}
-use Rattle.erm_model.specs.declared.limits.TheConstants.{LEAST_BLOCK, MOST_CELLS, OID_LIMIT, TABLES}
+use Rattle.std.proofs.Common.{◌≡◌, ℕ, ◌≤◌, Result, Ok, Err, IfOk, Bool, true, false, if◌then◌else◌, [], None, refl, sym, ◌∙◌, subst, arith}
+use Rattle.std.proofs.lemmas.Bool.{lt-ltb}
+use Rattle.erm_model.specs.declared.limits.TheConstants.{MOST_CELLS, OID_LIMIT}
 use Rattle.erm_model.specs.Rows.{Rows}
 use Rattle.erm_model.specs.RowTransaction.{SameRows}
 use Rattle.erm_machine.specs.declared.limits.TheConstants.{FLUSH_SEAT}
@@ -15,7 +15,6 @@ use Rattle.erm_world.specs.Laws.{IsSerializable}
 use Rattle.erm_world.specs.World as world
 use Rattle.erm_world.specs.World.{View}
 use Rattle.erm_core.specs.Cores.{core_of}
-use Rattle.erm_lines.specs.Executions.{is_zero}
 use Rattle.erm_world.proofs.Restored.{AreSavesOf-none}
 use Rattle.erm_world.proofs.WithSaves.{serializable}
 use Rattle.erm_lists.specs.Stands.{lists_view}

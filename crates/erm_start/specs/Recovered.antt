@@ -1,5 +1,5 @@
 -- A world on rows that were recovered.
-use Rattle.std.specs.Prelude.{◌≡◌, ℕ, ◌+◌, ◌-◌, ◌<◌, ◌≤◌, true, false, [], None}
+use Rattle.std.specs.Prelude.{◌≡◌, ℕ, ◌-◌, ◌<◌, ◌≤◌, true, false, [], None}
 use Rattle.erm_model.specs.declared.limits.TheConstants.{MOST_CELLS, OID_LIMIT, TABLES}
 use Rattle.erm_model.specs.Rows.{Rows}
 use Rattle.erm_model.specs.RowTransaction.{SameRows}
