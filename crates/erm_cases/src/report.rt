@@ -19,6 +19,8 @@ const DONE: &[u8] = b"7 value 00ff
 7 pairs 2 10 aa 20 -
 7 pairs 0
 7 cut 1
+7 saved 1
+7 back 4294967295
 7 begin 13
 7 safe 38
 7 sealed 18
@@ -51,6 +53,8 @@ const REFUSED: &[u8] = b"8 not idle
 8 writes full
 8 cells full 65536
 8 oids full 16384
+8 saves full
+8 no save 0
 8 not flushed 13
 8 no receipt
 8 unfilled 69
@@ -120,6 +124,8 @@ fn done(alloc: Global) -> Result<Text, AllocError> {
         seventh(Answer::Replied(Reply::Found(found))),
         seventh(Answer::Replied(Reply::Found(Pairs::new(Vec::new(alloc))))),
         seventh(Answer::Cut(1)),
+        seventh(Answer::Saved { held: 1 }),
+        seventh(Answer::Back { n: u32::MAX }),
         seventh(Answer::Began(13)),
         seventh(Answer::Safe(38)),
         seventh(Answer::Sealed(18)),
@@ -172,6 +178,8 @@ fn refusals(alloc: Global) -> Result<Text, AllocError> {
         eighth(Answer::WritesFull),
         eighth(Answer::CellsFull { drawn: 65_536 }),
         eighth(Answer::OidsFull { drawn: 16_384 }),
+        eighth(Answer::SavesFull),
+        eighth(Answer::NoSave { held: 0 }),
         eighth(Answer::NotFlushed { flushed: 13 }),
         eighth(Answer::NoReceipt),
         eighth(Answer::Unfilled(69)),

@@ -47,13 +47,15 @@ b commit
 b abort
 a durable
 checkpoint
-a safe";
+a safe
+a save
+a back 4294967295";
 
 // A command in short: a letter for its kind, its table, and its numbers.
 type Short = (u8, u8, u64, u64);
 
 // The number of each line that is not skipped, its session, and its command.
-const PLACES: [(u32, Seat, Short); 16] = [
+const PLACES: [(u32, Seat, Short); 18] = [
     (2, 1, (b'b', 0, 0, 0)),
     (3, 2, (b'b', 0, 0, 0)),
     (5, 2, (b'g', 0, 1, 0)),
@@ -70,10 +72,12 @@ const PLACES: [(u32, Seat, Short); 16] = [
     (16, 2, (b'L', 0, 0, 0)),
     (17, NO_SESSION, (b'K', 0, 0, 0)),
     (18, 2, (b'W', 0, 0, 0)),
+    (19, 2, (b'V', 0, 0, 0)),
+    (20, 2, (b'B', 0, 4_294_967_295, 0)),
 ];
 
 // Lines, and the kind of fault of each.
-const LINES: [(&[u8], Grammar, Option<FaultKind>); 49] = [
+const LINES: [(&[u8], Grammar, Option<FaultKind>); 61] = [
     (b"flush", ALL, None),
     (b"checkpoint", ALL, None),
     (b"flush begin", ALL, None),
@@ -86,6 +90,11 @@ const LINES: [(&[u8], Grammar, Option<FaultKind>); 49] = [
     (b"a get 0 1", THREADS, None),
     (b"a durable", THREADS, None),
     (b"a safe", THREADS, None),
+    (b"a save", ALL, None),
+    (b"a save", THREADS, None),
+    (b"a save", FEW, None),
+    (b"a back 0", ALL, None),
+    (b"a back 4294967295", THREADS, None),
     (b"a get 0 1", FEW, None),
     (b"flush", THREADS, Some(FaultKind::Threads)),
     (b"checkpoint", THREADS, Some(FaultKind::Threads)),
@@ -107,6 +116,7 @@ const LINES: [(&[u8], Grammar, Option<FaultKind>); 49] = [
     (b"a tidy 0 1", FEW, Some(FaultKind::Command)),
     (b"a durable", FEW, Some(FaultKind::Command)),
     (b"safe", ALL, Some(FaultKind::Command)),
+    (b"save", ALL, Some(FaultKind::Command)),
     (b"a get 0", ALL, Some(FaultKind::Args)),
     (b"a next 0", ALL, Some(FaultKind::Args)),
     (b"a scan 0 1", ALL, Some(FaultKind::Args)),
@@ -114,9 +124,15 @@ const LINES: [(&[u8], Grammar, Option<FaultKind>); 49] = [
     (b"a tidy 0 1 2", ALL, Some(FaultKind::Args)),
     (b"a durable 0", ALL, Some(FaultKind::Args)),
     (b"a safe 0", ALL, Some(FaultKind::Args)),
+    (b"a save 1", ALL, Some(FaultKind::Args)),
+    (b"a back", ALL, Some(FaultKind::Args)),
+    (b"a back 1 x", ALL, Some(FaultKind::Args)),
     (b"a put 16 abc", ALL, Some(FaultKind::Args)),
     (b"a get 16 1", ALL, Some(FaultKind::Number)),
     (b"a next 0 01", ALL, Some(FaultKind::Number)),
+    (b"a back 01", ALL, Some(FaultKind::Number)),
+    (b"a back 4294967296", ALL, Some(FaultKind::Number)),
+    (b"a back 18446744073709551616", ALL, Some(FaultKind::Number)),
     (b"a scan 0 1 x", ALL, Some(FaultKind::Number)),
     (b"a scan 16 1 2", ALL, Some(FaultKind::Number)),
     (b"a put 16 1 abc", ALL, Some(FaultKind::Number)),
@@ -211,6 +227,8 @@ fn short(command: &Command) -> Short {
         Command::Durable => (b'L', 0, 0, 0),
         Command::Checkpoint => (b'K', 0, 0, 0),
         Command::Safe => (b'W', 0, 0, 0),
+        Command::Save => (b'V', 0, 0, 0),
+        Command::Back { n } => (b'B', 0, u64::from(*n), 0),
     }
 }
 

@@ -1,4 +1,5 @@
-//! Three reports by hand: write skew, one whose serial order is not that of the stamps, and one of a snapshot that only reads.
+//! Four reports by hand: write skew, one whose serial order is not that of the stamps, one of a snapshot that only reads, and one of a
+//! transaction that goes back to its savepoints.
 ghost use Rattle.std.specs.Prelude.{◌≤◌, IfOk, length};
 
 use crate::lines::{text_of, value};
@@ -150,6 +151,51 @@ pair 0 20 bb
 end
 ";
 
+// A transaction that goes back to its second savepoint, to none, and to its first.
+const BACK: &[u8] = b"a begin
+a put 0 10 aa
+a commit
+a begin
+a put 0 10 b1
+a save
+a put 0 10 c1
+a put 0 20 c2
+a save
+a del 0 10
+a back 2
+a get 0 10
+a back 3
+a back 1
+a put 0 30 d3
+a commit
+";
+
+const BACK_REPORT: &[u8] = b"open 8 run 1
+1 begin 13
+2 ok
+3 committed 13 succ 13 pred 0
+4 begin 33
+5 ok
+6 saved 1
+7 ok
+8 ok
+9 saved 2
+10 ok
+11 back 2
+12 value c1
+13 no save 2
+14 back 1
+15 ok
+16 committed 33 succ 33 pred 13
+order 2
+commit a 1 stamp 13 succ 13 pred 0
+commit a 2 stamp 33 succ 33 pred 13
+map 2
+pair 0 10 b1
+pair 0 30 d3
+end
+";
+
 fn found(bytes: &[u8]) -> Answer
     requires { length bytes.now ≤ VALUE_BYTES }
 {
@@ -227,6 +273,27 @@ fn safe_answers() -> [Answer; 11] {
     ]
 }
 
+fn back_answers() -> [Answer; 16] {
+    [
+        Answer::Began(13),
+        done(),
+        committed(13, 13, 0),
+        Answer::Began(33),
+        done(),
+        Answer::Saved { held: 1 },
+        done(),
+        done(),
+        Answer::Saved { held: 2 },
+        done(),
+        Answer::Back { n: 2 },
+        found(b"\xc1"),
+        Answer::NoSave { held: 2 },
+        Answer::Back { n: 1 },
+        done(),
+        committed(33, 33, 13),
+    ]
+}
+
 fn three_closed() -> [ClosedSession; 2] {
     [
         ClosedSession {
@@ -296,6 +363,14 @@ fn a_snapshot_in_its_place(rt: HostRuntime) -> Result<(), Fail> {
     let answers = Vec::from_array(rt.alloc(), safe_answers())?;
     let text = report_from_empty(rt.alloc(), SAFE, answers)?;
     assert_eq!(rt; text.as_slice(), SAFE_REPORT);
+    Ok(())
+}
+
+#[test]
+fn what_stays_of_a_transaction(rt: HostRuntime) -> Result<(), Fail> {
+    let answers = Vec::from_array(rt.alloc(), back_answers())?;
+    let text = report_from_empty(rt.alloc(), BACK, answers)?;
+    assert_eq!(rt; text.as_slice(), BACK_REPORT);
     Ok(())
 }
 
