@@ -75,7 +75,7 @@ module _ (keys : KeyLaws) (laws : Laws) (histories : HistoryLaws) (begun : NoneR
   first_marks seat session = subst (λ (s : Session). AreMarks nothing (v.saves seat) s) (sym (run.opened.idle seat session)) (record { over = refl; now = tt })
 
   -- each session's transactions, as they are told
-  held : (seat : ℕ) → IsSession f seat → List (List VersionWritten)
+  abbrev held : (seat : ℕ) → IsSession f seat → List (List VersionWritten)
   held seat session = (run.own seat (session_first seat session)).last.saves seat
 
   marks : (seat : ℕ) (session : IsSession f seat) → AreMarks (progress_of seat said) (held seat session) (f.session seat)
