@@ -181,6 +181,8 @@ module _ (seat tail flushed : ℕ) (b e : Book) (start : e.start ≡ b.start) (h
         tail = refl;
         flushed = refl;
         pinned = refl;
+        saves = λ active. refl;
+        saves_of_others = λ q other. refl;
       })).session seat
 
   -- WHAT IS CLAIMED

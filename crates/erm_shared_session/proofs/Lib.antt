@@ -4,8 +4,10 @@ pub mod Claimed
 pub mod Claiming
 pub mod Excluded
 pub mod Full
+pub mod GoingBack
 pub mod Handing
 pub mod Leaving
+pub mod Lifts
 pub mod Looks
 pub mod Making
 pub mod Meeting
@@ -16,6 +18,7 @@ pub mod Reading
 pub mod ReadingBack
 pub mod Refused
 pub mod Results
+pub mod Saved
 pub mod Sealing
 pub mod Settling
 pub mod SnapshotBegins

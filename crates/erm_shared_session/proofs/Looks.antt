@@ -14,7 +14,7 @@ use Rattle.erm_machine.specs.Sound.{Sound}
 use Rattle.erm_machine.specs.Step.{after_event}
 use Rattle.erm_machine.proofs.Guards.{either_way}
 use Rattle.erm_core_stays.specs.Staying.{Rises}
-use Rattle.erm_core_view.specs.Views.{finished_of, session_of, stand_of}
+use Rattle.erm_core_view.specs.Views.{finished_of, session_of}
 use Rattle.erm_rule.specs.declared.view.Book.{Book}
 use Rattle.erm_rule.specs.Books.{IsAfter, IsBookOf, WasFlushed}
 use Rattle.erm_rule.specs.Views.{part_in, part_of}

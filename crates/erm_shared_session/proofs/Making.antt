@@ -102,6 +102,8 @@ module _ (law : Law) (seat tail flushed : ℕ) (b e : Book) (start : e.start ≡
         tail = did.tail;
         flushed = did.flushed;
         pinned = did.pinned;
+        saves = λ active. refl;
+        saves_of_others = λ q other. refl;
       } in
       (world_goes own next seat goes).session seat
 

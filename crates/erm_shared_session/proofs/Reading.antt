@@ -244,6 +244,8 @@ module _ (law : Law) (seat tail flushed : ℕ) (b : Book) (may : MayCall law sea
           tail = shows.tail;
           flushed = shows.flushed;
           pinned = shows.pinned;
+          saves = λ now_active. refl;
+          saves_of_others = λ q other. refl;
         } in
         record { did = calls.first r.read.stamp (is_unclaimed none) (is_unread not_read) r.few shows; later = (world_goes own next seat goes).session seat }
 
@@ -347,6 +349,8 @@ module _ (law : Law) (seat tail flushed : ℕ) (b : Book) (may : MayCall law sea
             tail = (done tail).tail;
             flushed = (done tail).flushed;
             pinned = (done tail).pinned;
+            saves = λ now_active. refl;
+            saves_of_others = λ q other. refl;
           } in
           record {
             more = grind arith;

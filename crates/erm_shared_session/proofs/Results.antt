@@ -1,5 +1,5 @@
 -- What is told of answers that are errors.
-use Rattle.std.proofs.Common.{◌≢◌, ℕ, Result, Ok, Err, IfErr, subst}
+use Rattle.std.proofs.Common.{◌≢◌, ℕ, Result, Ok, Err, IfErr, IfOk, subst}
 use Rattle.erm_model.specs.declared.outcome.Outcome.{Outcome}
 use Rattle.erm_model.specs.RowTransaction.{Law}
 use Rattle.erm_precommit.specs.declared.answer.Wait as answer
@@ -31,3 +31,8 @@ pub not_settled : (law : Law) (who : ℕ) (b e : Book) (r : Result Outcome answe
 not_settled law who b e (Ok outcome) took = tt
 not_settled law who b e (Err (found.Ring at)) took = took
 not_settled law who b e (Err (found.Seat seat seen)) took = took
+
+-- of an answer of which two things are told
+pub both_ok : {X E : Type 0} (r : Result X E) (P Q R : X → Type 0) → ((x : X) → P x → Q x → R x) → IfOk r P → IfOk r Q → IfOk r R
+both_ok (Ok x) P Q R gives first second = gives x first second
+both_ok (Err why) P Q R gives first second = tt

@@ -153,6 +153,7 @@ module _ (law : Law) (seat tail flushed stamp : ℕ) (b e : Book) (may : MayCall
         flushed = refl;
         pinned = refl;
         given_up = becomes.given_up;
+        saves = λ q other. refl;
       } in
       let low = met in
       let goes = took_goes law seat ((kind.StoreState stamp, took.last) ∷ (kind.AddTail size, stamp) ∷ (kind.StoreState 1, took.first) ∷ []) b e took.took in

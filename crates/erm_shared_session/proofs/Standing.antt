@@ -34,7 +34,7 @@ use Rattle.erm_own_view.specs.Own.{EndsIn, MayCall, own_view}
 use Rattle.erm_own_view.proofs.Own.{own_is}
 use Rattle.erm_table_world.proofs.Sessions.{phase_shown, stage_between}
 use Rattle.erm_shared_session.specs.declared.session.TableSession.{TableSession}
-use Rattle.erm_shared_session.specs.Stands.{Ends, Stands, own_of, seat_of}
+use Rattle.erm_shared_session.specs.Stands.{Ends, Stands, bare_of, seat_of}
 
 -- A SESSION has its seat.
 pub active_held : (pl : Place) → is_active pl ≡ true → is_vacant pl ≡ false
@@ -63,7 +63,7 @@ session_between s b seat is known =
     stage_between s.stage x is.kept.stage (subst (λ (y : Part). TaskFits y.place y.current y.task) here (known.sound.own seat).task.fits)
 
 -- THE CALL. What it may ask of what the session knows.
-pub own_phase : {L : Type 0} (s : TableSession L) → IsSession s.session (part_of (view s.pass) s.session.seat) → phase_of s.session.stage ≡ phase_at (own_of s) (seat_of s)
+pub own_phase : {L : Type 0} (s : TableSession L) → IsSession s.session (part_of (view s.pass) s.session.seat) → phase_of s.session.stage ≡ phase_at (bare_of s) (seat_of s)
 own_phase s is =
     phase_shown s.session.stage (part_of (view s.pass) s.session.seat) is.kept.stage
     ∙ sym (ap (λ (r : world.Session). world.phase_of r.stand) (own_is s.session.seat s.tail s.flushed (book s.pass)))
@@ -74,8 +74,8 @@ active_stand (world.active w) active = refl
 active_stand (world.sealed w stamp) active = absurd (cc)
 active_stand (world.snapshot s) active = absurd (snapshot_not_active s active)
 
-pub own_active : {L : Type 0} (s : TableSession L) → phase_at (own_of s) (seat_of s) ≡ phase.Active → ((own_of s).session (seat_of s)).stand ≡ world.active (world.work_of ((own_of s).session (seat_of s)).stand)
-own_active s active = active_stand ((own_of s).session (seat_of s)).stand active
+pub own_active : {L : Type 0} (s : TableSession L) → phase_at (bare_of s) (seat_of s) ≡ phase.Active → ((bare_of s).session (seat_of s)).stand ≡ world.active (world.work_of ((bare_of s).session (seat_of s)).stand)
+own_active s active = active_stand ((bare_of s).session (seat_of s)).stand active
 
 idle_stand : (st : Stand) → world.phase_of st ≡ phase.Idle → st ≡ world.idle
 idle_stand world.idle idle = refl
@@ -83,11 +83,11 @@ idle_stand (world.active w) idle = absurd (cc)
 idle_stand (world.sealed w stamp) idle = absurd (cc)
 idle_stand (world.snapshot s) idle = absurd (snapshot_not_idle s idle)
 
-pub own_idle : {L : Type 0} (s : TableSession L) → phase_at (own_of s) (seat_of s) ≡ phase.Idle → ((own_of s).session (seat_of s)).stand ≡ world.idle
-own_idle s idle = idle_stand ((own_of s).session (seat_of s)).stand idle
+pub own_idle : {L : Type 0} (s : TableSession L) → phase_at (bare_of s) (seat_of s) ≡ phase.Idle → ((bare_of s).session (seat_of s)).stand ≡ world.idle
+own_idle s idle = idle_stand ((bare_of s).session (seat_of s)).stand idle
 
 -- the own view after a call, where the session keeps its seat
-pub own_at : {L : Type 0} (s t : TableSession L) → t.session.seat ≡ s.session.seat → own_of t ≡ own_view s.session.seat t.tail t.flushed (book t.pass)
+pub own_at : {L : Type 0} (s t : TableSession L) → t.session.seat ≡ s.session.seat → bare_of t ≡ own_view s.session.seat t.tail t.flushed (book t.pass)
 own_at s t same = ap (λ (n : ℕ). own_view n t.tail t.flushed (book t.pass)) same
 
 abbrev pub IsSeen : ℕ → ℕ → Book → Type 0

@@ -3,12 +3,15 @@ ghost use Rattle.std.specs.Prelude.{◌≡◌, ◌≢◌, ◌<◌, ◌≤◌, �
 ghost use Rattle.erm_beside.specs.Calls.{After, DidBeginBeside, DidSettleBeside, MayNotBeginBeside, NotClaimedBeside, NotMadeBeside, NotReadBeside, NotSettledBeside, Passes};
 ghost use Rattle.erm_beside.specs.Ends.{MetBeside};
 ghost use Rattle.erm_beside.specs.Laws.{GoesOnward};
+ghost use Rattle.erm_beside.proofs.Saved.{sound_with, within_with};
 ghost use Rattle.erm_model.specs.declared.limits.TheConstants.{OID_LIMIT, STOP};
 ghost use Rattle.erm_model.specs.declared.outcome.Phase.TheVariants.{Active, Idle, Sealed};
 ghost use Rattle.erm_model.specs.declared.row_stop.RowStop.TheVariants as stops;
 ghost use Rattle.erm_model.specs.RowTransaction.{asked_claim, asked_make, asked_read};
 ghost use Rattle.erm_own_view.specs.Own.{MayCall, own_view};
 ghost use Rattle.erm_own_view.proofs.Lawful.{ends_last, own_views_end, own_views_sound};
+ghost use Rattle.erm_own_view.proofs.Own.{own_is};
+ghost use Rattle.erm_table_world.proofs.Told.{told_claimed, told_few};
 ghost use Rattle.erm_rows.specs.Claims.{TellsCount};
 ghost use Rattle.erm_rows.specs.Reads.{WasOwnerMet};
 ghost use Rattle.erm_ring.specs.Turns.{MayGather};
@@ -16,13 +19,17 @@ ghost use Rattle.erm_rule.specs.Books.{WasFlushed, book, both_books};
 ghost use Rattle.erm_rule.specs.Steps.{Fits};
 ghost use Rattle.erm_rule.specs.Views.{MayJoin, part_of, view};
 ghost use Rattle.erm_seats.specs.Took.{TookBegin};
+ghost use Rattle.erm_rule.specs.Went.{Went};
+ghost use Rattle.erm_session.specs.Saving.{IsBackStep};
 ghost use Rattle.erm_session.specs.Session.{IsSession};
 ghost use Rattle.erm_session.specs.Took.{TookAnyTidy, TookClaimStop, TookNoObject, TookReadStop};
-ghost use Rattle.erm_shared_session.specs.Stands.{Ends, Stands, own_of, seat_of};
+ghost use Rattle.erm_shared_session.specs.Stands.{Ends, Stands, bare_of, own_of, own_saves, seat_of, seat_saves};
 ghost use Rattle.erm_shared_session.specs.Waits.{TookNoSettle, WasLookedAt};
 ghost use Rattle.erm_world.specs.Calls.{DidAbort, DidClaim, DidMake, DidRead, DidSeal, DidWrite};
 ghost use Rattle.erm_world.specs.Laws.{IsLawfulWork};
+ghost use Rattle.erm_world.specs.Saves.{DidNotSave, DidSave, HasNoSave, WentBack, with_saves};
 ghost use Rattle.erm_world.specs.World.{View, phase_at, work_at};
+ghost use Rattle.erm_world.specs.declared.stops.SaveStop.TheVariants as save_stops;
 ghost use Rattle.erm_world.specs.declared.stops.BeginStop.TheVariants as begin_stops;
 
 use crate::met::{done_of, flushed_after, flushed_met, settled_of, tail_after, tail_met};
@@ -30,7 +37,7 @@ use erm_beside::SharedSession;
 use erm_model::{Oid, Outcome, Phase, Receipt, Row, RowLaw, RowStop, Stamp};
 use erm_rule::{Pass, Table, join};
 use erm_session::Session;
-use erm_world::{BeginStop, NotFlushed, Wait};
+use erm_world::{BeginStop, NoSave, NotFlushed, SaveStop, Wait};
 use std::marker::PhantomData;
 
 /// A session of the word table, with the pass of its seat alone. Its rows keep the law of `L`. It can't be let go: one that is idle gives its
@@ -58,7 +65,7 @@ impl<L: RowLaw> TableSession<L> {
         requires session { IsSession session (part_of (view pass) session.seat) }
         requires may { MayCall L.law session.seat tail flushed (book pass) }
         ensures stands { Stands L.law _shared.now result }
-        ensures own { own_of result ≡ own_view session.seat tail flushed (book pass) }
+        ensures own { own_of result ≡ with_saves (seat_saves session (part_of (view pass) session.seat)) (own_view session.seat tail flushed (book pass)) }
         ensures seat { seat_of result ≡ session.seat }
     {
         TableSession {
@@ -276,6 +283,37 @@ impl<L: RowLaw> SharedSession for TableSession<L> {
         tidied
     }
 
+    /// Saves the rows of the transaction's claims as they are, as one savepoint more, eight at most: how many it holds then. They end with the
+    /// transaction. It takes no memory, and looks at nothing that is shared.
+    fn save(&mut self, _shared: &Table<L>) -> Result<u32, SaveStop>
+        requires stands { Stands L.law _shared.now self.old }
+        requires active { phase_at (own_of self.old) (seat_of self.old) ≡ Active }
+        ensures stands { Stands L.law _shared.now self.new }
+        ensures onward { GoesOnward (seat_of self.old) (seat_of self.new) (Ends L.law self.old) (Ends L.law self.new) }
+        ensures ok { IfOk result (λ held. After (seat_of self.old) (λ u t. DidSave u (seat_of self.old) held t) (own_of self.old) (own_of self.new)) }
+        ensures err { IfErr result (λ stop. After (seat_of self.old) (λ u t. DidNotSave u (seat_of self.old) stop t) (own_of self.old) (own_of self.new)) }
+        ensures memory { IfErr result (λ stop. stop ≢ save_stops.Memory) }
+        ensures pass { self.new.pass ≡ self.old.pass }
+    {
+        self.session.save()
+    }
+
+    /// Goes back to the savepoint of this number, from 1: each row claimed since is that of the version overwritten, and each one claimed
+    /// before is as it was then. The savepoints made since are gone, and this one stays. No claim is given up, and what was read or made
+    /// stays so. Words of the cells of its own claims alone are stored.
+    fn back(&mut self, shared: &Table<L>, n: u32) -> Result<(), NoSave>
+        requires stands { Stands L.law shared.now self.old }
+        requires active { phase_at (own_of self.old) (seat_of self.old) ≡ Active }
+        ensures stands { Stands L.law shared.now self.new }
+        ensures onward { GoesOnward (seat_of self.old) (seat_of self.new) (Ends L.law self.old) (Ends L.law self.new) }
+        ensures ok { OnOk result (After (seat_of self.old) (λ u t. WentBack u (seat_of self.old) n t) (own_of self.old) (own_of self.new)) }
+        ensures err { IfErr result (λ stop. After (seat_of self.old) (λ u t. HasNoSave u (seat_of self.old) n stop.held t) (own_of self.old) (own_of self.new)) }
+        ensures took { Went L.law (seat_of self.old) IsBackStep (book self.old.pass) (book self.new.pass) }
+    {
+        erm_own_view::own_views_go_on::<L>();
+        self.session.back(shared, &mut self.pass, n)
+    }
+
     /// Seals the transaction: its commit stamp, the place of the log, in words, where its block begins. The transaction keeps the law of
     /// rows.
     fn seal(&mut self, shared: &Table<L>) -> Stamp
@@ -341,11 +379,14 @@ impl<L: RowLaw> SharedSession for TableSession<L> {
         self.session.abort(shared, &mut self.pass);
     }
 
-    ghost sound = { λ table s standing. own_views_sound L.law s.session.seat s.tail s.flushed (book s.pass) standing.may };
+    ghost sound = { λ table s standing. sound_with (own_saves s) L.law (bare_of s) (seat_of s)
+        (λ active. told_claimed s.session (part_of (view s.pass) s.session.seat) standing.session (bare_of s) (own_is s.session.seat s.tail s.flushed (book s.pass)) active)
+        (λ active. told_few s.session (part_of (view s.pass) s.session.seat) standing.session (bare_of s) (own_is s.session.seat s.tail s.flushed (book s.pass)) active)
+        (own_views_sound L.law s.session.seat s.tail s.flushed (book s.pass) standing.may) };
 
-    ghost within = { λ s f end. end.within };
+    ghost within = { λ s f end. within_with (own_saves s) (seat_of s) (bare_of s) f end.within };
 
     ghost some = { λ table s standing. own_views_end L.law s.session.seat s.tail s.flushed (book s.pass) standing.may };
 
-    ghost lasting = { λ s f end. ends_last L.law s.session.seat (book s.pass) (own_of s) f end };
+    ghost lasting = { λ s f end. ends_last L.law s.session.seat (book s.pass) (bare_of s) f end };
 }

@@ -51,7 +51,7 @@ slice_get_none (s ∷ ss) zero is = absurd (cc)
 slice_get_none (s ∷ ss) (suc k) is = let rest = slice_get_none ss k is in omega (arith, rest)
 
 -- the session of a seat whose transaction has gone back
-back_session : (x : Part) (t : Task) (saved : List (Option (List ℕ))) → is_active x.place ≡ true → is_snapshot t ≡ false
+pub back_session : (x : Part) (t : Task) (saved : List (Option (List ℕ))) → is_active x.place ≡ true → is_snapshot t ≡ false
     → session_of (with_writes t (claims_back saved x.current.writes) x)
     ≡ record { over = (session_of x).over; stand = world.active (with_claims (restored (claims_saved saved (work_of x.current).claims) (work_of x.current).claims) (work_of x.current)) }
 back_session x t saved active plain =

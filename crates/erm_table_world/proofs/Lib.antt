@@ -24,6 +24,7 @@ pub mod Still
 pub mod Surveying
 pub mod Taking
 pub mod Tidying
+pub mod Told
 pub mod TurnClears
 pub mod TurnGathers
 pub mod TurnPins

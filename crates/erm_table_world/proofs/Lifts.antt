@@ -27,10 +27,10 @@ module _ (f g : ℕ → List (List VersionWritten)) (v t : View) (seat : ℕ) (o
   still_at : (u w : View) → w ≡ u → phase_at u seat ≡ Active → phase_at w seat ≡ Active
   still_at u w is on = ap (λ (z : View). phase_at z seat) is ∙ on
 
-  to_same : (P : View → Type 0) → (phase_at v seat ≡ Active → phase_at t seat ≡ Active) → P (with_saves f t) → P (with_saves g t)
+  pub to_same : (P : View → Type 0) → (phase_at v seat ≡ Active → phase_at t seat ≡ Active) → P (with_saves f t) → P (with_saves g t)
   to_same P still is = subst (λ (h : ℕ → List (List VersionWritten)). P (with_saves h t)) (same still) is
 
-  to_left : (P : View → Type 0) → with_saves f t ≡ with_saves f v → P (with_saves f t) → P (with_saves g t)
+  pub to_left : (P : View → Type 0) → with_saves f t ≡ with_saves f v → P (with_saves f t) → P (with_saves g t)
   to_left P left is = to_same P (still_at (with_saves f v) (with_saves f t) left) is
 
   works_on : (w : Work) → Works v seat w t → phase_at t seat ≡ Active
@@ -49,7 +49,7 @@ module _ (f g : ℕ → List (List VersionWritten)) (v t : View) (seat : ℕ) (o
     saves = record { own = gone; others = others };
   }
 
-  done : (w : Work) (fate : Fate) → IsDone (with_saves f v) seat w fate (with_saves f t) → IsDone (with_saves f v) seat w fate (with_saves g t)
+  pub done : (w : Work) (fate : Fate) → IsDone (with_saves f v) seat w fate (with_saves f t) → IsDone (with_saves f v) seat w fate (with_saves g t)
   done w fate is = ended _ tt is
 
   -- BEGIN, READ, FRESH

@@ -10,9 +10,13 @@ use Rattle.erm_session.specs.Took.{TookNoBegin}
 use Rattle.erm_world.specs.declared.stops.BeginStop.TheVariants as stops
 use Rattle.erm_world.specs.World.{View}
 use Rattle.erm_shared_session.specs.Seen.{tail_after}
-use Rattle.erm_shared_session.specs.Stands.{own_of}
+use Rattle.erm_shared_session.specs.Stands.{bare_of}
+use Rattle.erm_shared_session.proofs.Lifts.{did_begin, not_begun}
+use Rattle.erm_core_steps.proofs.Results.{err_to}
+use Rattle.erm_shared_session.proofs.Saved.{keeps_own, saves_then}
+use Rattle.erm_session.proofs.Saved.{stays_begun}
 use Rattle.erm_shared_session.proofs.Beginning.{idle_place, known_of, steps_of, told}
-use Rattle.erm_shared_session.proofs.Results.{never}
+use Rattle.erm_shared_session.proofs.Results.{both_ok, never}
 use Rattle.erm_shared_session.proofs.Standing.{IsSeen, Rise, SeenThen, goes_onward, own_at, own_idle, own_phase, session_held, stands_again}
 use Rattle.erm_shared_session.proofs.session.TableSessionSharedSession.begin.Goals as goal
 
@@ -47,7 +51,8 @@ returns g c =
     let more : s.tail ≤ tail = subst (λ (n : ℕ). s.tail ≤ n) (sym is) done.more in
     let seen : IsSeen tail s.flushed e = subst (λ (n : ℕ). IsSeen n s.flushed e) (sym is) done.seen_now in
     let later : IsLater (own.session seat) ((own_view seat tail s.flushed e).session seat) = subst (λ (n : ℕ). IsLater (own.session seat) ((own_view seat n s.flushed e).session seat)) (sym is) done.later in
-    let now : own_view seat (tail_after s.tail r) s.flushed e ≡ own_of t = ap (λ (n : ℕ). own_view seat n s.flushed e) (sym is) ∙ sym (own_at s t same) in
+    let now : own_view seat (tail_after s.tail r) s.flushed e ≡ bare_of t = ap (λ (n : ℕ). own_view seat n s.flushed e) (sym is) ∙ sym (own_at s t same) in
+    let keeps = keeps_own s t same c.requires.stands.session c.begin-begun.ensures.stands (stays_begun r s.session t.session _ _ (own_phase s c.requires.stands.session ∙ c.requires.idle) c.begin-begun.ensures.unsaved c.begin-begun.ensures.idle) in
     record {
       stands =
           stands_again law (λ at tails flush then_tail then_flushed list first last may steps_taken between seen_then.
@@ -57,8 +62,10 @@ returns g c =
           goes_onward law (λ at tails flush then_tail then_flushed first last f goes_on starts more_tail more_flushed is_later ends.
           c.own_views_go_on.ensures.onward at tails flush then_tail then_flushed first last f goes_on starts more_tail more_flushed is_later ends) s t same goes start more (omega arith) later;
       below = done.below;
-      ok = subst (λ (v : View). IfOk r (λ begin. After seat (DidBeginBeside seat begin) own v)) now done.ok;
-      err = subst (λ (v : View). IfErr r (λ stop. After seat (MayNotBeginBeside seat stop) own v)) now done.err;
+      ok =
+          both_ok r _ _ _ (λ at unsaved did. did_begin s t keeps at (saves_then s t same ∙ unsaved) (own_idle s c.requires.idle) did) c.begin-begun.ensures.unsaved
+          (subst (λ (v : View). IfOk r (λ begin. After seat (DidBeginBeside seat begin) own v)) now done.ok);
+      err = err_to r _ _ (λ why did. not_begun s t keeps why did) (subst (λ (v : View). IfErr r (λ stop. After seat (MayNotBeginBeside seat stop) own v)) now done.err);
       memory = never r (λ why. TookNoBegin law seat why b e) stops.Memory (λ none. none) c.begin-begun.ensures.took_none;
       loaded = c.begin-begun.ensures.took;
     }

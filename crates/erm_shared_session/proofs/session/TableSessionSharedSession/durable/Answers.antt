@@ -1,9 +1,11 @@
-use Rattle.std.proofs.Common.{◌≡◌, ℕ, ◌<◌, ◌≤◌, ◌↔◌, IsOk, IfErr, refl, sym, subst, arith}
+use Rattle.std.proofs.Common.{◌≡◌, ℕ, ◌<◌, ◌≤◌, ◌↔◌, IsOk, IfErr, refl, sym, ◌∙◌, subst, arith}
 use Rattle.erm_rule.specs.Books.{WasFlushed, book}
 use Rattle.erm_machine.specs.declared.event.Kind.TheVariants.{LoadFlushed}
 use Rattle.std.specs.Prelude.{[], ◌∷◌}
 use Rattle.erm_rule.proofs.Wents.{took_goes}
 use Rattle.erm_own_view.proofs.Along.{took_start}
+use Rattle.erm_shared_session.proofs.Lifts.{passes_own}
+use Rattle.erm_shared_session.proofs.Saved.{saves_here, saves_then}
 use Rattle.erm_shared_session.proofs.Looks.{look_same, looked}
 use Rattle.erm_shared_session.proofs.Results.{first_told}
 use Rattle.erm_shared_session.proofs.Standing.{IsSeen, goes_onward, session_held, stands_again}
@@ -46,7 +48,7 @@ returns g c =
       onward =
           goes_onward law (λ at tail flush then_tail then_flushed first last f goes_on starts more_tail more_flushed is_later ends.
           c.own_views_go_on.ensures.onward at tail flush then_tail then_flushed first last f goes_on starts more_tail more_flushed is_later ends) s t refl goes start (omega arith) more same.1;
-      same = same.0;
+      same = passes_own s t (saves_then s t refl ∙ c.durable-looked.ensures.saves ∙ sym (saves_here s)) same.0;
       ok = subst (λ (n : ℕ). IsOk r ↔ (end ≤ n)) (sym is) done.ok;
       err = subst (λ (n : ℕ). IfErr r (λ stop. stop.flushed ≡ n)) (sym is) done.err;
       looked = first_told r (λ stop. WasFlushed b stop.flushed e) (λ stop. stop.flushed < end) c.durable-looked.ensures.unsynced;

@@ -10,7 +10,11 @@ use Rattle.erm_rule.proofs.Wents.{took_goes}
 use Rattle.erm_session.specs.Took.{TookNoObject}
 use Rattle.erm_world.specs.Calls.{DidMake}
 use Rattle.erm_world.specs.World.{View}
-use Rattle.erm_shared_session.specs.Stands.{own_of}
+use Rattle.erm_shared_session.specs.Stands.{bare_of}
+use Rattle.erm_shared_session.proofs.Lifts.{did_make, not_made, met_beside}
+use Rattle.erm_core_steps.proofs.Results.{err_to, ok_to}
+use Rattle.erm_shared_session.proofs.Saved.{keeps_own}
+use Rattle.erm_shared_session.specs.Stands.{own_saves}
 use Rattle.erm_shared_session.proofs.Making.{made, met_make, steps_of}
 use Rattle.erm_shared_session.proofs.Results.{never}
 use Rattle.erm_shared_session.proofs.Standing.{Rise, goes_onward, own_active, own_at, own_phase, session_held, stands_again}
@@ -39,7 +43,8 @@ returns g c =
     let done = made law seat s.tail s.flushed b e start held r c.requires.active (own_active s c.requires.active) c.fresh.ensures.made c.fresh.ensures.refused in
     let own = own_view seat s.tail s.flushed b in
     let next = own_view seat s.tail s.flushed e in
-    let now : next ≡ own_of t = sym (own_at s t same) in
+    let now : next ≡ bare_of t = sym (own_at s t same) in
+    let keeps = keeps_own s t same c.requires.stands.session c.fresh.ensures.stands c.fresh.ensures.saves in
     record {
       stands =
           stands_again law (λ at tails flush then_tail then_flushed list first last may steps_taken between seen_then.
@@ -49,11 +54,12 @@ returns g c =
           goes_onward law (λ at tails flush then_tail then_flushed first last f goes_on starts more_tail more_flushed is_later ends.
           c.own_views_go_on.ensures.onward at tails flush then_tail then_flushed first last f goes_on starts more_tail more_flushed is_later ends) s t same goes start (omega arith) (omega arith) done.later;
       object = c.fresh.ensures.object;
-      ok = subst (λ (v : View). IfOk r (λ oid. After seat (λ u z. DidMake u seat oid z) own v)) now done.ok;
-      err = subst (λ (v : View). IfErr r (λ stop. After seat (NotMadeBeside seat stop) own v)) now done.err;
+      ok = ok_to r _ _ (λ oid did. did_make s t keeps c.requires.active oid did) (subst (λ (v : View). IfOk r (λ oid. After seat (λ u z. DidMake u seat oid z) own v)) now done.ok);
+      err = err_to r _ _ (λ why did. not_made s t keeps why did) (subst (λ (v : View). IfErr r (λ stop. After seat (NotMadeBeside seat stop) own v)) now done.err);
       memory = never r (λ why. TookNoObject law seat why b e) stop.Memory (λ none. none) c.fresh.ensures.took_none;
       met =
-          subst (λ (n : ℕ). IfErr r (λ stop. (f : View) → EndsIn law n e (own_view n s.tail s.flushed e) f → MetBeside f seat asked_make stop own (own_view n s.tail s.flushed e))) (sym same)
-          (met_make law seat b e rises r own next next (λ f end was. c.ends_have_what_was.ensures.made seat e next f end was) c.fresh.ensures.took_none c.fresh.ensures.refused);
+          err_to r _ _ (λ why met f end. met_beside (own_saves s) (own_saves t) f seat own (bare_of t) asked_make why (met f end))
+          (subst (λ (n : ℕ). IfErr r (λ stop. (f : View) → EndsIn law n e (own_view n s.tail s.flushed e) f → MetBeside f seat asked_make stop own (own_view n s.tail s.flushed e))) (sym same)
+          (met_make law seat b e rises r own next next (λ f end was. c.ends_have_what_was.ensures.made seat e next f end was) c.fresh.ensures.took_none c.fresh.ensures.refused));
       looked = c.fresh.ensures.took_none;
     }

@@ -13,7 +13,11 @@ use Rattle.erm_session.specs.Took.{TookReadStop}
 use Rattle.erm_world.specs.Calls.{DidRead}
 use Rattle.erm_world.specs.World.{View}
 use Rattle.erm_shared_session.specs.Seen.{tail_met}
-use Rattle.erm_shared_session.specs.Stands.{own_of}
+use Rattle.erm_shared_session.specs.Stands.{bare_of}
+use Rattle.erm_shared_session.proofs.Lifts.{did_read, not_read, met_beside}
+use Rattle.erm_core_steps.proofs.Results.{err_to, ok_to}
+use Rattle.erm_shared_session.proofs.Saved.{keeps_own}
+use Rattle.erm_shared_session.specs.Stands.{own_saves}
 use Rattle.erm_shared_session.proofs.Meeting.{Shows}
 use Rattle.erm_shared_session.proofs.Reading.{low_stop, told}
 use Rattle.erm_shared_session.proofs.Results.{never}
@@ -70,7 +74,8 @@ returns g c =
     let more : s.tail ≤ tail = subst (λ (n : ℕ). s.tail ≤ n) (sym is) done.more in
     let seen : IsSeen tail s.flushed e = subst (λ (n : ℕ). IsSeen n s.flushed e) (sym is) done.seen_now in
     let later : IsLater (own.session seat) ((own_view seat tail s.flushed e).session seat) = subst (λ (n : ℕ). IsLater (own.session seat) ((own_view seat n s.flushed e).session seat)) (sym is) done.later in
-    let now : own_view seat (tail_met s.tail r) s.flushed e ≡ own_of t = ap (λ (n : ℕ). own_view seat n s.flushed e) (sym is) ∙ sym (own_at s t same) in
+    let now : own_view seat (tail_met s.tail r) s.flushed e ≡ bare_of t = ap (λ (n : ℕ). own_view seat n s.flushed e) (sym is) ∙ sym (own_at s t same) in
+    let keeps = keeps_own s t same c.requires.stands.session c.read-answer.ensures.stands c.read-answer.ensures.saves in
     record {
       stands =
           stands_again law (λ at tails flush then_tail then_flushed list first last may steps_taken between seen_then.
@@ -79,12 +84,13 @@ returns g c =
       onward =
           goes_onward law (λ at tails flush then_tail then_flushed first last f goes_on starts more_tail more_flushed is_later ends.
           c.own_views_go_on.ensures.onward at tails flush then_tail then_flushed first last f goes_on starts more_tail more_flushed is_later ends) s t same goes start more (omega arith) later;
-      ok = subst (λ (v : View). IfOk r (λ row. After seat (λ u z. DidRead u seat oid row z) own v)) now done.ok;
-      err = subst (λ (v : View). IfErr r (λ stop. After seat (NotReadBeside seat oid stop) own v)) now done.err;
+      ok = ok_to r _ _ (λ row did. did_read s t keeps c.requires.active oid row did) (subst (λ (v : View). IfOk r (λ row. After seat (λ u z. DidRead u seat oid row z) own v)) now done.ok);
+      err = err_to r _ _ (λ why did. not_read s t keeps oid why did) (subst (λ (v : View). IfErr r (λ stop. After seat (NotReadBeside seat oid stop) own v)) now done.err);
       memory = never r (λ why. TookReadStop law seat oid why b e) stop.Memory (λ none. none.0) c.read-answer.ensures.took_none;
       word = c.read-answer.ensures.met;
       looked = c.read-answer.ensures.took_none;
       met =
-          subst (λ (n : ℕ). IfErr r (λ stop. (f : View) → EndsIn law n e (own_of t) f → MetBeside f seat (asked_read oid) stop own (own_of t))) (sym same)
-          (subst (λ (v : View). IfErr r (λ stop. (f : View) → EndsIn law seat e v f → MetBeside f seat (asked_read oid) stop own v)) now done.met);
+          err_to r _ _ (λ why met f end. met_beside (own_saves s) (own_saves t) f seat own (bare_of t) (asked_read oid) why (met f end))
+          (subst (λ (n : ℕ). IfErr r (λ stop. (f : View) → EndsIn law n e (bare_of t) f → MetBeside f seat (asked_read oid) stop own (bare_of t))) (sym same)
+          (subst (λ (v : View). IfErr r (λ stop. (f : View) → EndsIn law seat e v f → MetBeside f seat (asked_read oid) stop own v)) now done.met));
     }

@@ -14,6 +14,10 @@ use Rattle.erm_rule.proofs.Wents.{took_goes}
 use Rattle.erm_seats.specs.Calls.{sealed_part}
 use Rattle.erm_world.specs.Calls.{DidSeal}
 use Rattle.erm_world.specs.World.{View}
+use Rattle.erm_shared_session.proofs.Lifts.{did_seal}
+use Rattle.erm_shared_session.proofs.Saved.{keeps_own}
+use Rattle.erm_session.proofs.Saved.{stays_past}
+use Rattle.erm_model.specs.declared.outcome.Phase.TheVariants.{Sealed}
 use Rattle.erm_shared_session.proofs.Sealing.{block_of, drawn, own_lawful, seals}
 use Rattle.erm_shared_session.proofs.Standing.{IsSeen, Rise, goes_onward, own_active, own_at, own_phase, session_held, stands_again}
 use Rattle.erm_shared_session.proofs.session.TableSessionSharedSession.seal.Goals as goal
@@ -80,6 +84,7 @@ returns g c =
     let more : s.tail ≤ tail = subst (λ (n : ℕ). s.tail ≤ n) there done.more in
     let seen : IsSeen tail s.flushed e = subst (λ (n : ℕ). IsSeen n s.flushed e) there done.seen_now in
     let later : IsLater (own.session seat) ((own_view seat tail s.flushed e).session seat) = subst (λ (n : ℕ). IsLater (own.session seat) ((own_view seat n s.flushed e).session seat)) there done.later in
+    let keeps = keeps_own s t same c.requires.stands.session c.seal-stamp.ensures.stands (stays_past s.session t.session _ _ Sealed c.seal-stamp.ensures.phase (λ e. absurd (cc))) in
     record {
       stands =
           stands_again law (λ at tails flush then_tail then_flushed list first last may steps_taken between seen_then.
@@ -89,6 +94,6 @@ returns g c =
           goes_onward law (λ at tails flush then_tail then_flushed first last f goes_on starts more_tail more_flushed is_later ends.
           c.own_views_go_on.ensures.onward at tails flush then_tail then_flushed first last f goes_on starts more_tail more_flushed is_later ends) s t same goes start more (omega arith) later;
       sealed =
-          subst (λ (v : View). After seat (λ u z. DidSeal u seat stamp z) own v) (sym (own_at s t same))
-          (subst (λ (n : ℕ). After seat (λ u z. DidSeal u seat stamp z) own (own_view seat n s.flushed e)) there done.did);
+          did_seal s t keeps stamp (subst (λ (v : View). After seat (λ u z. DidSeal u seat stamp z) own v) (sym (own_at s t same))
+          (subst (λ (n : ℕ). After seat (λ u z. DidSeal u seat stamp z) own (own_view seat n s.flushed e)) there done.did));
     }

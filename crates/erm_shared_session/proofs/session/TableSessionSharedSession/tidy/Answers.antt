@@ -16,7 +16,11 @@ use Rattle.erm_session.specs.Took.{TookClaimStop}
 use Rattle.erm_world.specs.Calls.{DidClaim}
 use Rattle.erm_world.specs.World.{View}
 use Rattle.erm_shared_session.specs.Seen.{tail_met}
-use Rattle.erm_shared_session.specs.Stands.{own_of}
+use Rattle.erm_shared_session.specs.Stands.{bare_of}
+use Rattle.erm_shared_session.proofs.Lifts.{did_claim, not_claimed, met_beside}
+use Rattle.erm_core_steps.proofs.Results.{err_to, on_ok_to}
+use Rattle.erm_shared_session.proofs.Saved.{keeps_own}
+use Rattle.erm_shared_session.specs.Stands.{own_saves}
 use Rattle.erm_shared_session.proofs.Claiming.{at_work}
 use Rattle.erm_shared_session.proofs.Full.{AllDrawn}
 use Rattle.erm_shared_session.proofs.Meeting.{Shows}
@@ -93,7 +97,8 @@ returns g c =
     let more : s.tail ≤ tail = subst (λ (n : ℕ). s.tail ≤ n) (sym is) done.more in
     let seen : IsSeen tail s.flushed e = subst (λ (n : ℕ). IsSeen n s.flushed e) (sym is) done.seen_now in
     let later : IsLater (own.session seat) ((own_view seat tail s.flushed e).session seat) = subst (λ (n : ℕ). IsLater (own.session seat) ((own_view seat n s.flushed e).session seat)) (sym is) done.later in
-    let now : own_view seat (tail_met s.tail r) s.flushed e ≡ own_of t = ap (λ (n : ℕ). own_view seat n s.flushed e) (sym is) ∙ sym (own_at s t same) in
+    let now : own_view seat (tail_met s.tail r) s.flushed e ≡ bare_of t = ap (λ (n : ℕ). own_view seat n s.flushed e) (sym is) ∙ sym (own_at s t same) in
+    let keeps = keeps_own s t same c.requires.stands.session c.tidy-tidied.ensures.stands c.tidy-tidied.ensures.saves in
     record {
       stands =
           stands_again law (λ at tails flush then_tail then_flushed list first last may steps_taken between seen_then.
@@ -102,14 +107,15 @@ returns g c =
       onward =
           goes_onward law (λ at tails flush then_tail then_flushed first last f goes_on starts more_tail more_flushed is_later ends.
           c.own_views_go_on.ensures.onward at tails flush then_tail then_flushed first last f goes_on starts more_tail more_flushed is_later ends) s t same goes start more (omega arith) later;
-      ok = subst (λ (v : View). OnOk r (After seat did own v)) now done.ok;
+      ok = on_ok_to r _ _ (λ is_done. did_claim s t keeps c.requires.active oid is_done) (subst (λ (v : View). OnOk r (After seat did own v)) now done.ok);
       count = tidied_few fit seat c.requires.stands.may.session law oid b e held r call.ensures.took;
       took = call.ensures.took;
-      err = subst (λ (v : View). IfErr r (λ why. After seat (NotClaimedBeside seat oid why) own v)) now done.err;
+      err = err_to r _ _ (λ why is_done. not_claimed s t keeps oid why is_done) (subst (λ (v : View). IfErr r (λ why. After seat (NotClaimedBeside seat oid why) own v)) now done.err);
       memory = never r (λ why. TookClaimStop law seat oid why b e) stop.Memory (λ none. none.1) call.ensures.took_none;
       met =
-          subst (λ (n : ℕ). IfErr r (λ why. (f : View) → EndsIn law n e (own_of t) f → MetBeside f seat (asked_claim oid) why own (own_of t))) (sym same)
-          (subst (λ (v : View). IfErr r (λ why. (f : View) → EndsIn law seat e v f → MetBeside f seat (asked_claim oid) why own v)) now done.met);
+          err_to r _ _ (λ why met f end. met_beside (own_saves s) (own_saves t) f seat own (bare_of t) (asked_claim oid) why (met f end))
+          (subst (λ (n : ℕ). IfErr r (λ why. (f : View) → EndsIn law n e (bare_of t) f → MetBeside f seat (asked_claim oid) why own (bare_of t))) (sym same)
+          (subst (λ (v : View). IfErr r (λ why. (f : View) → EndsIn law seat e v f → MetBeside f seat (asked_claim oid) why own v)) now done.met));
       counted = call.ensures.counted;
       looked = call.ensures.took_none;
     }

@@ -9,9 +9,14 @@ use Rattle.erm_rule.specs.Views.{part_of}
 use Rattle.erm_rule.proofs.Wents.{took_goes}
 use Rattle.erm_session.specs.Took.{TookNoBegin}
 use Rattle.erm_world.specs.declared.stops.BeginStop.TheVariants as stops
-use Rattle.erm_world.specs.World.{View}
+use Rattle.erm_core_steps.proofs.Results.{err_to, ok_to}
+use Rattle.erm_model.specs.declared.outcome.Phase.TheVariants.{Active}
+use Rattle.erm_table_world.proofs.Held.{past_begun_safe}
+use Rattle.erm_world.specs.World.{View, phase_at}
+use Rattle.erm_shared_session.proofs.Lifts.{did_begin_safe, not_begun}
+use Rattle.erm_shared_session.proofs.Saved.{keeps_own}
 use Rattle.erm_shared_session.specs.Seen.{tail_after}
-use Rattle.erm_shared_session.specs.Stands.{own_of}
+use Rattle.erm_shared_session.specs.Stands.{bare_of}
 use Rattle.erm_shared_session.proofs.Beginning.{idle_place}
 use Rattle.erm_shared_session.proofs.Results.{never}
 use Rattle.erm_shared_session.proofs.SnapshotBegins.{safe_known_of, safe_steps_of, told_safe}
@@ -50,18 +55,20 @@ returns g c =
     let more : s.tail ≤ tail = subst (λ (n : ℕ). s.tail ≤ n) (sym is) done.more in
     let seen : IsSeen tail s.flushed e = subst (λ (n : ℕ). IsSeen n s.flushed e) (sym is) done.seen_now in
     let later : IsLater (own.session seat) ((own_view seat tail s.flushed e).session seat) = subst (λ (n : ℕ). IsLater (own.session seat) ((own_view seat n s.flushed e).session seat)) (sym is) done.later in
-    let now : own_view seat (tail_after s.tail r) s.flushed e ≡ own_of t = ap (λ (n : ℕ). own_view seat n s.flushed e) (sym is) ∙ sym (own_at s t same) in
+    let now : own_view seat (tail_after s.tail r) s.flushed e ≡ bare_of t = ap (λ (n : ℕ). own_view seat n s.flushed e) (sym is) ∙ sym (own_at s t same) in
     let onward : Onward law = λ at tails flushed then_tail then_flushed first last f goes_on starts more_tail more_flushed is_later end.
     c.own_views_go_on.ensures.onward at tails flushed then_tail then_flushed first last f goes_on starts more_tail more_flushed is_later end in
     let again : Again law = λ at tails flushed then_tail then_flushed list first last may steps_taken between seen_then.
     c.own_views_go_on.ensures.again at tails flushed then_tail then_flushed list first last may steps_taken between seen_then in
+    let past : phase_at (bare_of s) seat ≡ Active → ⊥ = λ on. absurd (let idle = c.requires.idle in cc) in
+    let keeps = keeps_own s t same c.requires.stands.session told.stands (λ on. absurd (past_begun_safe r _ told.pending told.idle on)) in
     record {
       stands =
           stands_again law again c.args.shared.now s t steps c.requires.stands told.fits same told.stands (safe_known_of law seat b e r c.requires.stands.may.known told.begun told.refused) took seen;
       onward = goes_onward law onward s t same goes start more (omega arith) later;
       below = done.below;
-      ok = subst (λ (v : View). IfOk r (λ begin. After seat (DidBeginSafeBeside seat begin) own v)) now done.ok;
-      err = subst (λ (v : View). IfErr r (λ stop. After seat (MayNotBeginBeside seat stop) own v)) now done.err;
+      ok = ok_to r _ _ (λ at did. did_begin_safe s t keeps past at did) (subst (λ (v : View). IfOk r (λ begin. After seat (DidBeginSafeBeside seat begin) own v)) now done.ok);
+      err = err_to r _ _ (λ why did. not_begun s t keeps why did) (subst (λ (v : View). IfErr r (λ stop. After seat (MayNotBeginBeside seat stop) own v)) now done.err);
       memory = never r (λ why. TookNoBegin law seat why b e) stops.Memory (λ none. none) told.took_none;
       loaded = told.took;
     }

@@ -10,9 +10,14 @@ use Rattle.erm_rule.specs.Books.{book}
 use Rattle.erm_rule.specs.Views.{part_of}
 use Rattle.erm_rule.proofs.Wents.{took_goes}
 use Rattle.erm_table_world.proofs.SafeReading.{pending_of}
-use Rattle.erm_world.specs.World.{View, work_at}
+use Rattle.erm_core_steps.proofs.Results.{err_to, on_ok_to}
+use Rattle.erm_model.specs.declared.outcome.Phase.TheVariants.{Active}
+use Rattle.erm_table_world.proofs.Held.{past_safe}
+use Rattle.erm_world.specs.World.{View, phase_at, work_at}
+use Rattle.erm_shared_session.proofs.Lifts.{did_safe, not_safe, not_safe_met}
+use Rattle.erm_shared_session.proofs.Saved.{keeps_own}
 use Rattle.erm_shared_session.specs.Seen.{tail_looked}
-use Rattle.erm_shared_session.specs.Stands.{own_of}
+use Rattle.erm_shared_session.specs.Stands.{bare_of, own_saves}
 use Rattle.erm_shared_session.proofs.Meeting.{Shows}
 use Rattle.erm_shared_session.proofs.SnapshotLooks.{look_ends, look_met, looked, low_look}
 use Rattle.erm_shared_session.proofs.Standing.{Again, IsSeen, Onward, SeenThen, goes_onward, own_at, own_phase, session_held, stands_again}
@@ -69,21 +74,25 @@ returns g c =
     let more : s.tail ≤ tail = subst (λ (n : ℕ). s.tail ≤ n) (sym is) done.more in
     let seen : IsSeen tail s.flushed e = subst (λ (n : ℕ). IsSeen n s.flushed e) (sym is) done.seen_now in
     let later : IsLater (own.session seat) ((own_view seat tail s.flushed e).session seat) = subst (λ (n : ℕ). IsLater (own.session seat) ((own_view seat n s.flushed e).session seat)) (sym is) done.later in
-    let now : own_view seat (tail_looked s.tail r) s.flushed e ≡ own_of t = ap (λ (n : ℕ). own_view seat n s.flushed e) (sym is) ∙ sym (own_at s t same) in
+    let now : own_view seat (tail_looked s.tail r) s.flushed e ≡ bare_of t = ap (λ (n : ℕ). own_view seat n s.flushed e) (sym is) ∙ sym (own_at s t same) in
     let onward : Onward law = λ at tails flushed then_tail then_flushed first last f goes_on starts more_tail more_flushed is_later end.
     c.own_views_go_on.ensures.onward at tails flushed then_tail then_flushed first last f goes_on starts more_tail more_flushed is_later end in
     let again : Again law = λ at tails flushed then_tail then_flushed list first last may steps_taken between seen_then.
     c.own_views_go_on.ensures.again at tails flushed then_tail then_flushed list first last may steps_taken between seen_then in
-    let at_seat : (f : View) → EndsIn law t.session.seat e (own_of t) f → EndsIn law seat e (own_of t) f = λ f end. subst (λ (n : ℕ). EndsIn law n e (own_of t) f) same end in
+    let at_seat : (f : View) → EndsIn law t.session.seat e (bare_of t) f → EndsIn law seat e (bare_of t) f = λ f end. subst (λ (n : ℕ). EndsIn law n e (bare_of t) f) same end in
+    let past : phase_at (bare_of s) seat ≡ Active → ⊥ = λ on. absurd (let pending = c.requires.pending in cc) in
+    let keeps = keeps_own s t same c.requires.stands.session told.stands (λ on. absurd (past_safe r _ told.safe_phase told.phase on)) in
     record {
       stands = stands_again law again c.args.shared.now s t steps c.requires.stands told.fits same told.stands told.known took seen;
       onward = goes_onward law onward s t same goes start more (omega arith) later;
-      ok = subst (λ (v : View). OnOk r (After seat (DidSafeBeside seat) own v)) now done.ok;
+      ok = on_ok_to r _ _ (λ did. did_safe s t keeps past did) (subst (λ (v : View). OnOk r (After seat (DidSafeBeside seat) own v)) now done.ok);
       safe =
-          look_ends law seat b e r (own_of t) t.session.seat same (work_at own seat).begin
-          (λ bound f end so. c.ends_keep_safe_stamps.ensures.safe seat bound e (own_of t) f end so) done.safe_at;
-      err = subst (λ (v : View). IfErr r (λ stop. After seat (NotSafeBeside seat stop) own v)) now done.err;
-      met = look_met law seat b e r own (own_view seat (tail_looked s.tail r) s.flushed e) (own_of t) now t.session.seat same done.met;
+          look_ends law seat b e r (bare_of t) t.session.seat same (work_at own seat).begin
+          (λ bound f end so. c.ends_keep_safe_stamps.ensures.safe seat bound e (bare_of t) f end so) done.safe_at;
+      err = err_to r _ _ (λ why did. not_safe s t keeps past why did) (subst (λ (v : View). IfErr r (λ stop. After seat (NotSafeBeside seat stop) own v)) now done.err);
+      met =
+          err_to r _ _ (λ why met f end. not_safe_met (own_saves s) (own_saves t) f seat own (bare_of t) why (met f end))
+          (look_met law seat b e r own (own_view seat (tail_looked s.tail r) s.flushed e) (bare_of t) now t.session.seat same done.met);
       word = told.met;
       looked = told.took_none;
     }
