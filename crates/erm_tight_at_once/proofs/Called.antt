@@ -1,5 +1,5 @@
 -- A line that names a table leaves its session's transaction so that its lines tell what it touched.
-use Rattle.std.proofs.Common.{◌≡◌, ℕ, zero, suc, ◌≤◌, false, List, [], ◌∷◌, ◌++◌, length, Some, None, inl, inr, refl, sym, ap, ◌∙◌, subst, arith}
+use Rattle.std.proofs.Common.{◌≡◌, ℕ, zero, suc, ◌≤◌, false, List, [], ◌∷◌, ◌++◌, length, option_and_then, Some, None, inl, inr, refl, sym, ap, ◌∙◌, subst, arith}
 use Rattle.erm_model.specs.declared.history.VersionWritten.{VersionWritten}
 use Rattle.erm_model.specs.declared.outcome.Phase.TheVariants.{Active}
 use Rattle.erm_model.specs.declared.row_stop.RowStop.{RowStop}
@@ -22,7 +22,7 @@ use Rattle.erm_world.specs.Works.{seen_by}
 use Rattle.erm_world.specs.World.{Finished, Has, IsSession, Session, View, Work, phase_at, phase_of, work_at, work_of}
 use Rattle.erm_world.specs.World as world
 use Rattle.erm_maps.specs.Runs.{IsRunOf, kept_at}
-use Rattle.erm_good_report.specs.Transactions.{Exchange, Progress, Transaction, heard, table_of, with_line}
+use Rattle.erm_good_report.specs.Transactions.{Exchange, Progress, heard, reply_in, table_of}
 use Rattle.erm_good_report.specs.Windows.{ChangesKey, IsReplied, IsTidied}
 use Rattle.erm_lines.specs.Operations.{AsksOf, DidCalls, FrontOf, Ran, WholeOf}
 use Rattle.erm_lines.specs.Told.{Continues, TellsNow}
@@ -76,6 +76,21 @@ module _ (lines : List Exchange) (w u : Work) (events : List Event) (moves : Mov
       | inr by ↦ absurd (no_claims events only x by)
     ];
   }
+
+-- REFUSED. No refusal is a reply.
+no_reply : (why : RowStop) → option_and_then reply_in (told_at_once why) ≡ None
+no_reply (stop.NotYet other seen) = refl
+no_reply stop.ReadsFull = refl
+no_reply (stop.Owned other number) = refl
+no_reply (stop.Newer stamp) = refl
+no_reply stop.WritesFull = refl
+no_reply (stop.CellsFull drawn) = refl
+no_reply (stop.OidsFull drawn) = refl
+no_reply (stop.Excluded succ pred) = refl
+no_reply stop.Memory = refl
+
+unreplied : (why : RowStop) (a : Answer) → told_at_once why ≡ Some a → IsReplied a → ⊥
+unreplied why a told (r, is) = let never : None ≡ Some r = sym (no_reply why) ∙ ap (option_and_then reply_in) told ∙ is in cc
 
 -- WHAT A LINE DID, by its command.
 module _ (keys : KeyLaws) (c : Command) (k : ℕ) (named : table_of c ≡ Some k) (range : IsInRange c) where
@@ -232,7 +247,7 @@ module _ (keys : KeyLaws) (c : Command) (k : ℕ) (named : table_of c ≡ Some k
         (line_did c (answer.Cut cells) beside.did.events (cut_over c cells none)
         (tidy_did keys beside.did.events c k named range cells none (λ rows sound agrees. beside.did.of rows sound agrees)))
         (λ q asked p. refl)
-    once_marks a did = refused_as a (λ replied. let never : None ≡ Some replied.0 = replied.1 in cc) (λ tidied. let other = tidied.1 in cc) did
+    once_marks a did = refused_as a (λ replied. unreplied did.0 a did.1 replied) (λ tidied. let other = tidied.1 in cc) did
 
   pub operation_marks : Laws → (f : View) (seat : ℕ) → IsSession f seat → IsSerializable sound_law f → (a : Answer) (p : Progress) (v t : View) → phase_at v seat ≡ Active
       → DidOperationBeside f seat c a v t → Continues (t.session seat) (f.session seat) → TellsNow seat p.current (v.session seat).stand → AreMarks p (v.saves seat) (v.session seat) → AreMarks (heard seat (Some c) a p) (t.saves seat) (t.session seat)

@@ -13,7 +13,6 @@ use Rattle.erm_script.specs.declared.script.Command.TheVariants as command
 use Rattle.erm_world.specs.Going.{Extends}
 use Rattle.erm_world.specs.Laws.{IsSerializable}
 use Rattle.erm_world.specs.World.{IsSession, Session, View, Work, phase_at, phase_of}
-use Rattle.erm_world.specs.World as world
 use Rattle.erm_maps.specs.Runs.{IsAnswered, Kept, going_back, kept_at}
 use Rattle.erm_good_report.specs.Transactions.{Exchange, Progress, Said, heard, op_done, table_of, works_on_map}
 use Rattle.erm_lines.specs.Answers.{DidAskBack, DidAskSave}
