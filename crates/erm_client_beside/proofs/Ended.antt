@@ -20,6 +20,7 @@ use Rattle.erm_rule.specs.Books.{book}
 use Rattle.erm_rule.specs.declared.rule.Table.{Table}
 use Rattle.erm_rule.specs.declared.view.Opening.{Opening}
 use Rattle.erm_rule.specs.Openings.{start_of}
+use Rattle.erm_run_beside.proofs.Ends.{ends_so}
 use Rattle.erm_run_beside.proofs.Failed.{not_both}
 use Rattle.erm_run_beside.specs.Closing.{ClosesDesk}
 use Rattle.erm_shared_session.specs.declared.session.TableSession.{TableSession}
@@ -72,6 +73,7 @@ module _ {L P : Type 0} (law : Law) (table : Table L) (o : Opening) (promises : 
         → IsRun promises failed f seat (opened_view (start_of o)) p r
     one_run seat p s r f is e =
         let here = subst (λ (q : ℕ). HasEnded law q (book s.pass) (own_of s) f) is.seat_is e in
+        let ends = ends_so law s f e in
         record {
           place = is.place;
           transcript_ok = is.transcript_ok;
@@ -79,11 +81,11 @@ module _ {L P : Type 0} (law : Law) (table : Table L) (o : Opening) (promises : 
           last = own_of s;
           at_end = record { own = sym here.session; given_up = sym here.given_up; tail = here.tail; flushed = here.flushed };
           rests = is.rests;
-          did = λ some. is.did some f e.ends;
+          did = λ some. is.did some f ends;
           unstarved = is.unstarved;
           whole = λ sound had.
               let opened = is_open seat p s r is sound had r.transcript.standing refl in
-              (opened, is_decided seat p s r f r.closed refl is sound had opened (is.did (λ starved. not_starved r.transcript.standing opened starved) f e.ends));
+              (opened, is_decided seat p s r f r.closed refl is sound had opened (is.did (λ starved. not_starved r.transcript.standing opened starved) f ends));
         }
 
     -- and all

@@ -1,5 +1,6 @@
 pub mod More
 pub mod Failed
+pub mod Ends
 pub mod Worked
 pub mod Over
 pub mod Closing

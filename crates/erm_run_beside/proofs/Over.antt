@@ -28,6 +28,7 @@ use Rattle.erm_run_beside.specs.declared.work.SessionWork.{SessionWork}
 use Rattle.erm_run_beside.specs.Closing.{ClosesDesk}
 use Rattle.erm_run_beside.specs.Ended.{AreWholeUnless, AreWorked, HasWorked, IsWholeUnless}
 use Rattle.erm_run_beside.specs.Runs.{HaveRun, IsWork, RanBeside, work_of}
+use Rattle.erm_run_beside.proofs.Ends.{ends_so}
 use Rattle.erm_run_beside.proofs.Failed.{not_both}
 use Rattle.erm_run_beside.proofs.More.{map_to}
 
@@ -81,16 +82,17 @@ one_ran : {L : Type 0} (law : Law) (table : Table L) (o : Opening) (failed : Boo
     → IsWork failed f seat (opened_view (start_of o)) lines (work_of d)
 one_ran {L} law table o failed seat lines d f w unless e =
     let here = subst (λ (q : ℕ). HasEnded law q (book d.session.pass) (own_of d.session) f) w.seat_is e in
+    let ends = ends_so law d.session f e in
     record {
       last = own_of d.session;
       at_end = record { own = sym here.session; given_up = sym here.given_up; tail = here.tail; flushed = here.flushed };
       rests = w.rests;
       most = w.most;
-      did = λ some. w.did some f e.ends;
-      some = w.some f e.ends;
+      did = λ some. w.did some f ends;
+      some = w.some f ends;
       whole = λ sound had.
           let all = all_answered failed seat lines d w.most unless sound had in
-          (all, is_decided failed seat lines d f (opened_view (start_of o)) d.closed refl (w.did had f e.ends) all unless sound had);
+          (all, is_decided failed seat lines d f (opened_view (start_of o)) d.closed refl (w.did had f ends) all unless sound had);
     }
 
 -- and all
