@@ -1,10 +1,12 @@
 -- The view and the log of a world over the word table that was just opened.
-use Rattle.std.proofs.Common.{◌≡◌, Result, Ok, Err, IfOk, length, refl, sym}
+use Rattle.std.proofs.Common.{◌≡◌, [], Result, Ok, Err, IfOk, length, refl, sym, arith}
 use Rattle.std.proofs.lemmas.Result.{IfOk-weaker}
 use Rattle.erm_model.specs.declared.limits.TheConstants.{OID_LIMIT, TABLE_CELLS}
 use Rattle.erm_model.specs.Rows.{rows_of}
 use Rattle.erm_model.specs.RowTransaction.{SameRows}
 use Rattle.erm_node.specs.Sound.{sound_law}
+use Rattle.erm_world.proofs.Restored.{AreSavesOf-none}
+use Rattle.erm_world.proofs.WithSaves as saves
 use Rattle.erm_rule.specs.declared.view.Opening.{Opening}
 use Rattle.erm_rule.specs.Books.{book}
 use Rattle.erm_rule.specs.Rule.{first_core, first_rows}
@@ -13,7 +15,7 @@ use Rattle.erm_start.specs.Recovered.{IsFirstObject, IsOpenedLog, IsOpenedWith}
 use Rattle.erm_start.proofs.Opened.{log_is, view_is}
 use Rattle.erm_table_world.specs.declared.table_world.TableWorld.{TableWorld}
 use Rattle.erm_table_world.specs.Stands.{IsTableWorld, Stands, table_log, table_view, world_view}
-use Rattle.erm_table_world.proofs.Cuts.{serializable}
+use Rattle.erm_table_world.proofs.Cuts.{cut, serializable}
 use Rattle.erm_table_world.proofs.Opening.{row_is}
 
 module _ (o : Opening) (count : length o.rows.items ≡ OID_LIMIT) where
@@ -48,7 +50,8 @@ module _ (o : Opening) (count : length o.rows.items ≡ OID_LIMIT) where
   opened_with w first world opened many =
       with_cuts w world
       (view_is (rows_of o.rows.items) o.sessions (first_rows o) same_rows o.tail o.run o.first TABLE_CELLS w.count (core_of (book w.pass)) many opened first
-      (serializable 0 sound_law (world_view w) world.serializable) world.stands.at.state.sound.lawful.below)
+      (saves.serializable (λ q. []) sound_law (cut 0 (world_view w)) (λ seat x session stand. AreSavesOf-none x) (λ seat session active. omega arith)
+      (serializable 0 sound_law (world_view w) world.serializable)) world.stands.at.state.sound.lawful.below)
 
   pub opened_log : {L : Type 0} (w : TableWorld L) → core_of (book w.pass) ≡ first_core o → w.count ≡ o.sessions → IsOpenedLog (rows_of o.rows.items) o.tail o.run (table_log w)
   opened_log w opened many = log_is (rows_of o.rows.items) o.sessions (first_rows o) same_rows o.tail o.run o.first TABLE_CELLS w.count (core_of (book w.pass)) many opened
