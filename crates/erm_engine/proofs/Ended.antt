@@ -1,19 +1,14 @@
 -- The last state of a table, as the world in which its sessions have ended.
-use Rattle.std.proofs.Common.{◌≡◌, ◌≢◌, ℕ, ◌+◌, ◌-◌, ◌<◌, ◌≤◌, arith, ⊎_elim, Bool, true, false, List, [], ◌∷◌, length, eqb, Some, None, refl, sym, ap, ◌∙◌, subst, eq-eqb, eqb-true}
-use Rattle.std.specs.Prelude.{if◌then◌else◌}
-use Rattle.std.specs.Prelude.{slice_get}
-use Rattle.std.proofs.lemmas.Bool.{cases_lt, ne_eqb}
+use Rattle.std.proofs.Common.{◌≡◌, ℕ, ◌<◌, ◌≤◌, arith, List, length, Some, refl, sym, ap, ◌∙◌, subst, eqb-true}
+use Rattle.std.proofs.lemmas.Bool.{ne_eqb}
 use Rattle.erm_model.specs.declared.limits.TheConstants.{LAST_RUN, SESSIONS, TABLE_CELLS}
-use Rattle.erm_model.specs.Member.{◌∈◌}
 use Rattle.erm_model.specs.RowTransaction.{Law}
-use Rattle.erm_model.proofs.Members.{none_in_nil}
 use Rattle.erm_machine.specs.declared.attempt.Attempt.{Attempt}
 use Rattle.erm_machine.specs.declared.limits.TheConstants.{FLUSH_SEAT}
 use Rattle.erm_machine.specs.declared.part.Part.{Part}
 use Rattle.erm_machine.specs.declared.place.Place.TheVariants.{Idle}
-use Rattle.erm_machine.specs.Core.{Core, blank, fresh_part}
+use Rattle.erm_machine.specs.Core.{Core, blank}
 use Rattle.erm_machine.specs.Life.{is_between}
-use Rattle.erm_machine.proofs.Listed.{∈-cons}
 use Rattle.erm_core_alone.specs.Alone.{ClaimsStandAlone}
 use Rattle.erm_core_alone.proofs.Kept.{kept, opening_alone}
 use Rattle.erm_core_ring.specs.Begins.{BeginAtEnds}
@@ -29,23 +24,22 @@ use Rattle.erm_ring.specs.Turns.{MayGather}
 use Rattle.erm_ring.proofs.Gathering.{has_part}
 use Rattle.erm_rule.specs.declared.rule.Table.{Table}
 use Rattle.erm_rule.specs.declared.view.Book.{Book}
-use Rattle.erm_rule.specs.declared.view.Held.{Held}
 use Rattle.erm_rule.specs.declared.view.Opening.{Opening}
 use Rattle.erm_rule.specs.Books.{HasSeats, IsAfter, IsBookOf, book, past_of}
 use Rattle.erm_rule.specs.Openings.{start_rows}
 use Rattle.erm_rule.specs.Steps.{EndsUnder}
-use Rattle.erm_rule.specs.Views.{EachOnce, part_among, part_in, part_of}
+use Rattle.erm_rule.specs.Views.{part_in, part_of}
 use Rattle.erm_rule.proofs.Parts.{found_among}
 use Rattle.erm_rule.proofs.Telling.{held_part}
 use Rattle.erm_beside.specs.Later.{IsLater}
 use Rattle.erm_lone.specs.Within.{later_itself}
 use Rattle.erm_world.specs.World.{Session}
 use Rattle.erm_shared_session.specs.declared.session.TableSession.{TableSession}
-use Rattle.erm_shared_session.specs.Stands.{seat_of}
+use Rattle.erm_shared_session.specs.Stands.{bare_of, own_of, own_saves, seat_of}
 use Rattle.erm_own_view.specs.Own.{MayCall, WasOf, opening_of, own_view}
 use Rattle.erm_own_view.proofs.Along.{begins_of, none_of, of_book, opening_kept, seen_of, was_before, was_itself}
 use Rattle.erm_own_view.proofs.Lawful.{serializable}
-use Rattle.erm_own_view.proofs.Own.{between_held, own_given_is, own_is, session_in}
+use Rattle.erm_own_view.proofs.Own.{between_held, ends_with, own_given_is, own_is, session_in}
 use Rattle.erm_engine.specs.Closed.{AreJoined, HasIn, HaveClosed, HaveEnded}
 use Rattle.erm_engine.specs.Ended.{HasClosed, HasEnded, IsUntouched, world_of}
 use Rattle.erm_engine.proofs.Resting.{Rests, idle_between, idle_blank, idle_plain, none_over, session_other}
@@ -181,6 +175,18 @@ module _ {L : Type 0} (law : Law) (o : Opening) (t : Table L) (ss : List (TableS
           flushed = seen.1;
         }
 
+    -- its savepoints say nothing of it
+    ended_own : (s : TableSession L) → HasIn (book s.pass) e → MayCall law (seat_of s) s.tail s.flushed (book s.pass) → HasEnded law (seat_of s) (book s.pass) (own_of s) (world_of core)
+    ended_own s there may =
+        let end = ended s.session.seat s.tail s.flushed (book s.pass) there may in
+        record {
+          ends = ends_with (own_saves s) law s.session.seat (book s.pass) (bare_of s) (world_of core) end.ends;
+          session = end.session;
+          given_up = end.given_up;
+          tail = end.tail;
+          flushed = end.flushed;
+        }
+
     -- a session that did nothing
     untouched : (seat : ℕ) → length ss < seat → seat ≤ SESSIONS → IsUntouched seat (world_of core)
     untouched seat above within =
@@ -192,7 +198,7 @@ module _ {L : Type 0} (law : Law) (o : Opening) (t : Table L) (ss : List (TableS
       ended = record {
         core = core;
         closed = closed;
-        each = λ k s at. ended s.session.seat s.tail s.flushed (book s.pass) (joined.sessions k s at) (joined.done k s at).0.may;
+        each = λ k s at. ended_own s (joined.sessions k s at) (joined.done k s at).0.may;
         others = untouched;
       };
       is = is;

@@ -1,6 +1,5 @@
 -- All of the log is flushed, where no session is sealed and a turn behind all joins flushed nothing.
-use Rattle.std.proofs.Common.{◌≡◌, ◌≢◌, ℕ, ◌+◌, ◌<◌, ◌≤◌, ◌⊎◌, ⊎_elim, List, [], ◌∷◌, length, refl, sym, ap, ◌∙◌, subst, arith}
-use Rattle.std.specs.Prelude.{slice_get, Some}
+use Rattle.std.proofs.Common.{◌≡◌, ◌≢◌, ℕ, ◌<◌, ◌≤◌, ◌⊎◌, ⊎_elim, List, [], length, refl, sym, ap, ◌∙◌, subst, arith}
 use Rattle.std.proofs.lemmas.Bool.{cases_eq, cases_lt, ne_eqb}
 use Rattle.erm_model.specs.declared.limits.TheConstants.{SESSIONS}
 use Rattle.erm_model.specs.declared.outcome.Phase.TheVariants as phase
@@ -14,12 +13,11 @@ use Rattle.erm_machine.specs.declared.part.Part.{Part}
 use Rattle.erm_machine.specs.declared.place.Place.{Place}
 use Rattle.erm_machine.specs.declared.place.Place.TheVariants.{Active, Announced, Begun, Idle, Sealed, Vacant}
 use Rattle.erm_machine.specs.declared.task.Task.{Task}
-use Rattle.erm_machine.specs.Core.{Core, fresh_part}
+use Rattle.erm_machine.specs.Core.{Core}
 use Rattle.erm_machine.specs.Facts.{IsCurrent, all_of}
 use Rattle.erm_machine.specs.Lives.{IsPin}
-use Rattle.erm_machine.specs.Words.{is_flusher}
 use Rattle.erm_core_flush.specs.Turns.{IsOpenAt}
-use Rattle.erm_core_shown.specs.Shown.{HasOnly, NoneElse, shown_stand}
+use Rattle.erm_core_shown.specs.Shown.{HasOnly, shown_stand}
 use Rattle.erm_core_shown.proofs.Only.{none_after, only_sessions}
 use Rattle.erm_core_view.specs.Views.{IsBetween}
 use Rattle.erm_gathered.proofs.Lasting.{BlocksStay}
@@ -33,7 +31,7 @@ use Rattle.erm_rule.specs.Books.{IsBookOf, WasMet}
 use Rattle.erm_rule.specs.Views.{EachOnce}
 use Rattle.erm_shared_session.specs.declared.session.TableSession.{TableSession}
 use Rattle.erm_shared_session.specs.Stands.{seat_of}
-use Rattle.erm_world.specs.World.{Stand, phase_at, phase_of}
+use Rattle.erm_world.specs.World.{phase_at, phase_of}
 use Rattle.erm_engine.specs.Closed.{AreJoined, HaveClosed}
 use Rattle.erm_engine.specs.Ended.{world_of}
 use Rattle.erm_engine.proofs.Ranges.{begins_there, ends_no_later, rises_later, sound_earlier, stays_decided}

@@ -12,11 +12,13 @@ use Rattle.erm_model.specs.RowTransaction.{Law, SameRows}
 use Rattle.erm_model.proofs.Members.{slice_get-push}
 use Rattle.erm_machine.specs.declared.limits.TheConstants.{FLUSH_SEAT, OBJECT_LIMIT}
 use Rattle.erm_machine.specs.declared.part.Part.{Part}
+use Rattle.erm_machine.specs.declared.place.Place.{Place}
 use Rattle.erm_machine.specs.declared.place.Place.TheVariants.{Idle, Vacant}
+use Rattle.erm_model.specs.declared.history.VersionWritten.{VersionWritten}
 use Rattle.erm_machine.specs.Core.{fresh_part, is_taken, no_object, opened_object, version_at}
 use Rattle.erm_core_shown.specs.Shown.{given_up_of, shown_of, shown_session}
 use Rattle.erm_core_shown.proofs.Only.{only_sessions}
-use Rattle.erm_core_view.specs.Views.{pin_of, session_of}
+use Rattle.erm_core_view.specs.Views.{pin_of, session_of, stand_of}
 use Rattle.erm_sound.specs.Kept.{SoundUnder}
 use Rattle.erm_ring.specs.Turns.{MayGather}
 use Rattle.erm_rule.specs.declared.rule.Table.{Table}
@@ -30,7 +32,13 @@ use Rattle.erm_own_view.specs.Own.{no_session, opening_of, own_view}
 use Rattle.erm_own_view.proofs.Lawful.{serializable}
 use Rattle.erm_own_view.proofs.Own.{one_part}
 use Rattle.erm_shared_session.specs.declared.session.TableSession.{TableSession}
+use Rattle.erm_shared_session.specs.Stands.{seat_saves}
+use Rattle.erm_session.specs.declared.session.Session as session
+use Rattle.erm_session.specs.Saves.{saves_of}
+use Rattle.erm_session.specs.Session.{IsSession}
+use Rattle.erm_session.proofs.Saved.{none_shown}
 use Rattle.erm_table_world.proofs.Opening.{row_is}
+use Rattle.erm_table_world.proofs.Sessions.{phase_shown}
 use Rattle.erm_world.specs.Laws.{IsSerializable}
 use Rattle.erm_world.specs.World.{GivenUp, Session, View}
 use Rattle.erm_world.specs.World as world
@@ -66,7 +74,7 @@ rest_joins o given few = front_joins o (FLUSH_SEAT - given) (sessions_from o SES
 
 -- WHAT A SESSION KNOWS that was handed out
 abbrev opened_fields : world.Opening → (ℕ → Session) → (ℕ → List GivenUp) → Option ℕ → ℕ → View
-opened_fields o s gs pin tail = record { opening = o; session = s; tail = tail; flushed = tail; pinned = pin; given_up = gs }
+opened_fields o s gs pin tail = record { opening = o; session = s; tail = tail; flushed = tail; pinned = pin; given_up = gs; saves = λ q. [] }
 
 same_opened : (o p : world.Opening) (s r : ℕ → Session) (gs hs : ℕ → List GivenUp) (pin held : Option ℕ) (tail : ℕ) → o ≡ p → s ≡ r → gs ≡ hs → pin ≡ held
     → opened_fields o s gs pin tail ≡ opened_fields p r hs held tail
@@ -87,6 +95,13 @@ own_opened o seat b start lone =
     ap (λ (y : Part). if eqb q seat then given_up_of y else []) part ∙ both_ways (eqb q seat) []) in
     same_opened (opening_of b.start) (opening_of (start_of o)) (own_view seat o.tail o.tail b).session (opened_view (start_of o)).session (own_view seat o.tail o.tail b).given_up
     (opened_view (start_of o)).given_up None None o.tail (ap opening_of start) sessions given refl
+
+-- an idle session has no savepoints
+pub none_saved : (s : session.Session) (x : Part) → IsSession s x → x.place ≡ Idle → seat_saves s x ≡ (λ q. [])
+none_saved s x is idle =
+    let none : saves_of s x ≡ [] = none_shown s.stage s.saves.points x (λ on.
+    absurd (let at = sym (phase_shown s.stage x is.kept.stage) ∙ on in let now = ap (λ (p : Place). world.phase_of (stand_of p x.task x.current)) idle in cc)) in
+    fun_ext (λ q. ap (λ (l : List (List VersionWritten)). if eqb q s.seat then l else []) none ∙ both_ways (eqb q s.seat) [])
 
 -- THE WORLD AS IT WAS OPENED is what the first state shows.
 fresh_session : (b : Bool) (run place : ℕ) → shown_session (fresh_part (if b then Idle else Vacant) run place) ≡ no_session

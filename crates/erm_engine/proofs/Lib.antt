@@ -5,6 +5,7 @@ pub mod Gone
 pub mod Handed
 pub mod Joined
 pub mod Joining
+pub mod Popped
 pub mod Ranges
 pub mod Resting
 pub mod Seats

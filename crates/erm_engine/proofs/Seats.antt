@@ -26,7 +26,7 @@ use Rattle.erm_rule.proofs.Parts.{found_among, map_in}
 use Rattle.erm_rule.proofs.Telling.{held_part}
 use Rattle.erm_shared_session.specs.declared.session.TableSession.{TableSession}
 use Rattle.erm_shared_session.specs.Stands.{seat_of}
-use Rattle.erm_engine.specs.Closed.{AreJoined, HasIdle, HasIn}
+use Rattle.erm_engine.specs.Closed.{AreJoined, HasIn}
 use Rattle.erm_engine.proofs.Joined.{at_within}
 use Rattle.erm_table_world.proofs.Sessions.{stage_sized}
 use Rattle.erm_engine.proofs.Resting.{Rests, session_other}

@@ -34,6 +34,7 @@ opened_view start = record {
   flushed = start.tail;
   pinned = None;
   given_up = λ q. [];
+  saves = λ q. [];
 }
 
 -- in whatever state the book is one of, the log is flushed up to where the opening begins it

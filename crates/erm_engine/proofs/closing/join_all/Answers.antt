@@ -1,4 +1,4 @@
-use Rattle.std.proofs.Common.{length, map}
+use Rattle.std.proofs.Common.{map}
 use Rattle.erm_rule.specs.Books.{book}
 use Rattle.erm_engine.proofs.Joining.{are_joined}
 use Rattle.erm_engine.proofs.Taken.{then_taken}

@@ -1,12 +1,15 @@
-use Rattle.std.proofs.Common.{◌≡◌, ℕ, ◌+◌, sym, ap, ◌∙◌, subst, arith}
+use Rattle.std.proofs.Common.{◌≡◌, ℕ, ◌+◌, List, sym, ap, ◌∙◌, subst, arith}
 use Rattle.erm_machine.specs.declared.part.Part.{Part}
 use Rattle.erm_machine.proofs.Backs.{session_from}
+use Rattle.erm_model.specs.declared.history.VersionWritten.{VersionWritten}
 use Rattle.erm_rule.specs.Books.{book}
+use Rattle.erm_rule.specs.Views.{part_of}
+use Rattle.erm_world.specs.Saves.{with_saves}
 use Rattle.erm_own_view.specs.Own.{own_view}
 use Rattle.erm_session.specs.Session.{IsSession}
 use Rattle.erm_engine.specs.Opened.{AreNew, HasGiven}
 use Rattle.erm_engine.proofs.GivenUp.{new_idle}
-use Rattle.erm_engine.proofs.Handed.{idle_part, new_more, new_none, own_opened}
+use Rattle.erm_engine.proofs.Handed.{idle_part, new_more, new_none, none_saved, own_opened}
 use Rattle.erm_engine.proofs.giving.give_sessions.Goals as goal
 
 pub loop-q-init : goal.loop-q-init
@@ -38,13 +41,20 @@ loop-q-preserved g c =
     let n = c.loop-q.q in
     let b = book c.give-pass.result in
     let given = c.give-pass.ensures.given in
+    let given_to = c.in-Ok.session in
+    let part = idle_part t.words.shared.table_id o.run o.tail (n + 1) given_to.seat c.give-pass.result given.idle c.in-Ok.ensures.seat in
+    let here : IsSession given_to (part_of b.view given_to.seat) = subst (λ (x : Part). IsSession given_to x) (sym part) (c.in-Ok.ensures.idle o.tail) in
     let s = c.new-given.result in (
       c.give-pass.ensures.rest,
       subst (λ l. AreNew law t o (n + 1) l) (sym c.push_reserved.ensures.items)
           (new_more law t o n c.loop-q.sessions.items s c.loop-q.invariant.1 (record {
             stands = c.new-given.ensures.stands;
             seat_is = c.new-given.ensures.seat ∙ c.in-Ok.ensures.seat;
-            own = c.new-given.ensures.own ∙ ap (λ (q : ℕ). own_view q o.tail o.tail b) c.in-Ok.ensures.seat ∙ own_opened o (n + 1) b given.start given.idle.view_is;
+            own =
+                c.new-given.ensures.own
+                ∙ ap (λ (f : ℕ → List (List VersionWritten)). with_saves f (own_view given_to.seat o.tail o.tail b)) (none_saved given_to (part_of b.view given_to.seat) here (ap (λ (x : Part). x.place) part))
+                ∙ ap (λ (q : ℕ). own_view q o.tail o.tail b) c.in-Ok.ensures.seat
+                ∙ own_opened o (n + 1) b given.start given.idle.view_is;
           })),
       (let room = c.loop-q.invariant.2 in let same = c.push_reserved.ensures.capacity in omega (arith, room, same)),
     )
