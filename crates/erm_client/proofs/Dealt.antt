@@ -183,6 +183,8 @@ steps_told (command.Put table key value) r lines named = filter_map-append step_
 steps_told (command.Del table key) r lines named = filter_map-append step_of lines (record { asked = command.Del table key; answer = answer.Replied r } ∷ [])
 steps_told (command.Next table from) r lines named = filter_map-append step_of lines (record { asked = command.Next table from; answer = answer.Replied r } ∷ [])
 steps_told (command.Scan table low high) r lines named = filter_map-append step_of lines (record { asked = command.Scan table low high; answer = answer.Replied r } ∷ [])
+steps_told command.Save r lines named = filter_map-append step_of lines (record { asked = command.Save; answer = answer.Replied r } ∷ [])
+steps_told (command.Back n) r lines named = filter_map-append step_of lines (record { asked = command.Back n; answer = answer.Replied r } ∷ [])
 steps_told c r lines named = absurd (unnamed None refl named)
 
 pub at_replied : (c d : Transcript) (asked : Command) (r : Reply) (steps : List Step) → IsSome (op_of asked) → IsTranscript c → IsAt c steps → IsAnswered c asked (answer.Replied r) d
