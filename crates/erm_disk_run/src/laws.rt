@@ -25,6 +25,7 @@ pub(crate) fn courses_owe_to_answers()
     erm_causes::runs_touch_tables();
     erm_causes::runs_refuse_for_others();
     erm_causes::runs_tell_log();
+    erm_causes::runs_tell_saves();
     erm_causes::runs_draw_in_reach();
     erm_causes::courses_have_safe_snapshots();
     erm_told_limits::full_has_cause();

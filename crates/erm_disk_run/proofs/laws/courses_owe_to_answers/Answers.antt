@@ -14,6 +14,6 @@ returns c = λ v t script answers course closed opening are of.
       stamps = stamps tell go v t script answers course closed opening are of;
       snapshots = snapshots tell go c.told_worlds_have_snapshots.ensures v t script answers course closed opening are of;
       causes = end_causes c.runs_touch_tables.ensures tell v t script answers course closed opening are of;
-      refusals = with_cause c.runs_refuse_for_others.ensures c.full_has_cause.ensures c.end_has_cause.ensures c.runs_tell_log.ensures c.stamps_are_in_reach.ensures c.runs_draw_in_reach.ensures v t script answers course closed opening are of;
+      refusals = with_cause c.runs_refuse_for_others.ensures c.full_has_cause.ensures c.end_has_cause.ensures c.runs_tell_log.ensures c.runs_tell_saves.ensures c.stamps_are_in_reach.ensures c.runs_draw_in_reach.ensures v t script answers course closed opening are of;
       safe = c.courses_have_safe_snapshots.ensures v t script answers course closed opening are of;
     }
