@@ -28,6 +28,14 @@ const SAVED: &str =
 const READ: &str =
     "open 43 run 3\n1 begin 48\n2 value aa\nclose a aborted\norder 0\nmap 2\npair 0 10 aa\npair 0 20 bb\nend\n";
 
+// What a run behind the first one tells that goes back over a put, commits and is flushed.
+const BACK: &str =
+    "open 38 run 2\n1 begin 43\n2 saved 1\n3 ok\n4 back 1\n5 value aa\n6 committed 43 succ 43 pred 0\n7 flushed 52\norder 1\ncommit a 1 stamp 43 succ 43 pred 0\nmap 2\npair 0 10 aa\npair 0 20 bb\nend\n";
+
+// And the one behind it, which reads the key.
+const KEPT: &str =
+    "open 52 run 3\n1 begin 57\n2 value aa\nclose a aborted\norder 0\nmap 2\npair 0 10 aa\npair 0 20 bb\nend\n";
+
 // A line of the only session.
 fn of_session(line: u32, command: Command) -> ScriptLine
     ensures { result ≡ record { line = line; session = 1; command = command } }
@@ -104,18 +112,57 @@ fn writes() -> [ScriptLine; 5]
     ]
 }
 
+// A session reads a key.
+fn reads() -> [ScriptLine; 2]
+    ensures { (name : List ℕ) → IsScriptFor (name ∷ []) result }
+{
+    [
+        of_session(1, Command::Begin),
+        of_session(2, Command::Get { table: 0, key: 10 }),
+    ]
+}
+
+// A session goes back over a put of a key, reads it, and commits, and the log is flushed.
+fn goes_back() -> [ScriptLine; 7]
+    ensures { (name : List ℕ) → IsScriptFor (name ∷ []) result }
+{
+    let undone = Value::new(b"\xcc").unwrap();
+    [
+        of_session(1, Command::Begin),
+        of_session(2, Command::Save),
+        of_session(
+            3,
+            Command::Put {
+                table: 0,
+                key: 10,
+                value: undone,
+            },
+        ),
+        of_session(4, Command::Back { n: 1 }),
+        of_session(5, Command::Get { table: 0, key: 10 }),
+        of_session(6, Command::Commit),
+        of_log(7, Command::Flush),
+    ]
+}
+
 #[test]
 fn runs_go_on(rt: HostRuntime) -> Result<(), Fail> {
     let alloc = rt.alloc();
     let a = [Name::new(b"a").unwrap()];
     let alone = [of_log(1, Command::Flush), of_log(2, Command::Checkpoint)];
-    let reads = [
-        of_session(1, Command::Begin),
-        of_session(2, Command::Get { table: 0, key: 10 }),
-    ];
     let disk = tells(&rt, alloc, empty(alloc), &a, &writes(), WRITTEN)?;
     let disk = tells(&rt, alloc, disk, &[], &alone, SAVED)?;
-    tells(&rt, alloc, disk, &a, &reads, READ)?;
+    tells(&rt, alloc, disk, &a, &reads(), READ)?;
+    Ok(())
+}
+
+#[test]
+fn an_undone_put_leaves_no_value(rt: HostRuntime) -> Result<(), Fail> {
+    let alloc = rt.alloc();
+    let a = [Name::new(b"a").unwrap()];
+    let disk = tells(&rt, alloc, empty(alloc), &a, &writes(), WRITTEN)?;
+    let disk = tells(&rt, alloc, disk, &a, &goes_back(), BACK)?;
+    tells(&rt, alloc, disk, &a, &reads(), KEPT)?;
     Ok(())
 }
 
