@@ -57,7 +57,7 @@ module _ (script : List ScriptLine) (answers : List Answer) where
       → now ≡ stays_by (op_at script answers (get_or places i 0)) (get_or places i 0) before → now ≡ staying_from (op_at script answers) (take (i + 1) places) first
   one_more_stays places i first before now within was is =
       let p = get_or places i 0 in
-      is ∙ ap (λ s. stays_by (op_at script answers p) p s) was 
+      is ∙ ap (λ s. stays_by (op_at script answers p) p s) was
       ∙ sym (ap (λ ps. staying_from (op_at script answers) ps first) (take_more places i 0 within) ∙ staying_from-push (op_at script answers) (take i places) p first)
 
   -- the map after one more commit, or after a place that has none
