@@ -3,7 +3,7 @@ use Rattle.std.proofs.Common.{◌≡◌, ℕ, zero, suc, ◌+◌, List, [], ◌�
 use Rattle.std.proofs.lemmas.List.{length-append}
 use Rattle.std.specs.List.{slice_get}
 use Rattle.erm_client.proofs.Runs.{more_ran, none_ran, stopped_ran}
-use Rattle.erm_client.specs.Clients.{HasRun, RanUpTo}
+use Rattle.erm_client.specs.Clients.{HasRun, RanStarved, RanUpTo}
 use Rattle.erm_client.specs.declared.transcript.Standing.{Standing}
 use Rattle.erm_client.specs.declared.transcript.Standing.TheVariants as standing
 use Rattle.erm_client.specs.declared.transcript.Transcript.{Transcript}
@@ -15,6 +15,7 @@ use Rattle.erm_model.specs.Member.{◌∈◌}
 use Rattle.erm_report.specs.declared.answer.Answer.{Answer}
 use Rattle.erm_script.specs.declared.script.ScriptLine.{ScriptLine}
 use Rattle.erm_worker.specs.Work.{RanLines, WasLeft}
+use Rattle.erm_world.specs.Face.{Grows}
 use Rattle.erm_world.specs.World.{View}
 
 -- HOW MANY ANSWERS
@@ -114,13 +115,18 @@ module _ (f v u t : View) (c d : Transcript) where
       (subst (λ (ls : List ScriptLine). RanLines f c.seat ls d.answers.items v t) (sym ends.lines)
       (subst (λ (gs : List Answer). RanLines f c.seat (c.lines.items ++ l ∷ []) gs v t) (sym ends.answers) it)))
 
-  pub run_starves : IsTranscript c → c.standing ≡ standing.Open → Starves c d → HasRun f v c u → HasRun f v d t
-  run_starves ok opened starves ran =
+  pub run_starves : IsTranscript c → c.standing ≡ standing.Open → Starves c d → Grows (u.session c.seat) (t.session c.seat) → HasRun f v c u → HasRun f v d t
+  run_starves ok opened starves grown ran =
       let it = now_open opened ran in
+      let short : RanStarved f c.seat c.lines.items c.answers.items v t = record {
+        last = it.last;
+        run = it.run;
+        went = subst (λ (x : View). Grows (x.session c.seat) (t.session c.seat)) (sym (it.whole (open_each c ok opened))) grown;
+      } in
       subst (λ (s : Standing). RanUpTo s f d.seat d.lines.items d.answers.items v t) (sym starves.standing_so)
       (subst (λ (n : ℕ). RanUpTo standing.Starved f n d.lines.items d.answers.items v t) (sym starves.seat)
       (subst (λ (ls : List ScriptLine). RanUpTo standing.Starved f c.seat ls d.answers.items v t) (sym starves.lines)
-      (subst (λ (gs : List Answer). RanUpTo standing.Starved f c.seat c.lines.items gs v t) (sym starves.answers) (it.last, it.run))))
+      (subst (λ (gs : List Answer). RanUpTo standing.Starved f c.seat c.lines.items gs v t) (sym starves.answers) short)))
 
   pub run_same : IsSame c d → HasRun f v c t → HasRun f v d t
   run_same same ran =

@@ -8,5 +8,6 @@ pub mod Parts
 pub mod Runs
 pub mod Steps
 pub mod Stretched
+pub mod Telling
 pub mod Told
 pub mod Watched

@@ -2,12 +2,12 @@
 ghost use Rattle.std.specs.Prelude.{◌≡◌, ◌≢◌, ◌<◌, IfErr, IfOk, None, OnOk, false, true};
 ghost use Rattle.std.specs.List.{All};
 ghost use Rattle.erm_beside.specs.Laws.{GoesOnward};
-ghost use Rattle.erm_client.specs.Clients.{FinishesWork, GoesOn, HasRun, IsClient};
+ghost use Rattle.erm_client.specs.Clients.{FinishesWork, GoesOn, HasRun, IsClient, Rests, StarvesWork};
 ghost use Rattle.erm_client.specs.Dealings.{HasNone};
 ghost use Rattle.erm_client.specs.Refusals.{IsOfClient};
-ghost use Rattle.erm_client.specs.Transcripts.{HasRoom, IsAnswered, IsAsked, IsLine, IsNew, IsRefused, IsUnended};
+ghost use Rattle.erm_client.specs.Transcripts.{HasRoom, IsAnswered, IsAsked, IsLine, IsNew, IsRefused, IsUnended, room_for};
 ghost use Rattle.erm_lines.specs.Whole.{is_snapshot};
-ghost use Rattle.erm_model.specs.declared.outcome.Phase.TheVariants.{Active, Sealed};
+ghost use Rattle.erm_model.specs.declared.outcome.Phase.TheVariants.{Active, Idle, Sealed};
 ghost use Rattle.erm_model.specs.RowTransaction.{SameLaw};
 ghost use Rattle.erm_node.specs.Sound.{sound_law};
 ghost use Rattle.erm_script.specs.Script.{IsInRange};
@@ -34,6 +34,16 @@ fn bytes_are_small(bytes: &[u8])
     ensures { All (λ b. b < 256) bytes.now }
 {}
 
+// For how many lines there is to be room before a command is asked: for its own, and for one that gives up what may be in progress then.
+fn lines_ahead(command: &Command) -> usize
+    ensures { result ≡ room_for command.now }
+{
+    match command {
+        Command::Abort => 1,
+        _ => 2,
+    }
+}
+
 /// A session of a world, as a program has it.
 #[derive(Drop)]
 pub struct Client<'a, S: SharedSession, T> {
@@ -59,7 +69,7 @@ pub struct Finished<S, T> {
 }
 
 impl<'a, S: SafeSession, T: Turns> Client<'a, S, T> {
-    /// The client of a session, of this seat, that has committed nothing.
+    /// The client of a session, of this seat, that is idle and has committed nothing.
     pub fn new(
         alloc: Global,
         session: S,
@@ -70,6 +80,7 @@ impl<'a, S: SafeSession, T: Turns> Client<'a, S, T> {
         requires stands { S.stands shared.now session }
         requires seat { seat ≡ S.seat session }
         requires ready { IsReady ((S.own session).session (S.seat session)) None }
+        requires idle { phase_at (S.own session) (S.seat session) ≡ Idle }
         ensures client { IsClient S.stands S.seat S.own result }
         ensures same { result.session ≡ session }
         ensures shared { result.shared ≡ shared.entry }
@@ -91,13 +102,16 @@ impl<'a, S: SafeSession, T: Turns> Client<'a, S, T> {
         requires law { SameLaw S.law sound_law }
         requires client { IsClient S.stands S.seat S.own self.old }
         requires opened { self.old.transcript.standing ≡ Standing.Open }
-        requires room { HasRoom self.old.transcript }
+        requires room { HasRoom (room_for line.command) self.old.transcript }
         requires line { IsLine (S.seat self.old.session) line }
         ensures on { GoesOn S.stands S.seat S.own S.ends T.told self.old self.new }
-        ensures ok { OnOk result (IsAsked (phase_at (S.own self.old.session) (S.seat self.old.session)) self.old.transcript line.command self.new.transcript) }
+        ensures ok { OnOk result (IsAsked (phase_at (S.own self.old.session) (S.seat self.old.session)) (phase_at (S.own self.new.session) (S.seat self.new.session)) self.old.transcript line.command self.new.transcript) }
         ensures err { IfErr result (λ why. IsRefused self.old.transcript line.command why self.new.transcript) }
         ensures other { IfErr result (λ why. why ≢ Refusal.Ended) }
+        ensures rests { line.command ≡ Command.Abort → Rests S.seat S.own self.new }
     {
+        erm_maps::begun_transactions_are_runs();
+        erm_maps::answers_stay();
         match run_next(
             rt,
             self.alloc,
@@ -122,7 +136,8 @@ impl<'a, S: SafeSession, T: Turns> Client<'a, S, T> {
         }
     }
 
-    // Asks a command of the session, and puts it and its answer into the transcript. The memory for both is taken before.
+    // Asks a command of the session, and puts it and its answer into the transcript. The memory for both is taken before, and for a line that gives up what
+    // is in progress then: so this one is always there.
     fn ask<R: Wait>(&mut self, rt: &R, command: Command) -> Result<(), Refusal>
         requires law { SameLaw S.law sound_law }
         requires client { IsClient S.stands S.seat S.own self.old }
@@ -130,16 +145,17 @@ impl<'a, S: SafeSession, T: Turns> Client<'a, S, T> {
         requires of { IsOfClient command }
         requires range { IsInRange command }
         ensures on { GoesOn S.stands S.seat S.own S.ends T.told self.old self.new }
-        ensures ok { OnOk result (IsAsked (phase_at (S.own self.old.session) (S.seat self.old.session)) self.old.transcript command self.new.transcript) }
+        ensures ok { OnOk result (IsAsked (phase_at (S.own self.old.session) (S.seat self.old.session)) (phase_at (S.own self.new.session) (S.seat self.new.session)) self.old.transcript command self.new.transcript) }
         ensures err { IfErr result (λ why. IsRefused self.old.transcript command why self.new.transcript) }
         ensures other { IfErr result (λ why. why ≢ Refusal.Ended) }
+        ensures rests { command ≡ Command.Abort → Rests S.seat S.own self.new }
     {
         match self.transcript.standing {
             Standing::Open => {}
             Standing::Stopped => return Err(Refusal::Stopped),
             Standing::Starved => return Err(Refusal::Memory),
         }
-        if self.transcript.make_room().is_err() {
+        if self.transcript.make_room(lines_ahead(&command)).is_err() {
             return Err(Refusal::Memory);
         }
         let line = self.transcript.next_line(command);
@@ -248,13 +264,15 @@ impl<'a, S: SafeSession, T: Turns> Client<'a, S, T> {
         found_in(self.alloc, self.transcript.last())
     }
 
-    /// Commits the transaction, or gives it up where its exclusion window is closed. It waits for others that may count for that.
+    /// Commits the transaction, or gives it up where its exclusion window is closed. It waits for others that may count for that. Once it has committed
+    /// nothing is in progress.
     pub fn commit<R: Wait>(&mut self, rt: &R) -> Result<Commit, Refusal>
         requires law { SameLaw S.law sound_law }
         requires client { IsClient S.stands S.seat S.own self.old }
         ensures on { GoesOn S.stands S.seat S.own S.ends T.told self.old self.new }
         ensures ok { IfOk result (λ commit. IsAnswered self.old.transcript Command.Commit (Answer.Committed commit.stamp commit.succ commit.pred) self.new.transcript) }
         ensures err { IfErr result (λ why. IsRefused self.old.transcript Command.Commit why self.new.transcript) }
+        ensures rests { OnOk result (Rests S.seat S.own self.new) }
     {
         self.ask(rt, Command::Commit)?;
         commit_in(self.transcript.last())
@@ -279,6 +297,7 @@ impl<'a, S: SafeSession, T: Turns> Client<'a, S, T> {
         ensures on { GoesOn S.stands S.seat S.own S.ends T.told self.old self.new }
         ensures ok { OnOk result (IsAnswered self.old.transcript Command.Commit Answer.Ended self.new.transcript) }
         ensures err { IfErr result (λ why. IsUnended self.old.transcript why self.new.transcript) }
+        ensures rests { OnOk result (Rests S.seat S.own self.new) }
     {
         if self.has_no_snapshot() {
             return Err(Refusal::NoSnapshot);
@@ -287,13 +306,15 @@ impl<'a, S: SafeSession, T: Turns> Client<'a, S, T> {
         end_in(self.transcript.last())
     }
 
-    /// Gives the transaction up: nothing of it stays. A snapshot is over then, without a place in the serial order.
+    /// Gives the transaction up: nothing of it stays. A snapshot is over then, without a place in the serial order. Whatever it answers, nothing is in
+    /// progress behind it, unless memory ran out in the line itself: there is always room for its line.
     pub fn abort<R: Wait>(&mut self, rt: &R) -> Result<(), Refusal>
         requires law { SameLaw S.law sound_law }
         requires client { IsClient S.stands S.seat S.own self.old }
         ensures on { GoesOn S.stands S.seat S.own S.ends T.told self.old self.new }
         ensures ok { OnOk result (IsAnswered self.old.transcript Command.Abort Answer.Aborted self.new.transcript) }
         ensures err { IfErr result (λ why. IsRefused self.old.transcript Command.Abort why self.new.transcript) }
+        ensures rests { Rests S.seat S.own self.new }
     {
         self.ask(rt, Command::Abort)?;
         abort_in(self.transcript.last())
@@ -320,6 +341,7 @@ impl<'a, S: SafeSession, T: Turns> Client<'a, S, T> {
         ensures transcript { result.transcript ≡ self.entry.transcript }
         ensures rests { phase_at (S.own result.session) (S.seat self.entry.session) ≡ Active → ⊥ }
         ensures did { FinishesWork (S.ends self.entry.session) (S.own self.entry.session) (S.ends result.session) (S.own result.session) result.transcript result.closed }
+        ensures starved { StarvesWork (S.ends self.entry.session) (S.own self.entry.session) (S.ends result.session) (S.own result.session) result.transcript result.closed }
         ensures waits { self.entry.transcript.standing ≡ Standing.Open → result.closed ≡ None → phase_at (S.own result.session) (S.seat self.entry.session) ≡ Sealed → T.told result.turns }
     {
         let Client {

@@ -66,7 +66,7 @@ mod replies;
 mod transcript;
 
 pub use client::{Client, Finished};
-pub use laws::{client_is_a_part, transcripts_are_a_run};
+pub use laws::{client_is_a_part, refusals_tell, transcripts_are_a_run};
 pub use refusal::Refusal;
 pub use replies::Commit;
 pub use transcript::{Standing, Transcript};
