@@ -3,6 +3,7 @@ pub mod Dealt
 pub mod Ended
 pub mod Grown
 pub mod Joined
+pub mod Leaving
 pub mod Onward
 pub mod Parts
 pub mod Runs

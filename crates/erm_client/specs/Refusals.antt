@@ -30,6 +30,15 @@ refusal_told (answer.OidsFull drawn) = Some (refusal.OidsFull drawn)
 refusal_told answer.NoReceipt = Some refusal.NoReceipt
 refusal_told a = None
 
+-- refusals with which the transaction, or the snapshot, has ended
+abbrev pub IsEnding : Refusal → Type 0
+IsEnding refusal.Ended = Unit {0}
+IsEnding (refusal.Unsafe seat stamp) = Unit {0}
+IsEnding (refusal.Owned seat number) = Unit {0}
+IsEnding (refusal.Newer stamp) = Unit {0}
+IsEnding (refusal.Excluded succ pred) = Unit {0}
+IsEnding why = ⊥
+
 -- an answer tells a refusal; that a snapshot has ended is one to a commit alone
 abbrev pub IsRefusal : Answer → Type 0
 IsRefusal answer.Ended = ⊥

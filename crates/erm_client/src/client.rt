@@ -70,6 +70,10 @@ pub struct Finished<S, T> {
 
 impl<'a, S: SafeSession, T: Turns> Client<'a, S, T> {
     /// The client of a session, of this seat, that is idle and has committed nothing.
+    ///
+    /// ```text
+    /// let mut client = Client::new(alloc, session, &table, turns, seat);
+    /// ```
     pub fn new(
         alloc: Global,
         session: S,
@@ -163,6 +167,10 @@ impl<'a, S: SafeSession, T: Turns> Client<'a, S, T> {
     }
 
     /// Begins a transaction: its begin stamp.
+    ///
+    /// ```text
+    /// let begin = client.begin(rt)?;
+    /// ```
     pub fn begin<R: Wait>(&mut self, rt: &R) -> Result<Stamp, Refusal>
         requires law { SameLaw S.law sound_law }
         requires client { IsClient S.stands S.seat S.own self.old }
@@ -176,6 +184,13 @@ impl<'a, S: SafeSession, T: Turns> Client<'a, S, T> {
 
     /// Begins a snapshot, which only reads, and waits until it is known whether it is safe: its begin stamp. It sees what had committed by its begin, and
     /// no more, and what is asked of it is never refused for others, nor is anything of others for it.
+    ///
+    /// ```text
+    /// match client.safe(rt) {
+    ///     Err(Refusal::Unsafe { .. }) => client.safe(rt)?,
+    ///     begin => begin?,
+    /// };
+    /// ```
     pub fn safe<R: Wait>(&mut self, rt: &R) -> Result<Stamp, Refusal>
         requires law { SameLaw S.law sound_law }
         requires client { IsClient S.stands S.seat S.own self.old }
@@ -188,6 +203,12 @@ impl<'a, S: SafeSession, T: Turns> Client<'a, S, T> {
     }
 
     /// Reads the value of a key, if it has one.
+    ///
+    /// ```text
+    /// let Some(value) = client.get(rt, 0, key)? else {
+    ///     return Ok(None);
+    /// };
+    /// ```
     pub fn get<R: Wait>(&mut self, rt: &R, table: u8, key: u64) -> Result<Option<Value>, Refusal>
         requires law { SameLaw S.law sound_law }
         requires client { IsClient S.stands S.seat S.own self.old }
@@ -200,7 +221,11 @@ impl<'a, S: SafeSession, T: Turns> Client<'a, S, T> {
         value_in(self.transcript.last())
     }
 
-    /// Sets the value of a key.
+    /// Sets the value of a key. Where it is refused because memory ran out, the transcript has nothing of it; so it is of each call but a scan.
+    ///
+    /// ```text
+    /// client.put(rt, 0, key, value)?;
+    /// ```
     pub fn put<R: Wait>(&mut self, rt: &R, table: u8, key: u64, value: Value) -> Result<(), Refusal>
         requires law { SameLaw S.law sound_law }
         requires client { IsClient S.stands S.seat S.own self.old }
@@ -215,6 +240,10 @@ impl<'a, S: SafeSession, T: Turns> Client<'a, S, T> {
     }
 
     /// Takes the value of a key away, if it has one.
+    ///
+    /// ```text
+    /// client.del(rt, 0, key)?;
+    /// ```
     pub fn del<R: Wait>(&mut self, rt: &R, table: u8, key: u64) -> Result<(), Refusal>
         requires law { SameLaw S.law sound_law }
         requires client { IsClient S.stands S.seat S.own self.old }
@@ -228,6 +257,10 @@ impl<'a, S: SafeSession, T: Turns> Client<'a, S, T> {
     }
 
     /// Finds the least key at or above `from` that has a value.
+    ///
+    /// ```text
+    /// let mut found = client.next(rt, 0, from)?;
+    /// ```
     pub fn next<R: Wait>(
         &mut self,
         rt: &R,
@@ -245,7 +278,14 @@ impl<'a, S: SafeSession, T: Turns> Client<'a, S, T> {
         pair_in(self.transcript.last())
     }
 
-    /// Finds all keys from `low` to `high`, these two too, that have a value. Memory is taken for them twice: the transcript has them too.
+    /// Finds all keys from `low` to `high`, these two too, that have a value. Memory is taken for them twice: the transcript has them too, also where there is
+    /// none for the caller's copy.
+    ///
+    /// ```text
+    /// for (key, value) in client.scan(rt, 0, low, high)?.as_slice() {
+    ///     sum = added(sum, key, value);
+    /// }
+    /// ```
     pub fn scan<R: Wait>(
         &mut self,
         rt: &R,
@@ -266,6 +306,14 @@ impl<'a, S: SafeSession, T: Turns> Client<'a, S, T> {
 
     /// Commits the transaction, or gives it up where its exclusion window is closed. It waits for others that may count for that. Once it has committed
     /// nothing is in progress.
+    ///
+    /// ```text
+    /// match client.commit(rt) {
+    ///     Ok(commit) => Ok(commit.stamp),
+    ///     Err(Refusal::Excluded { .. }) => again(rt, client),
+    ///     Err(why) => Err(why),
+    /// }
+    /// ```
     pub fn commit<R: Wait>(&mut self, rt: &R) -> Result<Commit, Refusal>
         requires law { SameLaw S.law sound_law }
         requires client { IsClient S.stands S.seat S.own self.old }
@@ -291,6 +339,12 @@ impl<'a, S: SafeSession, T: Turns> Client<'a, S, T> {
     }
 
     /// Ends the snapshot: it has its place in the serial order, in front of all that commit at its begin stamp or later. A transaction isn't ended so.
+    ///
+    /// ```text
+    /// client.safe(rt)?;
+    /// let found = client.scan(rt, 0, 0, u64::MAX)?;
+    /// client.end(rt)?;
+    /// ```
     pub fn end<R: Wait>(&mut self, rt: &R) -> Result<(), Refusal>
         requires law { SameLaw S.law sound_law }
         requires client { IsClient S.stands S.seat S.own self.old }
@@ -308,6 +362,13 @@ impl<'a, S: SafeSession, T: Turns> Client<'a, S, T> {
 
     /// Gives the transaction up: nothing of it stays. A snapshot is over then, without a place in the serial order. Whatever it answers, nothing is in
     /// progress behind it, unless memory ran out in the line itself: there is always room for its line.
+    ///
+    /// ```text
+    /// let Some(left) = own.checked_sub(amount) else {
+    ///     client.abort(rt)?;
+    ///     return Ok(false);
+    /// };
+    /// ```
     pub fn abort<R: Wait>(&mut self, rt: &R) -> Result<(), Refusal>
         requires law { SameLaw S.law sound_law }
         requires client { IsClient S.stands S.seat S.own self.old }
@@ -321,6 +382,11 @@ impl<'a, S: SafeSession, T: Turns> Client<'a, S, T> {
     }
 
     /// Waits until the session's last commit is on the disk: its stamp.
+    ///
+    /// ```text
+    /// client.commit(rt)?;
+    /// let stamp = client.durable(rt)?;
+    /// ```
     pub fn durable<R: Wait>(&mut self, rt: &R) -> Result<Stamp, Refusal>
         requires law { SameLaw S.law sound_law }
         requires client { IsClient S.stands S.seat S.own self.old }
@@ -334,6 +400,10 @@ impl<'a, S: SafeSession, T: Turns> Client<'a, S, T> {
 
     /// Closes the session behind its last line: its transaction is aborted where it is active. A session whose client was told to stop, or without
     /// memory, isn't closed; its transaction is given up. It comes back, and so do the transcript and what the client waited by.
+    ///
+    /// ```text
+    /// let Finished { session, transcript, .. } = client.close(rt);
+    /// ```
     pub fn close<R: Wait>(self, rt: &R) -> Finished<S, T>
         requires client { IsClient S.stands S.seat S.own self }
         ensures stands { S.stands self.entry.shared.now result.session }

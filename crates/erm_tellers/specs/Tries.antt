@@ -24,8 +24,8 @@ pub record Begun (c d : Transcript) : Type 0 where
   pub went : Went 1 [] [] c d
   pub once : begins_in d ≡ begins_in c + 1
 
--- A try was given up: one of its calls was refused so, and nothing committed or ended. It had been begun, unless the client was told to stop, or memory ran
--- out.
+-- A try was given up: one of its calls was refused so, and nothing committed or ended. Where that was by an answer, it had begun: only where the client was
+-- told to stop, or memory ran out, it may not have.
 pub record GaveUp (why : Refusal) (c d : Transcript) : Type 0 where
   pub refused : WasRefused why c d
   pub went : Went 1 [] [] c d
