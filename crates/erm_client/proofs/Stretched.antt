@@ -244,7 +244,7 @@ module _ (c d : Transcript) (ok : IsTranscript c) where
     commits_are = commits_still c d (dealt_starves c d starves);
     snapshots_are = snapshots_same c d starves.seat (dealt_starves c d starves);
   }
-  went_refused asked why none (refused.unasked opened is no same) = unasked asked same
+  went_refused asked why none (refused.unasked opened is none_there same) = unasked asked same
   went_refused asked why none (refused.over is same) = unasked asked same
 
   -- a commit

@@ -53,9 +53,9 @@ answers_refuse c d asked why by (refused.unasked opened is none same) = absurd (
 answers_refuse c d asked why by (refused.over is same) = absurd (over_by c.standing why is by)
 
 pub memory_leaves : MemoryLeavesNothing
-memory_leaves c d asked no (refused.answered a did is) = absurd (never_starves a is)
-memory_leaves c d asked no (refused.untold table low high found scans did is) = absurd (no table low high scans)
-memory_leaves c d asked no (refused.stopped number opened is ends) = absurd (cc)
-memory_leaves c d asked no (refused.starved opened is starves) = (starves.lines, starves.answers)
-memory_leaves c d asked no (refused.unasked opened is none same) = (same.lines, same.answers)
-memory_leaves c d asked no (refused.over is same) = (same.lines, same.answers)
+memory_leaves c d asked other (refused.answered a did is) = absurd (never_starves a is)
+memory_leaves c d asked other (refused.untold table low high found scans did is) = absurd (other table low high scans)
+memory_leaves c d asked other (refused.stopped number opened is ends) = absurd (cc)
+memory_leaves c d asked other (refused.starved opened is starves) = (starves.lines, starves.answers)
+memory_leaves c d asked other (refused.unasked opened is none same) = (same.lines, same.answers)
+memory_leaves c d asked other (refused.over is same) = (same.lines, same.answers)

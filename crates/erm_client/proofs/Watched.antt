@@ -141,14 +141,14 @@ module _ (phase next : Phase) where
   goes p line look is so = record {
     active = mapped p.current line (phase ≡ Active) (next ≡ Active) (λ active. is ∙ active) so.active;
     safe = mapped p.snapshot look (phase ≡ Safe) (next ≡ Safe) (λ safe. is ∙ safe) so.safe;
-    idle = λ none no. subst (λ (x : Phase). (x ≡ Idle) ⊎ (x ≡ Pending)) (sym is) (so.idle (unmapped p.current line none) (unmapped p.snapshot look no));
+    idle = λ none unwatched. subst (λ (x : Phase). (x ≡ Idle) ⊎ (x ≡ Pending)) (sym is) (so.idle (unmapped p.current line none) (unmapped p.snapshot look unwatched));
   }
 
 -- nothing is in progress
 pub at_rest : (next : Phase) (q : Progress) → q.current ≡ None → q.snapshot ≡ None → next ≡ Idle → IsInPhase next q
-at_rest next q none no is = record {
+at_rest next q none unwatched is = record {
   active = subst (λ (o : Option Transaction). IfSome o (λ _. next ≡ Active)) (sym none) tt;
-  safe = subst (λ (o : Option Snapshot). IfSome o (λ _. next ≡ Safe)) (sym no) tt;
+  safe = subst (λ (o : Option Snapshot). IfSome o (λ _. next ≡ Safe)) (sym unwatched) tt;
   idle = λ _ _. inl is;
 }
 
@@ -160,12 +160,12 @@ module _ (seat : ℕ) (c : Command) (phase next : Phase) (p : Progress) where
   after (answer.Began stamp) of tells fits is so = record {
     active = is;
     safe = subst (λ (o : Option Snapshot). IfSome o (λ _. next ≡ Safe)) (sym (comes_alone c (answer.Began stamp) phase p of tells fits so)) tt;
-    idle = λ none no. absurd (some_not _ none);
+    idle = λ none _. absurd (some_not _ none);
   }
   after (answer.Safe stamp) of tells fits is so = record {
     active = subst (λ (o : Option Transaction). IfSome o (λ _. next ≡ Active)) (sym (none_beside c stamp phase p of tells fits so)) tt;
     safe = is;
-    idle = λ none no. absurd (some_not _ no);
+    idle = λ _ none. absurd (some_not _ none);
   }
   after (answer.Sealed stamp) of tells fits is so = absurd (never_seals c stamp of tells)
   after (answer.WaitSeat other seen) of tells fits is so = absurd (never_waits_seat c other seen of tells)
