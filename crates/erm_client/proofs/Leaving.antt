@@ -1,15 +1,14 @@
 -- What a refusal leaves in progress.
-use Rattle.std.proofs.Common.{◌≡◌, ℕ, List, [], ◌++◌, Option, Some, None, append-nil, option_map, refl, sym, ap, ◌∙◌, subst}
+use Rattle.std.proofs.Common.{◌≡◌, ℕ, List, ◌++◌, Option, Some, None, append-nil, option_map, refl, sym, ap, ◌∙◌, subst}
 use Rattle.std.proofs.lemmas.List.Elements.{filter_map-append}
 use Rattle.erm_client.proofs.Dealt.{dealt_answered}
 use Rattle.erm_client.proofs.Telling.{answers_refuse}
-use Rattle.erm_client.specs.Dealings.{HasNothing, IsAt, IsSafeAt, dealings_of}
+use Rattle.erm_client.specs.Dealings.{IsAt, IsSafeAt, dealings_of}
 use Rattle.erm_client.specs.declared.refusal.Refusal.{Refusal}
 use Rattle.erm_client.specs.declared.refusal.Refusal.TheVariants as refusal
 use Rattle.erm_client.specs.declared.transcript.Transcript.{Transcript}
 use Rattle.erm_client.specs.Laws.{EndingRefusalsEnd, OtherRefusalsLeave}
 use Rattle.erm_client.specs.Refusals.{IsByAnswer, IsEnding, refusal_told}
-use Rattle.erm_client.specs.Transcripts.{IsTranscript}
 use Rattle.erm_good_report.specs.Transactions.{Progress, Snapshot, Transaction, heard, looks_of, reply_in, step_of, steps_of, with_line, with_look}
 use Rattle.erm_model.specs.Run.{Step}
 use Rattle.erm_report.specs.declared.answer.Answer.{Answer}

@@ -1,17 +1,15 @@
 -- What a refusal tells of the transcript behind it.
-use Rattle.std.proofs.Common.{◌≡◌, Option, Some, refl, sym, ap, ◌∙◌, subst}
+use Rattle.std.proofs.Common.{◌≡◌, Some, refl, sym, ◌∙◌, subst}
 use Rattle.erm_client.specs.declared.refusal.Refusal.{Refusal}
 use Rattle.erm_client.specs.declared.refusal.Refusal.TheVariants as refusal
 use Rattle.erm_client.specs.declared.transcript.Standing.{Standing}
 use Rattle.erm_client.specs.declared.transcript.Standing.TheVariants as standing
-use Rattle.erm_client.specs.declared.transcript.Transcript.{Transcript}
 use Rattle.erm_client.specs.Laws.{AnswersRefuse, MemoryLeavesNothing, StopsAreStops}
 use Rattle.erm_client.specs.Refusals.{IsByAnswer, refusal_told}
 use Rattle.erm_client.specs.Transcripts.{IsRefused, over_told}
 use Rattle.erm_client.specs.Transcripts as refused
 use Rattle.erm_report.specs.declared.answer.Answer.{Answer}
 use Rattle.erm_report.specs.declared.answer.Answer.TheVariants as answer
-use Rattle.erm_script.specs.declared.script.Command.{Command}
 
 -- no answer tells that the client was told to stop, or that memory ran out
 never_stops : (a : Answer) → refusal_told a ≡ Some refusal.Stopped → ⊥

@@ -11,7 +11,7 @@ use Rattle.erm_good_report.specs.Phases.{phase_after}
 use Rattle.erm_lines.specs.Whole.{is_snapshot}
 use Rattle.erm_report.specs.declared.answer.Answer.{Answer}
 use Rattle.erm_worker.specs.Work.{IsReady, RanLine}
-use Rattle.erm_world.specs.World.{phase_at}
+use Rattle.erm_world.specs.World.{View, phase_at}
 
 pub returns-in-Ok-Some-clause-on : goal.returns-in-Ok-Some-clause-on
 returns-in-Ok-Some-clause-on g c =
@@ -61,13 +61,14 @@ returns-in-Ok-Some-clause-rests g c asks =
     let ready : IsReady (t.session seat) c.run_next.new.receipt =
     subst (λ (o : Option Answer). IfSome o (λ _. IsReady (t.session seat) c.run_next.new.receipt)) c.in-Ok-Some.field-0-is c.in-Ok-Some.ensures.ready in
     let leave = lines_leave c.begun_transactions_are_runs.ensures c.answers_stay.ensures in
-    let ran = λ f end. subst (λ (o : Option Answer). RanLine f c.args.line o v t) c.in-Ok-Some.field-0-is (c.in-Ok-Some.ensures.ran f end) in
+    let ran : (f : View) → g.S.SharedSession.ends c.run_next.new.session f → RanLine f c.args.line (Some c.in-Ok-Some.answer) v t = λ f end. subst (λ (o : Option Answer). RanLine f c.args.line o v t) c.in-Ok-Some.field-0-is (c.in-Ok-Some.ensures.ran f end) in
     let some = g.met.S.SharedSession.some c.args.self.now.shared.now c.run_next.new.session c.run_next.ensures.stands in
     let on = answered_goes g.S.SharedSession.stands g.S.SharedSession.seat g.S.SharedSession.own g.S.SharedSession.ends g.T.Turns.told c.args.self.now _
     c.requires.client c.requires.opened refl c.run_next.ensures.stands c.run_next.ensures.onward leave c.args.line c.in-Ok-Some.answer c.requires.line ran some ready c.add.ensures.more
     (room_left c.args.line.command c.args.self.now.transcript c.add.new.self c.requires.room c.add.ensures.left) in
     rests_idle g.S.SharedSession.stands g.S.SharedSession.seat g.S.SharedSession.own _ on.client
-    (aborted_rests g.S.SharedSession.stands g.S.SharedSession.seat g.S.SharedSession.own g.S.SharedSession.ends g.T.Turns.told c.args.self.now _
+    (aborted_rests g.S.SharedSession.stands g.S.SharedSession.seat g.S.SharedSession.own g.S.SharedSession.ends g.T.Turns.told c.args.self.now
+    (record { alloc = c.args.self.now.alloc; session = c.run_next.new.session; shared = c.args.self.now.shared; turns = c.run_next.new.turns; receipt = c.run_next.new.receipt; transcript = c.add.new.self })
     c.requires.client c.requires.opened refl c.run_next.ensures.stands c.run_next.ensures.onward leave c.args.line c.in-Ok-Some.answer c.requires.line ran some asks)
 
 pub returns-in-Ok-None-clause-on : goal.returns-in-Ok-None-clause-on
