@@ -1,5 +1,5 @@
 //! The total that an audit shows.
-ghost use Rattle.std.specs.Prelude.{◌≡◌, ◌+◌, ◌*◌, ◌<◌, ◌^◌, IfNone, IfSome, length};
+ghost use Rattle.std.specs.Prelude.{◌≡◌, ◌+◌, ◌*◌, ◌<◌, ◌≤◌, ◌^◌, IfNone, IfSome, length};
 ghost use Rattle.erm_accounts.specs.Totals.{AddUpTo, sum_found};
 ghost use Rattle.erm_tellers.specs.Denials.{AreUnreadable, HasNoTotal};
 
@@ -9,6 +9,7 @@ use erm_model::{Pairs, Value};
 // The sum of the balances that were found in one table, each with 2 ^ 63 added; or `None` where something else than eight bytes was found.
 fn sum_of(found: &[(u64, Value)]) -> Option<u128>
     ensures sum { IfSome result (λ sum. sum ≡ sum_found found.now) }
+    ensures below { IfSome result (λ sum. sum < 2 ^ 127) }
     ensures none { IfNone result (AreUnreadable found.now) }
 {
     let mut sum = 0;

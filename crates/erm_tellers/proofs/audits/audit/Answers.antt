@@ -1,6 +1,7 @@
-use Rattle.std.proofs.Common.{arith, max}
+use Rattle.std.proofs.Common.{arith}
 use Rattle.erm_tellers.proofs.Behind.{audited_kept, audited_vain, goes, tried_first, tried_more, tried_within}
 use Rattle.erm_tellers.proofs.audits.audit.Goals as goal
+use Rattle.erm_tellers.specs.Served.{AuditedOnce}
 
 pub returns-then-not-is_unsafe-clause-kept : goal.returns-then-not-is_unsafe-clause-kept
 returns-then-not-is_unsafe-clause-kept g c =
@@ -35,4 +36,4 @@ pub returns-clause-ended : goal.returns-clause-ended
 returns-clause-ended g c =
     let few = c.tries.invariant.ended.few in
     let within = c.tries.invariant.within in
-    tried_within c.tries.invariant.ended within (λ _. omega (arith, few, within, c.tries-test.false))
+    tried_within {CameTo = AuditedOnce c.args.low c.args.high c.tries.found} c.tries.invariant.ended within (λ _. omega (arith, few, within, c.tries-test.false))

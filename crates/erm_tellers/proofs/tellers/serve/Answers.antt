@@ -1,4 +1,4 @@
-use Rattle.std.proofs.Common.{arith, max}
+use Rattle.std.proofs.Common.{arith}
 use Rattle.erm_tellers.proofs.Behind.{goes, served_done, served_kept, served_vain, tried_first, tried_more, tried_within}
 use Rattle.erm_tellers.proofs.tellers.serve.Goals as goal
 
