@@ -121,6 +121,10 @@ fn track<'a, S: SafeSession, T: Turns, R: Wait>(
 
 /// The same audit in a transaction. It sees what had committed by its begin without a wait, but what it reads is counted, so that it may be excluded, and
 /// others for it; and it reads some hundreds of accounts at most. It is tried once, and leaves nothing in progress, as above.
+///
+/// ```text
+/// let (current, savings) = audit_in_transaction(rt, client, 1, 100)?;
+/// ```
 pub fn audit_in_transaction<'a, S: SafeSession, T: Turns, R: Wait>(
     rt: &R,
     client: &mut Client<'a, S, T>,
