@@ -1,5 +1,5 @@
 -- A transcript with one line more: whose lines it has, and how it goes on.
-use Rattle.std.proofs.Common.{◌≡◌, ℕ, zero, suc, ◌+◌, List, [], ◌∷◌, ◌++◌, length, Some, inl, inr, sym, ap, ◌∙◌, subst, arith}
+use Rattle.std.proofs.Common.{◌≡◌, ℕ, zero, suc, ◌+◌, List, [], ◌∷◌, ◌++◌, length, Some, inl, inr, sym, ap, ◌∙◌, subst, arith, le_trans}
 use Rattle.std.proofs.lemmas.List.{length-append}
 use Rattle.std.specs.List.{slice_get}
 use Rattle.erm_client.proofs.Runs.{more_ran, none_ran, stopped_ran}
@@ -8,7 +8,7 @@ use Rattle.erm_client.specs.declared.transcript.Standing.{Standing}
 use Rattle.erm_client.specs.declared.transcript.Standing.TheVariants as standing
 use Rattle.erm_client.specs.declared.transcript.Transcript.{Transcript}
 use Rattle.erm_client.specs.Refusals.{MayTell}
-use Rattle.erm_client.specs.Transcripts.{EndsWith, HasAnswers, HasMore, IsLine, IsNew, IsSame, IsTranscript, Starves}
+use Rattle.erm_client.specs.Transcripts.{EndsWith, HasAnswers, HasMore, IsLine, IsNew, IsSame, IsTranscript, KeepsRoom, Starves}
 use Rattle.erm_lines_at_once.specs.Answers.{DidLineBeside}
 use Rattle.erm_model.proofs.Members.{slice_get-push, ∈-push}
 use Rattle.erm_model.specs.Member.{◌∈◌}
@@ -17,6 +17,10 @@ use Rattle.erm_script.specs.declared.script.ScriptLine.{ScriptLine}
 use Rattle.erm_worker.specs.Work.{RanLines, WasLeft}
 use Rattle.erm_world.specs.Face.{Grows}
 use Rattle.erm_world.specs.World.{View}
+
+-- ROOM is never given back.
+pub room_then : {c d e : Transcript} → KeepsRoom c d → KeepsRoom d e → KeepsRoom c e
+room_then first second = record { lines = le_trans first.lines second.lines; answers = le_trans first.answers second.answers }
 
 -- HOW MANY ANSWERS
 pub open_each : (c : Transcript) → IsTranscript c → c.standing ≡ standing.Open → length c.answers.items ≡ length c.lines.items

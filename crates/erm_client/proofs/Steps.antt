@@ -2,7 +2,7 @@
 use Rattle.std.proofs.Common.{◌≡◌, ◌≢◌, ℕ, ◌+◌, length, Option, Some, None, Result, Ok, Err, IfErr, IfOk, IsErr, IsErrAnd, OnOk, List, [], ◌∷◌, ◌++◌, ◌⊎◌, ⊎_elim, inl, inr, refl, sym, ap, ◌∙◌, subst, arith}
 use Rattle.erm_beside.specs.Laws.{GoesOnward}
 use Rattle.erm_client.proofs.Dealt.{dealt_more, dealt_same}
-use Rattle.erm_client.proofs.Grown.{ended_transcript, more_transcript, open_each, run_ends, run_more, run_same, run_starves, same_transcript}
+use Rattle.erm_client.proofs.Grown.{ended_transcript, more_transcript, open_each, room_then, run_ends, run_more, run_same, run_starves, same_transcript}
 use Rattle.erm_client.proofs.Told.{line_tells}
 use Rattle.erm_client.proofs.Watched.{LinesLeave, abort_rests, in_phase_line, none_current, none_watched, unsealed}
 use Rattle.erm_client.specs.Clients.{GoesOn, HasRun, IsClient, IsInPhase, Rests}
@@ -186,6 +186,7 @@ module _ (b c d : Transcript) (same : IsSame b c) (kept : (spare : ℕ) → HasR
     lines = more.lines ∙ ap (λ (ls : List ScriptLine). ls ++ l ∷ []) same.lines;
     answers = more.answers ∙ ap (λ (gs : List Answer). gs ++ a ∷ []) same.answers;
     standing_so = more.standing_so ∙ same.standing_so;
+    room = room_then same.room more.room;
   }
 
   ends_same : (l : ScriptLine) → EndsWith c l d → EndsWith b l d
@@ -194,13 +195,14 @@ module _ (b c d : Transcript) (same : IsSame b c) (kept : (spare : ℕ) → HasR
     lines = ends.lines ∙ ap (λ (ls : List ScriptLine). ls ++ l ∷ []) same.lines;
     answers = ends.answers ∙ same.answers;
     standing_so = ends.standing_so;
+    room = room_then same.room ends.room;
   }
 
   starves_same : Starves c d → Starves b d
-  starves_same starves = record { seat = starves.seat ∙ same.seat; lines = starves.lines ∙ same.lines; answers = starves.answers ∙ same.answers; standing_so = starves.standing_so }
+  starves_same starves = record { seat = starves.seat ∙ same.seat; lines = starves.lines ∙ same.lines; answers = starves.answers ∙ same.answers; standing_so = starves.standing_so; room = room_then same.room starves.room }
 
   same_same : IsSame c d → IsSame b d
-  same_same again = record { seat = again.seat ∙ same.seat; lines = again.lines ∙ same.lines; answers = again.answers ∙ same.answers; standing_so = again.standing_so ∙ same.standing_so }
+  same_same again = record { seat = again.seat ∙ same.seat; lines = again.lines ∙ same.lines; answers = again.answers ∙ same.answers; standing_so = again.standing_so ∙ same.standing_so; room = room_then same.room again.room }
 
   answered_same : (a : Answer) → IsAnswered c asked a d → IsAnswered b asked a d
   answered_same a it = record {

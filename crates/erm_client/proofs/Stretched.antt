@@ -6,7 +6,7 @@ use Rattle.std.specs.List.{cons_option, filter_map, sum_by}
 use Rattle.std.specs.Option.{option_map, option_to_list}
 use Rattle.erm_client.proofs.Dealt.{dealt_answered, dealt_ends, dealt_same, dealt_starves}
 use Rattle.erm_client.proofs.Ended.{are_unplaced, ended_more, none_ended}
-use Rattle.erm_client.proofs.Grown.{open_each}
+use Rattle.erm_client.proofs.Grown.{open_each, room_then}
 use Rattle.erm_client.proofs.Telling.{stopped_now}
 use Rattle.erm_client.specs.Dealings.{HasNone, IsAt, IsSafeAt, begins_by, begins_in, commits_told, dealings_of, snapshots_told}
 use Rattle.erm_client.specs.declared.refusal.Refusal.{Refusal}
@@ -32,7 +32,7 @@ use Rattle.erm_script.specs.declared.script.ScriptLine.{ScriptLine}
 
 -- ONE BEHIND ANOTHER
 same_itself : (c : Transcript) → IsSame c c
-same_itself c = record { seat = refl; lines = refl; answers = refl; standing_so = refl }
+same_itself c = record { seat = refl; lines = refl; answers = refl; standing_so = refl; room = record { lines = omega arith; answers = omega arith } }
 
 same_then : {c d e : Transcript} → IsSame c d → IsSame d e → IsSame c e
 same_then first second = record {
@@ -40,10 +40,11 @@ same_then first second = record {
   lines = second.lines ∙ first.lines;
   answers = second.answers ∙ first.answers;
   standing_so = second.standing_so ∙ first.standing_so;
+  room = room_then first.room second.room;
 }
 
 pub grew_itself : (c : Transcript) → Grew c c
-grew_itself c = record { seat = refl; lines = ([], sym (append-nil c.lines.items)); answers = ([], sym (append-nil c.answers.items)); over = λ _. same_itself c }
+grew_itself c = record { seat = refl; lines = ([], sym (append-nil c.lines.items)); answers = ([], sym (append-nil c.answers.items)); over = λ _. same_itself c; room = (same_itself c).room }
 
 longer : {X : Type 0} (xs ys zs more rest : List X) → ys ≡ xs ++ more → zs ≡ ys ++ rest → zs ≡ xs ++ (more ++ rest)
 longer xs ys zs more rest first second = second ∙ ap (λ l. l ++ rest) first ∙ append_assoc xs more rest
@@ -54,6 +55,7 @@ grew_then {c} {d} {e} first second = record {
   lines = (first.lines.0 ++ second.lines.0, longer c.lines.items d.lines.items e.lines.items first.lines.0 second.lines.0 first.lines.1 second.lines.1);
   answers = (first.answers.0 ++ second.answers.0, longer c.answers.items d.answers.items e.answers.items first.answers.0 second.answers.0 first.answers.1 second.answers.1);
   over = λ over. let same = first.over over in same_then same (second.over (λ (now : d.standing ≡ standing.Open). over (sym same.standing_so ∙ now)));
+  room = room_then first.room second.room;
 }
 
 -- how a client stands once a call was refused, it stands later
@@ -122,10 +124,10 @@ begins_still : (c d : Transcript) → d.lines.items ≡ c.lines.items → begins
 begins_still c d same = ap (λ (ls : List ScriptLine). sum_by (λ (x : ScriptLine). begins_by x.command) ls) same
 
 more_grew : (c d : Transcript) (l : ScriptLine) (a : Answer) → c.standing ≡ standing.Open → HasMore c l a d → Grew c d
-more_grew c d l a opened more = record { seat = more.seat; lines = (l ∷ [], more.lines); answers = (a ∷ [], more.answers); over = λ over. absurd (over opened) }
+more_grew c d l a opened more = record { seat = more.seat; lines = (l ∷ [], more.lines); answers = (a ∷ [], more.answers); over = λ over. absurd (over opened); room = more.room }
 
 ends_grew : (c d : Transcript) (l : ScriptLine) → c.standing ≡ standing.Open → EndsWith c l d → Grew c d
-ends_grew c d l opened ends = record { seat = ends.seat; lines = (l ∷ [], ends.lines); answers = ([], ends.answers ∙ sym (append-nil c.answers.items)); over = λ over. absurd (over opened) }
+ends_grew c d l opened ends = record { seat = ends.seat; lines = (l ∷ [], ends.lines); answers = ([], ends.answers ∙ sym (append-nil c.answers.items)); over = λ over. absurd (over opened); room = ends.room }
 
 same_grew : (c d : Transcript) → IsSame c d → Grew c d
 same_grew c d same = record {
@@ -133,6 +135,7 @@ same_grew c d same = record {
   lines = ([], same.lines ∙ sym (append-nil c.lines.items));
   answers = ([], same.answers ∙ sym (append-nil c.answers.items));
   over = λ _. same;
+  room = same.room;
 }
 
 starves_grew : (c d : Transcript) → c.standing ≡ standing.Open → Starves c d → Grew c d
@@ -141,6 +144,7 @@ starves_grew c d opened starves = record {
   lines = ([], starves.lines ∙ sym (append-nil c.lines.items));
   answers = ([], starves.answers ∙ sym (append-nil c.answers.items));
   over = λ over. absurd (over opened);
+  room = starves.room;
 }
 
 -- COMMITS. One that is over otherwise is none.

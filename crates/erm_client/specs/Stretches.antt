@@ -6,7 +6,7 @@ use Rattle.erm_client.specs.declared.refusal.Refusal.TheVariants as refusal
 use Rattle.erm_client.specs.declared.transcript.Standing.{Standing}
 use Rattle.erm_client.specs.declared.transcript.Standing.TheVariants as standing
 use Rattle.erm_client.specs.declared.transcript.Transcript.{Transcript}
-use Rattle.erm_client.specs.Transcripts.{IsRefused, IsSame}
+use Rattle.erm_client.specs.Transcripts.{IsRefused, IsSame, KeepsRoom}
 use Rattle.erm_model.specs.Committed.{Committed}
 use Rattle.erm_model.specs.Run.{Step}
 use Rattle.erm_report.specs.declared.answer.Answer.{Answer}
@@ -19,6 +19,7 @@ pub record Grew (c d : Transcript) : Type 0 where
   pub lines : (more : List ScriptLine) × (d.lines.items ≡ c.lines.items ++ more)
   pub answers : (more : List Answer) × (d.answers.items ≡ c.answers.items ++ more)
   pub over : (c.standing ≡ standing.Open → ⊥) → IsSame c d
+  pub room : KeepsRoom c d
 
 -- In between at most so many lines were begins, just these transactions committed, and just these snapshots ended.
 pub record Went (begins : ℕ) (commits snapshots : List Committed) (c d : Transcript) : Type 0 where

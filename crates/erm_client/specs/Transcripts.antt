@@ -57,12 +57,18 @@ abbrev pub room_for : Command → ℕ
 room_for command.Abort = 1
 room_for c = 2
 
+-- no room is given back
+pub record KeepsRoom (c d : Transcript) : Type 0 where
+  pub lines : vec_capacity c.lines ≤ vec_capacity d.lines
+  pub answers : vec_capacity c.answers ≤ vec_capacity d.answers
+
 -- no line was asked
 pub record IsSame (c d : Transcript) : Type 0 where
   pub seat : d.seat ≡ c.seat
   pub lines : d.lines.items ≡ c.lines.items
   pub answers : d.answers.items ≡ c.answers.items
   pub standing_so : d.standing ≡ c.standing
+  pub room : KeepsRoom c d
 
 -- the transcript has this line more, with its answer
 pub record HasMore (c : Transcript) (l : ScriptLine) (a : Answer) (d : Transcript) : Type 0 where
@@ -70,6 +76,7 @@ pub record HasMore (c : Transcript) (l : ScriptLine) (a : Answer) (d : Transcrip
   pub lines : d.lines.items ≡ c.lines.items ++ l ∷ []
   pub answers : d.answers.items ≡ c.answers.items ++ a ∷ []
   pub standing_so : d.standing ≡ c.standing
+  pub room : KeepsRoom c d
 
 -- it ends with this line, which has no answer
 pub record EndsWith (c : Transcript) (l : ScriptLine) (d : Transcript) : Type 0 where
@@ -77,6 +84,7 @@ pub record EndsWith (c : Transcript) (l : ScriptLine) (d : Transcript) : Type 0 
   pub lines : d.lines.items ≡ c.lines.items ++ l ∷ []
   pub answers : d.answers.items ≡ c.answers.items
   pub standing_so : d.standing ≡ standing.Stopped
+  pub room : KeepsRoom c d
 
 -- memory ran out while a line was run, of which it has nothing
 pub record Starves (c d : Transcript) : Type 0 where
@@ -84,6 +92,7 @@ pub record Starves (c d : Transcript) : Type 0 where
   pub lines : d.lines.items ≡ c.lines.items
   pub answers : d.answers.items ≡ c.answers.items
   pub standing_so : d.standing ≡ standing.Starved
+  pub room : KeepsRoom c d
 
 -- The command was asked, and answered so: the transcript has just this line more, and its answer.
 pub record IsAnswered (c : Transcript) (asked : Command) (a : Answer) (d : Transcript) : Type 0 where
