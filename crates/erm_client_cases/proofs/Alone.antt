@@ -1,5 +1,5 @@
 -- A client whose session begins a snapshot by itself, or may not begin one: it is a client still, once it has room for the line that gives one up.
-use Rattle.std.proofs.Common.{◌≡◌, ◌⊎◌, ℕ, List, length, Option, Some, None, IfSome, inl, inr, sym, ap, ◌∙◌, subst}
+use Rattle.std.proofs.Common.{◌≡◌, ◌⊎◌, ℕ, false, List, length, Option, IfSome, Result, Ok, Err, OnOk, is_err, inl, inr, sym, ap, ◌∙◌, subst}
 use Rattle.erm_beside.specs.Calls.{After, MayNotBeginBeside}
 use Rattle.erm_beside.specs.Safe.{DidBeginSafeBeside}
 use Rattle.erm_client.proofs.Dealt.{dealt_same}
@@ -9,7 +9,6 @@ use Rattle.erm_client.specs.Clients.{IsClient, IsInPhase}
 use Rattle.erm_client.specs.Dealings.{AllCommitted, AllOver, dealings_of}
 use Rattle.erm_client.specs.declared.client.Client.{Client}
 use Rattle.erm_client.specs.declared.transcript.Standing.{Standing}
-use Rattle.erm_client.specs.declared.transcript.Standing.TheVariants as standing
 use Rattle.erm_client.specs.declared.transcript.Transcript.{Transcript}
 use Rattle.erm_client.specs.Transcripts.{HasAnswers, HasRoom, IsSame}
 use Rattle.erm_good_report.specs.Transactions.{Progress, Snapshot, Transaction}
@@ -54,6 +53,11 @@ none_told phase next p so idle now = record {
 inactive : (phase : Phase) → (phase ≡ Idle) ⊎ (phase ≡ Pending) → phase ≡ Active → ⊥
 inactive phase (inl is) active = cc
 inactive phase (inr is) active = cc
+
+-- room was made where that told no error
+pub room_made : {Y E : Type 0} (r : Result Y E) (X : Type 0) → OnOk r X → is_err r ≡ false → X
+room_made (Ok y) X so none = so
+room_made (Err e) X so none = cc
 
 -- a transcript with room made
 pub same_kept : (Kind : List Step → Type 0) (c d : Transcript) → IsSame c d → AllCommitted Kind c → AllCommitted Kind d
