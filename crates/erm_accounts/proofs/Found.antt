@@ -1,12 +1,12 @@
 -- What scans of the tables find makes up the total.
-use Rattle.std.proofs.Common.{◌≡◌, ℕ, zero, suc, ◌+◌, ◌*◌, ◌<◌, ◌≤◌, ◌^◌, ◌⊎◌, List, [], ◌∷◌, length, Option, Some, None, refl, sym, ap, ◌∙◌, subst, inl, inr, arith}
+use Rattle.std.proofs.Common.{◌≡◌, ℕ, zero, suc, ◌+◌, ◌-◌, ◌*◌, ◌<◌, ◌≤◌, ◌^◌, ◌⊎◌, List, [], ◌∷◌, length, Option, Some, None, refl, sym, ap, ◌∙◌, subst, inl, inr, arith}
 use Rattle.std.proofs.lemmas.Bool.{cases_eq}
 use Rattle.std.proofs.lemmas.List.Elements.{All-head, All-tail}
 use Rattle.std.proofs.lemmas.List.Sums.{sum_by-cons}
 use Rattle.std.specs.List.{All, AllPairs}
 use Rattle.erm_accounts.proofs.Sums.{sum-suc, sum-zero}
-use Rattle.erm_accounts.specs.Accounts.{Account, Current, Savings, kept, raised, table_of}
-use Rattle.erm_accounts.specs.Totals.{FoundTotalsAreTotals, held, many, sum_found, sum_from}
+use Rattle.erm_accounts.specs.Accounts.{Account, AreSolvent, Current, Savings, kept, raised, table_of}
+use Rattle.erm_accounts.specs.Totals.{AddUpTo, FoundTotalsAreTotals, HoldInAll, held, many, sum_found, sum_from, total}
 use Rattle.erm_model.proofs.Members.{none_in_nil, ∈-at}
 use Rattle.erm_model.specs.Database.{AreFound, Database}
 use Rattle.erm_model.specs.Member.{◌∈◌}
@@ -108,7 +108,19 @@ module _ (m : Database) (account : Account) where
   held_found low high found bound are = sum_is low (many low high) found (scanned low high found bound are)
 
 pub found_totals : FoundTotalsAreTotals
-found_totals m low high current savings found bound current_are savings_are is =
+found_totals m low high current savings bound current_are savings_are n =
     let first = held_found m Current low high current bound current_are in
     let second = held_found m Savings low high savings bound savings_are in
-    omega (arith, first, second, is)
+    (λ (adds : AddUpTo current savings n). omega (arith, first, second, adds), λ (holds : HoldInAll m low high n). omega (arith, first, second, holds))
+
+-- SOLVENT CUSTOMERS hold 2 ^ 64 each, with what is added
+module _ (m : Database) (solvent : AreSolvent m) where
+  each_solvent : (low count : ℕ) → 2 ^ 64 * count ≤ sum_from (balance m Current) low count + sum_from (balance m Savings) low count
+  each_solvent low zero = omega arith
+  each_solvent low (suc count) =
+      let here = solvent low in
+      let rest = each_solvent (low + 1) count in
+      omega (arith, here, rest, sum-suc (balance m Current) low count, sum-suc (balance m Savings) low count)
+
+  pub hold : (low high : ℕ) → (n : ℕ) × HoldInAll m low high n
+  hold low high = let most = each_solvent low (many low high) in (total m low high - 2 ^ 64 * many low high, omega (arith, most))

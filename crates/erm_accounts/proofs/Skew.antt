@@ -69,8 +69,8 @@ skews = (
   second,
   record {
     solvent = solvent;
-    withdraws = record { customer = 1; account = Current; amount = 100; own = Some hundred; other = None; left = nothing; steps_are = refl; covered = omega arith; lowered = refl };
-    other_withdraws = record { customer = 1; account = Savings; amount = 100; own = None; other = Some hundred; left = overdrawn; steps_are = refl; covered = omega arith; lowered = refl };
+    withdraws = record { customer = 1; account = Current; amount = 100; own = Some hundred; other = None; left = nothing; steps_are = refl; covered = omega arith; lowered = refl; readable = refl };
+    other_withdraws = record { customer = 1; account = Savings; amount = 100; own = None; other = Some hundred; left = overdrawn; steps_are = refl; covered = omega arith; lowered = refl; readable = refl };
     run = (ap reply.Value (sym own), (ap reply.Value (sym (none 1)), (refl, tt)));
     other_run = (ap reply.Value (sym (none 1)), (ap reply.Value (sym own), (refl, tt)));
     breaks = breaks;

@@ -1,6 +1,6 @@
 -- Accounts at a bank: each customer has two, of which one may be overdrawn while the other one covers it. This is the textbook's example
 -- of write skew: of two withdrawals that begin together each may find enough, and leave too little.
-use Rattle.std.specs.Prelude.{◌≡◌, ℕ, ◌+◌, ◌≤◌, ◌^◌, ◌⊎◌, List, [], ◌∷◌, Option, Some, None}
+use Rattle.std.specs.Prelude.{◌≡◌, ℕ, ◌+◌, ◌≤◌, ◌^◌, ◌⊎◌, List, [], ◌∷◌, length, Option, Some, None}
 use Rattle.std.specs.Int.{from_be_bytes, w64}
 use Rattle.std.specs.FinMap.{from_entries}
 use Rattle.std.specs.List.{All}
@@ -41,6 +41,15 @@ beside Savings = Current
 abbrev pub kept : Database → Account → ℕ → Option (List ℕ)
 kept m account customer = value_at m (table_of account) customer
 
+-- what is kept is a balance, if something is
+abbrev pub IsBalance : Option (List ℕ) → Type 0
+IsBalance None = Unit {0}
+IsBalance (Some bytes) = length bytes ≡ 8
+
+-- what is kept of each account is a balance
+abbrev pub AreReadable : Database → Type 0
+AreReadable m = (account : Account) (customer : ℕ) → IsBalance (kept m account customer)
+
 -- The invariant: of each customer the sum of the two balances is at or above zero.
 abbrev pub AreSolvent : Database → Type 0
 AreSolvent m = (customer : ℕ) → 2 ^ 64 ≤ raised (kept m Current customer) + raised (kept m Savings customer)
@@ -66,6 +75,7 @@ pub record IsWithdrawal (steps : List Step) : Type 0 where
   pub steps_are : steps ≡ reads account customer own ∷ reads (beside account) customer other ∷ writes account customer left ∷ []
   pub covered : 2 ^ 64 + amount ≤ raised own + raised other
   pub lowered : raised (Some left) + amount ≡ raised own
+  pub readable : IsBalance (Some left)
 
 -- A deposit reads one account and raises it by the amount.
 pub record IsDeposit (steps : List Step) : Type 0 where
@@ -76,6 +86,7 @@ pub record IsDeposit (steps : List Step) : Type 0 where
   pub left : List ℕ
   pub steps_are : steps ≡ reads account customer own ∷ writes account customer left ∷ []
   pub raised_by : raised (Some left) ≡ raised own + amount
+  pub readable : IsBalance (Some left)
 
 -- An audit only reads.
 abbrev pub IsAudit : List Step → Type 0

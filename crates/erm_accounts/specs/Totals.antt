@@ -1,6 +1,6 @@
 -- The total of customers with numbers in a range, and what the bank's transactions do to it.
-use Rattle.std.specs.Prelude.{◌≡◌, ℕ, zero, suc, ◌+◌, ◌-◌, ◌*◌, ◌<◌, ◌^◌, if◌then◌else◌, ◌&&◌, List, length, nat_le, Some, sum_by}
-use Rattle.erm_accounts.specs.Accounts.{Account, Current, IsAudit, IsDeposit, IsWithdrawal, Savings, kept, raised, table_of}
+use Rattle.std.specs.Prelude.{◌≡◌, ◌↔◌, ℕ, zero, suc, ◌+◌, ◌-◌, ◌*◌, ◌<◌, ◌^◌, if◌then◌else◌, ◌&&◌, List, length, nat_le, Some, sum_by}
+use Rattle.erm_accounts.specs.Accounts.{Account, AreSolvent, Current, IsAudit, IsDeposit, IsWithdrawal, Savings, kept, raised, table_of}
 use Rattle.erm_model.specs.Database.{AreFound, Database}
 use Rattle.erm_model.specs.Run.{RunsOne, Step, after_all, ops_of}
 
@@ -44,11 +44,20 @@ AuditsLeaveTotals = (steps : List Step) → IsAudit steps → (m : Database) →
 abbrev pub sum_found : List (ℕ × List ℕ) → ℕ
 sum_found found = sum_by (λ pair. raised (Some pair.1)) found
 
--- A total that was found: of each account from low to high that wasn't found the balance is zero.
-abbrev pub IsFoundTotal : ℕ → ℕ → List (ℕ × List ℕ) → List (ℕ × List ℕ) → ℕ → Type 0
-IsFoundTotal low high current savings found = found + 2 ^ 63 * (length current + length savings) ≡ sum_found current + sum_found savings + 2 ^ 64 * many low high
+-- WHAT CUSTOMERS HOLD in all: the sum of their balances, without what is added to each. Say, where of customers 1 and 2 the one has 100 and nothing, and the
+-- other one nothing and 20 below zero, they hold 80 in all; and so do all customers, where the others have nothing.
+abbrev pub HoldInAll : Database → ℕ → ℕ → ℕ → Type 0
+HoldInAll m low high n = total m low high ≡ n + 2 ^ 64 * many low high
 
--- Of what scans of both tables find in a map the total is that of the map.
+-- What was found of both tables adds up to so much: an account that wasn't found holds nothing.
+abbrev pub AddUpTo : List (ℕ × List ℕ) → List (ℕ × List ℕ) → ℕ → Type 0
+AddUpTo current savings n = n + 2 ^ 63 * (length current + length savings) ≡ sum_found current + sum_found savings
+
+-- Of customers in a map scans of both tables find just what adds up to what they hold.
 abbrev pub FoundTotalsAreTotals : Type 0
-FoundTotalsAreTotals = (m : Database) (low high : ℕ) (current savings : List (ℕ × List ℕ)) (found : ℕ) → high < 2 ^ 64 → AreFound m (table_of Current) low high current
-    → AreFound m (table_of Savings) low high savings → IsFoundTotal low high current savings found → found ≡ total m low high
+FoundTotalsAreTotals = (m : Database) (low high : ℕ) (current savings : List (ℕ × List ℕ)) → high < 2 ^ 64 → AreFound m (table_of Current) low high current
+    → AreFound m (table_of Savings) low high savings → (n : ℕ) → AddUpTo current savings n ↔ HoldInAll m low high n
+
+-- Solvent customers hold something in all, if it be nothing: they don't owe more than they have.
+abbrev pub SolventCustomersHold : Type 0
+SolventCustomersHold = (m : Database) → AreSolvent m → (low high : ℕ) → (n : ℕ) × HoldInAll m low high n

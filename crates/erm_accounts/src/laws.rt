@@ -1,6 +1,6 @@
 //! Laws of the bank's transactions. Each holds for every value, and its function does nothing.
-ghost use Rattle.erm_accounts.specs.Accounts.{AreSolvent, CustomersStaySolvent, IsDeposit, IsOfBank, IsWithdrawal, ReportsShowSolventCustomers, SnapshotsMaySkew};
-ghost use Rattle.erm_accounts.specs.Totals.{AuditsLeaveTotals, DepositsRaiseTotals, FoundTotalsAreTotals, WithdrawalsLowerTotals};
+ghost use Rattle.erm_accounts.specs.Accounts.{AreReadable, AreSolvent, CustomersStaySolvent, IsDeposit, IsOfBank, IsWithdrawal, ReportsShowSolventCustomers, SnapshotsMaySkew};
+ghost use Rattle.erm_accounts.specs.Totals.{AuditsLeaveTotals, DepositsRaiseTotals, FoundTotalsAreTotals, SolventCustomersHold, WithdrawalsLowerTotals};
 ghost use Rattle.erm_invariant.specs.Invariant.{Keeps};
 ghost use Rattle.erm_model.specs.Run.{Step};
 ghost use Rattle.std.specs.Prelude.{List};
@@ -34,6 +34,22 @@ pub fn transactions_keep_solvency()
     withdrawals_keep_solvency();
     deposits_keep_solvency();
     readers_keep_invariants::<Solvency>();
+}
+
+/// The invariant that what is kept of each account is a balance.
+pub struct Readability;
+
+impl Invariant for Readability {
+    ghost use Rattle.erm_accounts.specs.Accounts.{AreReadable};
+
+    ghost holds = { λ _ m. AreReadable m };
+}
+
+/// Each transaction of the bank leaves a balance where it writes, and so keeps all accounts readable.
+pub fn transactions_keep_accounts_readable()
+    ensures { (steps : List Step) → IsOfBank steps → Keeps AreReadable steps }
+{
+    readers_keep_invariants::<Readability>();
 }
 
 /// In each serial run of the bank's transactions customers stay solvent, and each transaction finds them so.
@@ -72,7 +88,12 @@ pub fn audits_leave_totals()
     ensures { AuditsLeaveTotals }
 {}
 
-/// Of what scans of both tables find of a range of customers in a map the total is theirs in that map.
+/// What scans of both tables find of a range of customers in a map adds up to what they hold in that map, and to nothing else.
 pub fn found_totals_are_totals()
     ensures { FoundTotalsAreTotals }
+{}
+
+/// Solvent customers hold something in all, if it be nothing.
+pub fn solvent_customers_hold()
+    ensures { SolventCustomersHold }
 {}

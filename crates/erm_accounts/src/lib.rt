@@ -4,8 +4,8 @@
 mod laws;
 
 pub use laws::{
-    Solvency, audits_leave_totals, customers_stay_solvent, deposits_keep_solvency,
+    Readability, Solvency, audits_leave_totals, customers_stay_solvent, deposits_keep_solvency,
     deposits_raise_totals, found_totals_are_totals, reports_show_solvent_customers,
-    snapshots_may_skew, transactions_keep_solvency, withdrawals_keep_solvency,
-    withdrawals_lower_totals,
+    snapshots_may_skew, solvent_customers_hold, transactions_keep_accounts_readable,
+    transactions_keep_solvency, withdrawals_keep_solvency, withdrawals_lower_totals,
 };

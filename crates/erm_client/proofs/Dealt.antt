@@ -17,6 +17,7 @@ use Rattle.erm_good_report.specs.Transactions as dealt
 use Rattle.erm_model.proofs.Members.{∈-push}
 use Rattle.erm_model.specs.declared.operation.Op.{Op}
 use Rattle.erm_model.specs.declared.operation.Reply.{Reply}
+use Rattle.erm_model.specs.declared.operation.Reply.TheVariants as reply
 use Rattle.erm_model.specs.Member.{◌∈◌}
 use Rattle.erm_model.specs.Run.{Step}
 use Rattle.erm_report.specs.declared.answer.Answer.{Answer}
@@ -145,11 +146,12 @@ module _ (Kind : List Step → Type 0) where
   pub all_refused : (c d : Transcript) (asked : Command) (why : Refusal) → IsTranscript c → AllCommitted Kind c → IsRefused c asked why d
       → AllCommitted Kind d
   all_refused c d asked why ok all (refused.answered a did is) = all_answered c d asked a ok all did (λ stamp succ pred t now _. absurd (unrefused a stamp succ pred why now is))
-  all_refused c d asked why ok all (refused.untold r did is) = all_answered c d asked (answer.Replied r) ok all did (λ stamp succ pred t now _. absurd (uncommitted r stamp succ pred now))
+  all_refused c d asked why ok all (refused.untold table low high found scans did is) =
+      all_answered c d asked (answer.Replied (reply.Found found)) ok all did (λ stamp succ pred t now _. absurd (uncommitted (reply.Found found) stamp succ pred now))
   all_refused c d asked why ok all (refused.stopped number opened is ends) =
       subst (λ (p : Progress). AllOver Kind p) (sym (dealt_ends c d (record { line = number; session = c.seat; command = asked }) (open_each c ok opened) ends)) all
   all_refused c d asked why ok all (refused.starved opened is starves) = subst (λ (p : Progress). AllOver Kind p) (sym (dealt_starves c d starves)) all
-  all_refused c d asked why ok all (refused.unasked opened is same) = subst (λ (p : Progress). AllOver Kind p) (sym (dealt_same c d same)) all
+  all_refused c d asked why ok all (refused.unasked opened is none same) = subst (λ (p : Progress). AllOver Kind p) (sym (dealt_same c d same)) all
   all_refused c d asked why ok all (refused.over is same) = subst (λ (p : Progress). AllOver Kind p) (sym (dealt_same c d same)) all
 
 -- IN PROGRESS

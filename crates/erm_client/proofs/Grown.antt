@@ -1,21 +1,26 @@
 -- A transcript with one line more: whose lines it has, and how it goes on.
-use Rattle.std.proofs.Common.{◌≡◌, ℕ, zero, suc, ◌+◌, List, [], ◌∷◌, ◌++◌, length, Some, inl, inr, sym, ap, ◌∙◌, subst, arith}
+use Rattle.std.proofs.Common.{◌≡◌, ℕ, zero, suc, ◌+◌, List, [], ◌∷◌, ◌++◌, length, Some, inl, inr, sym, ap, ◌∙◌, subst, arith, le_trans}
 use Rattle.std.proofs.lemmas.List.{length-append}
 use Rattle.std.specs.List.{slice_get}
 use Rattle.erm_client.proofs.Runs.{more_ran, none_ran, stopped_ran}
-use Rattle.erm_client.specs.Clients.{HasRun, RanUpTo}
+use Rattle.erm_client.specs.Clients.{HasRun, RanStarved, RanUpTo}
 use Rattle.erm_client.specs.declared.transcript.Standing.{Standing}
 use Rattle.erm_client.specs.declared.transcript.Standing.TheVariants as standing
 use Rattle.erm_client.specs.declared.transcript.Transcript.{Transcript}
 use Rattle.erm_client.specs.Refusals.{MayTell}
-use Rattle.erm_client.specs.Transcripts.{EndsWith, HasAnswers, HasMore, IsLine, IsNew, IsSame, IsTranscript, Starves}
+use Rattle.erm_client.specs.Transcripts.{EndsWith, HasAnswers, HasMore, IsLine, IsNew, IsSame, IsTranscript, KeepsRoom, Starves}
 use Rattle.erm_lines_at_once.specs.Answers.{DidLineBeside}
 use Rattle.erm_model.proofs.Members.{slice_get-push, ∈-push}
 use Rattle.erm_model.specs.Member.{◌∈◌}
 use Rattle.erm_report.specs.declared.answer.Answer.{Answer}
 use Rattle.erm_script.specs.declared.script.ScriptLine.{ScriptLine}
 use Rattle.erm_worker.specs.Work.{RanLines, WasLeft}
+use Rattle.erm_world.specs.Face.{Grows}
 use Rattle.erm_world.specs.World.{View}
+
+-- ROOM is never given back.
+pub room_then : {c d e : Transcript} → KeepsRoom c d → KeepsRoom d e → KeepsRoom c e
+room_then first second = record { lines = le_trans first.lines second.lines; answers = le_trans first.answers second.answers }
 
 -- HOW MANY ANSWERS
 pub open_each : (c : Transcript) → IsTranscript c → c.standing ≡ standing.Open → length c.answers.items ≡ length c.lines.items
@@ -114,13 +119,18 @@ module _ (f v u t : View) (c d : Transcript) where
       (subst (λ (ls : List ScriptLine). RanLines f c.seat ls d.answers.items v t) (sym ends.lines)
       (subst (λ (gs : List Answer). RanLines f c.seat (c.lines.items ++ l ∷ []) gs v t) (sym ends.answers) it)))
 
-  pub run_starves : IsTranscript c → c.standing ≡ standing.Open → Starves c d → HasRun f v c u → HasRun f v d t
-  run_starves ok opened starves ran =
+  pub run_starves : IsTranscript c → c.standing ≡ standing.Open → Starves c d → Grows (u.session c.seat) (t.session c.seat) → HasRun f v c u → HasRun f v d t
+  run_starves ok opened starves grown ran =
       let it = now_open opened ran in
+      let short : RanStarved f c.seat c.lines.items c.answers.items v t = record {
+        last = it.last;
+        run = it.run;
+        went = subst (λ (x : View). Grows (x.session c.seat) (t.session c.seat)) (sym (it.whole (open_each c ok opened))) grown;
+      } in
       subst (λ (s : Standing). RanUpTo s f d.seat d.lines.items d.answers.items v t) (sym starves.standing_so)
       (subst (λ (n : ℕ). RanUpTo standing.Starved f n d.lines.items d.answers.items v t) (sym starves.seat)
       (subst (λ (ls : List ScriptLine). RanUpTo standing.Starved f c.seat ls d.answers.items v t) (sym starves.lines)
-      (subst (λ (gs : List Answer). RanUpTo standing.Starved f c.seat c.lines.items gs v t) (sym starves.answers) (it.last, it.run))))
+      (subst (λ (gs : List Answer). RanUpTo standing.Starved f c.seat c.lines.items gs v t) (sym starves.answers) short)))
 
   pub run_same : IsSame c d → HasRun f v c t → HasRun f v d t
   run_same same ran =

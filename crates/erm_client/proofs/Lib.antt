@@ -3,10 +3,12 @@ pub mod Dealt
 pub mod Ended
 pub mod Grown
 pub mod Joined
+pub mod Leaving
 pub mod Onward
 pub mod Parts
 pub mod Runs
 pub mod Steps
 pub mod Stretched
+pub mod Telling
 pub mod Told
 pub mod Watched

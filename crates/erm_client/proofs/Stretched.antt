@@ -1,24 +1,28 @@
 -- A client's calls as stretches of its transcript, and stretches one behind another.
 use Rattle.std.proofs.Common.{◌≡◌, ◌≢◌, ℕ, ◌+◌, ◌≤◌, List, [], ◌∷◌, ◌++◌, append-nil, append_assoc, Option, Some, None, refl, sym, ap, ◌∙◌, subst, arith}
 use Rattle.std.proofs.lemmas.List.Elements.{filter_map-append}
-use Rattle.std.proofs.lemmas.List.Sums.{sum_by_push}
+use Rattle.std.proofs.lemmas.List.Sums.{sum_by-append, sum_by_push}
 use Rattle.std.specs.List.{cons_option, filter_map, sum_by}
 use Rattle.std.specs.Option.{option_map, option_to_list}
 use Rattle.erm_client.proofs.Dealt.{dealt_answered, dealt_ends, dealt_same, dealt_starves}
 use Rattle.erm_client.proofs.Ended.{are_unplaced, ended_more, none_ended}
-use Rattle.erm_client.proofs.Grown.{open_each}
+use Rattle.erm_client.proofs.Grown.{open_each, room_then}
+use Rattle.erm_client.proofs.Telling.{stopped_now}
 use Rattle.erm_client.specs.Dealings.{HasNone, IsAt, IsSafeAt, begins_by, begins_in, commits_told, dealings_of, snapshots_told}
 use Rattle.erm_client.specs.declared.refusal.Refusal.{Refusal}
 use Rattle.erm_client.specs.declared.refusal.Refusal.TheVariants as refusal
+use Rattle.erm_client.specs.declared.transcript.Standing.{Standing}
+use Rattle.erm_client.specs.declared.transcript.Standing.TheVariants as standing
 use Rattle.erm_client.specs.declared.transcript.Transcript.{Transcript}
 use Rattle.erm_client.specs.Refusals.{MayTell, refusal_told}
-use Rattle.erm_client.specs.Stretches.{Grew, WasAt, WasRefused, Went}
+use Rattle.erm_client.specs.Stretches.{Grew, StandsBehind, WasAt, WasRefused, Went}
 use Rattle.erm_client.specs.Transcripts.{EndsWith, HasMore, IsAnswered, IsRefused, IsSame, IsTranscript, IsUnended, Starves}
 use Rattle.erm_client.specs.Transcripts as refused
 use Rattle.erm_good_report.specs.Transactions.{Commits, Ending, Progress, Transaction, committed_of, ended_as, heard, history_of, placed_at, said_of, with_end, with_ending, with_line}
 use Rattle.erm_good_report.specs.Transactions as dealt
 use Rattle.erm_model.specs.Committed.{Committed}
 use Rattle.erm_model.specs.declared.operation.Reply.{Reply}
+use Rattle.erm_model.specs.declared.operation.Reply.TheVariants as reply
 use Rattle.erm_model.specs.Run.{Step}
 use Rattle.erm_report.specs.declared.answer.Answer.{Answer}
 use Rattle.erm_report.specs.declared.answer.Answer.TheVariants as answer
@@ -27,8 +31,20 @@ use Rattle.erm_script.specs.declared.script.Command.TheVariants as command
 use Rattle.erm_script.specs.declared.script.ScriptLine.{ScriptLine}
 
 -- ONE BEHIND ANOTHER
+same_itself : (c : Transcript) → IsSame c c
+same_itself c = record { seat = refl; lines = refl; answers = refl; standing_so = refl; room = record { lines = omega arith; answers = omega arith } }
+
+same_then : {c d e : Transcript} → IsSame c d → IsSame d e → IsSame c e
+same_then first second = record {
+  seat = second.seat ∙ first.seat;
+  lines = second.lines ∙ first.lines;
+  answers = second.answers ∙ first.answers;
+  standing_so = second.standing_so ∙ first.standing_so;
+  room = room_then first.room second.room;
+}
+
 pub grew_itself : (c : Transcript) → Grew c c
-grew_itself c = record { seat = refl; lines = ([], sym (append-nil c.lines.items)); answers = ([], sym (append-nil c.answers.items)) }
+grew_itself c = record { seat = refl; lines = ([], sym (append-nil c.lines.items)); answers = ([], sym (append-nil c.answers.items)); over = λ _. same_itself c; room = (same_itself c).room }
 
 longer : {X : Type 0} (xs ys zs more rest : List X) → ys ≡ xs ++ more → zs ≡ ys ++ rest → zs ≡ xs ++ (more ++ rest)
 longer xs ys zs more rest first second = second ∙ ap (λ l. l ++ rest) first ∙ append_assoc xs more rest
@@ -38,7 +54,17 @@ grew_then {c} {d} {e} first second = record {
   seat = second.seat ∙ first.seat;
   lines = (first.lines.0 ++ second.lines.0, longer c.lines.items d.lines.items e.lines.items first.lines.0 second.lines.0 first.lines.1 second.lines.1);
   answers = (first.answers.0 ++ second.answers.0, longer c.answers.items d.answers.items e.answers.items first.answers.0 second.answers.0 first.answers.1 second.answers.1);
+  over = λ over. let same = first.over over in same_then same (second.over (λ (now : d.standing ≡ standing.Open). over (sym same.standing_so ∙ now)));
+  room = room_then first.room second.room;
 }
+
+-- how a client stands once a call was refused, it stands later
+not_open : (s : Standing) → s ≡ standing.Stopped → s ≡ standing.Open → ⊥
+not_open s stopped opened = cc
+
+stands_later : (why : Refusal) {c d : Transcript} → Grew c d → StandsBehind why c.standing → StandsBehind why d.standing
+stands_later refusal.Stopped {c} {d} grew so = (grew.over (not_open c.standing so)).standing_so ∙ so
+stands_later why grew so = tt
 
 pub went_itself : (c : Transcript) → Went 0 [] [] c c
 went_itself c = record {
@@ -65,13 +91,14 @@ went_within most went = record {
 }
 
 pub refused_amid : {why : Refusal} {b c d e : Transcript} → Grew b c → WasRefused why c d → Grew d e → WasRefused why b e
-refused_amid first was last = record {
+refused_amid {why} first was last = record {
   before = was.before;
   after = was.after;
   asked = was.asked;
   since = grew_then first was.since;
   refused = was.refused;
   until = grew_then was.until last;
+  standing_so = stands_later why last was.standing_so;
 }
 
 pub at_amid : {steps : List Step} {b c d e : Transcript} → Grew b c → WasAt steps c d → Grew d e → WasAt steps b e
@@ -84,20 +111,41 @@ at_now {steps} {c} is = record { moment = c; since = grew_itself c; is = is; unt
 begins_more : (c d : Transcript) (l : ScriptLine) → d.lines.items ≡ c.lines.items ++ l ∷ [] → begins_in d ≡ begins_in c + begins_by l.command
 begins_more c d l more = ap (λ (ls : List ScriptLine). sum_by (λ (x : ScriptLine). begins_by x.command) ls) more ∙ sum_by_push (λ (x : ScriptLine). begins_by x.command) c.lines.items l
 
+pub begins_answered : (c d : Transcript) (asked : Command) (a : Answer) → IsAnswered c asked a d → begins_in d ≡ begins_in c + begins_by asked
+begins_answered c d asked a answered = begins_more c d (record { line = answered.number; session = c.seat; command = asked }) answered.more.lines
+
+pub begins_grow : {c d : Transcript} → Grew c d → begins_in c ≤ begins_in d
+begins_grow {c} {d} grew =
+    let f = λ (x : ScriptLine). begins_by x.command in
+    let same : begins_in d ≡ begins_in c + sum_by f grew.lines.0 = ap (λ (ls : List ScriptLine). sum_by f ls) grew.lines.1 ∙ sum_by-append f c.lines.items grew.lines.0 in
+    omega (arith, same)
+
 begins_still : (c d : Transcript) → d.lines.items ≡ c.lines.items → begins_in d ≡ begins_in c
 begins_still c d same = ap (λ (ls : List ScriptLine). sum_by (λ (x : ScriptLine). begins_by x.command) ls) same
 
-more_grew : (c d : Transcript) (l : ScriptLine) (a : Answer) → HasMore c l a d → Grew c d
-more_grew c d l a more = record { seat = more.seat; lines = (l ∷ [], more.lines); answers = (a ∷ [], more.answers) }
+more_grew : (c d : Transcript) (l : ScriptLine) (a : Answer) → c.standing ≡ standing.Open → HasMore c l a d → Grew c d
+more_grew c d l a opened more = record { seat = more.seat; lines = (l ∷ [], more.lines); answers = (a ∷ [], more.answers); over = λ over. absurd (over opened); room = more.room }
 
-ends_grew : (c d : Transcript) (l : ScriptLine) → EndsWith c l d → Grew c d
-ends_grew c d l ends = record { seat = ends.seat; lines = (l ∷ [], ends.lines); answers = ([], ends.answers ∙ sym (append-nil c.answers.items)) }
+ends_grew : (c d : Transcript) (l : ScriptLine) → c.standing ≡ standing.Open → EndsWith c l d → Grew c d
+ends_grew c d l opened ends = record { seat = ends.seat; lines = (l ∷ [], ends.lines); answers = ([], ends.answers ∙ sym (append-nil c.answers.items)); over = λ over. absurd (over opened); room = ends.room }
 
 same_grew : (c d : Transcript) → IsSame c d → Grew c d
-same_grew c d same = record { seat = same.seat; lines = ([], same.lines ∙ sym (append-nil c.lines.items)); answers = ([], same.answers ∙ sym (append-nil c.answers.items)) }
+same_grew c d same = record {
+  seat = same.seat;
+  lines = ([], same.lines ∙ sym (append-nil c.lines.items));
+  answers = ([], same.answers ∙ sym (append-nil c.answers.items));
+  over = λ _. same;
+  room = same.room;
+}
 
-starves_grew : (c d : Transcript) → Starves c d → Grew c d
-starves_grew c d starves = record { seat = starves.seat; lines = ([], starves.lines ∙ sym (append-nil c.lines.items)); answers = ([], starves.answers ∙ sym (append-nil c.answers.items)) }
+starves_grew : (c d : Transcript) → c.standing ≡ standing.Open → Starves c d → Grew c d
+starves_grew c d opened starves = record {
+  seat = starves.seat;
+  lines = ([], starves.lines ∙ sym (append-nil c.lines.items));
+  answers = ([], starves.answers ∙ sym (append-nil c.answers.items));
+  over = λ over. absurd (over opened);
+  room = starves.room;
+}
 
 -- COMMITS. One that is over otherwise is none.
 ended_still : (ending : Ending) (over : List Transaction) (current : Option Transaction) → ((t : Transaction) → committed_of (with_ending ending t) ≡ None)
@@ -156,7 +204,7 @@ module _ (c d : Transcript) (ok : IsTranscript c) where
       let line : ScriptLine = record { line = answered.number; session = c.seat; command = asked } in
       let dealt = dealt_answered c d asked a ok answered in
       record {
-        grew = more_grew c d line a answered.more;
+        grew = more_grew c d line a answered.opened answered.more;
         begins_are = omega (arith, begins_more c d line answered.more.lines);
         commits_are = ap (λ (p : Progress). history_of p.over) dealt ∙ heard_still c.seat (Some asked) a (dealings_of c) plain ∙ sym (append-nil (commits_told c));
         snapshots_are = snapshots_still c d answered.more.seat (heard c.seat (Some asked) a (dealings_of c)) dealt
@@ -184,22 +232,23 @@ module _ (c d : Transcript) (ok : IsTranscript c) where
   -- a refusal
   pub went_refused : (asked : Command) (why : Refusal) → EndsNone c asked why → IsRefused c asked why d → Went (begins_by asked) [] [] c d
   went_refused asked why none (refused.answered a did is) = went_answered asked a (λ stamp succ pred now. unrefused a stamp succ pred why now is) (none a did.tells is) did
-  went_refused asked why none (refused.untold r did is) = went_answered asked (answer.Replied r) (uncommitted r) (λ now. absurd (unended r now)) did
+  went_refused asked why none (refused.untold table low high found scans did is) =
+      went_answered asked (answer.Replied (reply.Found found)) (uncommitted (reply.Found found)) (λ now. absurd (unended (reply.Found found) now)) did
   went_refused asked why none (refused.stopped number opened is ends) =
       let line : ScriptLine = record { line = number; session = c.seat; command = asked } in
       record {
-        grew = ends_grew c d line ends;
+        grew = ends_grew c d line opened ends;
         begins_are = omega (arith, begins_more c d line ends.lines);
         commits_are = commits_still c d (dealt_ends c d line (open_each c ok opened) ends);
         snapshots_are = snapshots_same c d ends.seat (dealt_ends c d line (open_each c ok opened) ends);
       }
   went_refused asked why none (refused.starved opened is starves) = record {
-    grew = starves_grew c d starves;
+    grew = starves_grew c d opened starves;
     begins_are = omega (arith, begins_still c d starves.lines);
     commits_are = commits_still c d (dealt_starves c d starves);
     snapshots_are = snapshots_same c d starves.seat (dealt_starves c d starves);
   }
-  went_refused asked why none (refused.unasked opened is same) = unasked asked same
+  went_refused asked why none (refused.unasked opened is none_there same) = unasked asked same
   went_refused asked why none (refused.over is same) = unasked asked same
 
   -- a commit
@@ -212,7 +261,7 @@ module _ (c d : Transcript) (ok : IsTranscript c) where
         x,
         at.steps_are,
         record {
-          grew = more_grew c d line (answer.Committed stamp succ pred) answered.more;
+          grew = more_grew c d line (answer.Committed stamp succ pred) answered.opened answered.more;
           begins_are = omega (arith, begins_more c d line answered.more.lines);
           commits_are =
               ap (λ (p : Progress). history_of p.over) (dealt_answered c d command.Commit (answer.Committed stamp succ pred) ok answered)
@@ -237,7 +286,7 @@ module _ (c d : Transcript) (ok : IsTranscript c) where
         at.steps_are,
         refl,
         record {
-          grew = more_grew c d line answer.Ended answered.more;
+          grew = more_grew c d line answer.Ended answered.opened answered.more;
           begins_are = omega (arith, begins_more c d line answered.more.lines);
           commits_are = ap (λ (p : Progress). history_of p.over) dealt ∙ heard_still c.seat (Some command.Commit) answer.Ended (dealings_of c) apart ∙ sym (append-nil (commits_told c));
           snapshots_are =
@@ -255,5 +304,11 @@ module _ (c d : Transcript) (ok : IsTranscript c) where
   went_unended why (refused.refused it other) = went_refused command.Commit why (ends_otherwise c command.Commit why other) it
   went_unended why (refused.none is none same) = unasked command.Commit same
 
+  -- how the client stands behind a refusal
+  stands_now : (asked : Command) (why : Refusal) → IsRefused c asked why d → StandsBehind why d.standing
+  stands_now asked refusal.Stopped it = stopped_now c d asked it
+  stands_now asked why it = tt
+
   pub refused_now : (asked : Command) (why : Refusal) → IsRefused c asked why d → WasRefused why c d
-  refused_now asked why is = record { before = c; after = d; asked = asked; since = grew_itself c; refused = is; until = grew_itself d }
+  refused_now asked why is =
+      record { before = c; after = d; asked = asked; since = grew_itself c; refused = is; until = grew_itself d; standing_so = stands_now asked why is }

@@ -1,22 +1,25 @@
--- What a line does to the snapshot that a transcript tells to be in progress: its session has a safe one there.
-use Rattle.std.proofs.Common.{◌≡◌, ℕ, true, Option, Some, None, IfSome, option_map, refl, sym, ap, ◌∙◌, subst}
-use Rattle.erm_client.specs.Clients.{IsSafeWhereTold}
+-- What a line leaves of its session's phase, and of what is told to be in progress there.
+use Rattle.std.proofs.Common.{◌≡◌, ◌⊎◌, ℕ, true, List, [], Option, Some, None, IfSome, option_map, inl, inr, refl, sym, ap, ◌∙◌, subst}
+use Rattle.erm_client.specs.Clients.{IsInPhase}
 use Rattle.erm_client.specs.Dealings.{ComesAlone}
 use Rattle.erm_client.specs.Refusals.{IsOfClient, MayTell, TellsEnd}
-use Rattle.erm_good_report.specs.Phases.{FitsPhase, FitsRefusal, refusal_of}
-use Rattle.erm_good_report.specs.Transactions.{Progress, Snapshot, heard, with_look}
+use Rattle.erm_good_report.specs.Phases.{FitsPhase, IsAnswerTo, phase_after, refusal_of}
+use Rattle.erm_good_report.specs.Transactions.{Progress, Snapshot, Transaction, heard, with_line, with_look}
 use Rattle.erm_lines.specs.Whole.{is_snapshot}
-use Rattle.erm_beside.specs.Calls.{Passes}
-use Rattle.erm_lines_at_once.proofs.Watched.{in_phase}
-use Rattle.erm_lines_at_once.specs.Answers.{DidAskSafeBeside, DidAskedBeside, DidInBeside, DidLineBeside, DidOfSnapshotBeside}
+use Rattle.erm_lines_at_once.specs.Answers.{DidAskedBeside, DidInBeside, DidLineBeside, DidOfSnapshotBeside}
+use Rattle.erm_maps.specs.Runs.{IsAnswered, IsRunOf}
 use Rattle.erm_model.specs.declared.outcome.Phase.{Phase}
 use Rattle.erm_model.specs.declared.outcome.Phase.TheVariants.{Active, Idle, Sealed, Pending, Safe}
+use Rattle.erm_model.specs.Run.{Step}
 use Rattle.erm_report.specs.declared.answer.Answer.{Answer}
 use Rattle.erm_report.specs.declared.answer.Answer.TheVariants as answer
 use Rattle.erm_script.specs.declared.script.Command.{Command}
 use Rattle.erm_script.specs.declared.script.Command.TheVariants as command
 use Rattle.erm_script.specs.declared.script.ScriptLine.{ScriptLine}
-use Rattle.erm_world.specs.World.{Session, View, phase_at, phase_of}
+use Rattle.erm_told_at_once.proofs.Lines.{turns_line}
+use Rattle.erm_world.specs.Going.{Extends}
+use Rattle.erm_world.specs.World.{View, Work, phase_at}
+use Rattle.erm_world.specs.World as world
 
 -- WHICH COMMAND it was
 safe_asks : (c : Command) (stamp : ℕ) → IsOfClient c → MayTell c (answer.Safe stamp) → c ≡ command.Safe
@@ -72,132 +75,176 @@ never_waits_seat command.Abort other seen of tells = cc
 never_waits_seat command.Durable other seen of tells = cc
 never_waits_seat c other seen of tells = of
 
--- IN PROGRESS. What is told where its session has no safe snapshot is none.
+pub never_waits_ring : (c : Command) (flushed : ℕ) → IsOfClient c → MayTell c (answer.WaitRing flushed) → ⊥
+never_waits_ring command.Begin flushed of tells = cc
+never_waits_ring command.Safe flushed of tells = cc
+never_waits_ring (command.Get table key) flushed of tells = cc
+never_waits_ring (command.Put table key value) flushed of tells = cc
+never_waits_ring (command.Del table key) flushed of tells = cc
+never_waits_ring (command.Next table from) flushed of tells = cc
+never_waits_ring (command.Scan table low high) flushed of tells = cc
+never_waits_ring command.Commit flushed of tells = cc
+never_waits_ring command.Abort flushed of tells = cc
+never_waits_ring command.Durable flushed of tells = cc
+never_waits_ring c flushed of tells = of
+
+-- NONE IN PROGRESS. What is told where its session has no safe snapshot is none; nor is a transaction told where it isn't active.
 none_told : (told : Option Snapshot) (phase : Phase) → IfSome told (λ _. phase ≡ Safe) → (phase ≡ Safe → ⊥) → told ≡ None
 none_told None phase so not = refl
 none_told (Some s) phase so not = absurd (not so)
 
+none_now : (told : Option Transaction) (phase : Phase) → IfSome told (λ _. phase ≡ Active) → (phase ≡ Active → ⊥) → told ≡ None
+none_now None phase so not = refl
+none_now (Some t) phase so not = absurd (not so)
+
 -- neither a transaction nor a snapshot begins in a session with a safe one
-pub comes_alone : (c : Command) (a : Answer) (phase : Phase) (p : Progress) → IsOfClient c → MayTell c a → FitsPhase phase c a → IsSafeWhereTold phase p → ComesAlone a p
+pub comes_alone : (c : Command) (a : Answer) (phase : Phase) (p : Progress) → IsOfClient c → MayTell c a → FitsPhase phase c a → IsInPhase phase p → ComesAlone a p
 comes_alone c (answer.Began stamp) phase p of tells fits so =
     let begins : FitsPhase phase command.Begin (answer.Began stamp) = subst (λ (x : Command). FitsPhase phase x (answer.Began stamp)) (begin_asks c stamp of tells) fits in
-    none_told p.snapshot phase so (λ safe. differ (subst (λ (x : Phase). FitsPhase x command.Begin (answer.Began stamp)) safe begins))
+    none_told p.snapshot phase so.safe (λ safe. differ (subst (λ (x : Phase). FitsPhase x command.Begin (answer.Began stamp)) safe begins))
   where
     differ : answer.Began stamp ≡ answer.NotIdle → ⊥
     differ same = cc
 comes_alone c (answer.Safe stamp) phase p of tells fits so =
     let asks : FitsPhase phase command.Safe (answer.Safe stamp) = subst (λ (x : Command). FitsPhase phase x (answer.Safe stamp)) (safe_asks c stamp of tells) fits in
-    none_told p.snapshot phase so (λ safe. differ (subst (λ (x : Phase). FitsPhase x command.Safe (answer.Safe stamp)) safe asks))
+    none_told p.snapshot phase so.safe (λ safe. differ (subst (λ (x : Phase). FitsPhase x command.Safe (answer.Safe stamp)) safe asks))
   where
     differ : answer.Safe stamp ≡ answer.NotIdle → ⊥
     differ same = cc
 comes_alone c a phase p of tells fits so = tt
 
--- the answers behind which it goes on
-abbrev IsQuiet : Answer → Type 0
-IsQuiet answer.Ended = ⊥
-IsQuiet answer.Aborted = ⊥
-IsQuiet (answer.Unsafe seat stamp) = ⊥
-IsQuiet a = Unit {0}
+-- nor does a snapshot beside a transaction
+none_beside : (c : Command) (stamp : ℕ) (phase : Phase) (p : Progress) → IsOfClient c → MayTell c (answer.Safe stamp) → FitsPhase phase c (answer.Safe stamp) → IsInPhase phase p → p.current ≡ None
+none_beside c stamp phase p of tells fits so =
+    let asks : FitsPhase phase command.Safe (answer.Safe stamp) = subst (λ (x : Command). FitsPhase phase x (answer.Safe stamp)) (safe_asks c stamp of tells) fits in
+    none_now p.current phase so.active (λ active. differ (subst (λ (x : Phase). FitsPhase x command.Safe (answer.Safe stamp)) active asks))
+  where
+    differ : answer.Safe stamp ≡ answer.NotIdle → ⊥
+    differ same = cc
 
-refused_so : (phase : Phase) (r : Answer) → refusal_of phase command.Safe ≡ Some r → r ≡ answer.NotIdle
-refused_so Idle r is = absurd (cc)
-refused_so Active r is = cc
-refused_so Sealed r is = cc
-refused_so Pending r is = absurd (cc)
-refused_so Safe r is = cc
+-- IN ITS PHASE
+mapped : {X : Type 0} (o : Option X) (f : X → X) (P Q : Type 0) → (P → Q) → IfSome o (λ _. P) → IfSome (option_map f o) (λ _. Q)
+mapped None f P Q keeps so = tt
+mapped (Some x) f P Q keeps so = keeps so
 
-module _ (f : View) (seat : ℕ) (v t : View) where
-  passed : Passes seat v t → phase_at v seat ≡ Safe → phase_at t seat ≡ Safe
-  passed passes safe = ap (λ (s : Session). phase_of s.stand) passes.own ∙ safe
+unmapped : {X : Type 0} (o : Option X) (f : X → X) → option_map f o ≡ None → o ≡ None
+unmapped None f is = refl
+unmapped (Some x) f is = absurd (cc)
 
-  asked : (u : View) (stamp : ℕ) → DidAskSafeBeside f seat (answer.Safe stamp) u t → phase_at t seat ≡ Safe
-  asked u stamp ((w, passes, (s, at, now)), same, safe) = ap (λ (s : Session). phase_of s.stand) now.own
+module _ (phase next : Phase) where
+  -- the same goes on
+  stays : (p : Progress) → next ≡ phase → IsInPhase phase p → IsInPhase next p
+  stays p is so = subst (λ (x : Phase). IsInPhase x p) (sym is) so
 
-  of_snapshot : (c : Command) (a : Answer) → phase_at v seat ≡ Safe → IsQuiet a → DidOfSnapshotBeside f seat c a v t → phase_at t seat ≡ Safe
-  of_snapshot command.Safe (answer.Safe stamp) safe quiet did = asked v stamp did
-  of_snapshot command.Safe (answer.Unsafe other stamp) safe quiet did = absurd quiet
-  of_snapshot (command.Get table key) (answer.Replied r) safe quiet did = passed did.passes safe
-  of_snapshot (command.Next table from) (answer.Replied r) safe quiet did = passed did.passes safe
-  of_snapshot (command.Scan table low high) (answer.Replied r) safe quiet did = passed did.passes safe
-  of_snapshot command.Commit answer.Ended safe quiet did = absurd quiet
-  of_snapshot command.Abort answer.Aborted safe quiet did = absurd quiet
-  of_snapshot command.Durable (answer.Durable stamp) safe quiet (u, passes, did) =
-      ap (λ (x : View). phase_at x seat) did.0 ∙ ap (λ (s : Session). phase_of s.stand) passes.own ∙ safe
-  of_snapshot command.Durable answer.NoReceipt safe quiet (u, passes, did) =
-      ap (λ (x : View). phase_at x seat) did.0 ∙ ap (λ (s : Session). phase_of s.stand) passes.own ∙ safe
-  of_snapshot c a safe quiet did = absurd did
+  goes : (p : Progress) (line : Transaction → Transaction) (look : Snapshot → Snapshot) → next ≡ phase → IsInPhase phase p
+      → IsInPhase next (record p { current = option_map line p.current; snapshot = option_map look p.snapshot })
+  goes p line look is so = record {
+    active = mapped p.current line (phase ≡ Active) (next ≡ Active) (λ active. is ∙ active) so.active;
+    safe = mapped p.snapshot look (phase ≡ Safe) (next ≡ Safe) (λ safe. is ∙ safe) so.safe;
+    idle = λ none unwatched. subst (λ (x : Phase). (x ≡ Idle) ⊎ (x ≡ Pending)) (sym is) (so.idle (unmapped p.current line none) (unmapped p.snapshot look unwatched));
+  }
 
-  -- it stays
-  stays : (c : Command) (a : Answer) (refusal : Option Answer) → phase_at v seat ≡ Safe → IsQuiet a → DidAskedBeside refusal f seat c a v t → phase_at t seat ≡ Safe
-  stays c a None safe quiet did = of_snapshot c a safe quiet (subst (λ (p : Phase). DidInBeside p f seat c a v t) safe did)
-  stays c a (Some r) safe quiet passes = passed passes safe
+-- nothing is in progress
+pub at_rest : (next : Phase) (q : Progress) → q.current ≡ None → q.snapshot ≡ None → next ≡ Idle → IsInPhase next q
+at_rest next q none unwatched is = record {
+  active = subst (λ (o : Option Transaction). IfSome o (λ _. next ≡ Active)) (sym none) tt;
+  safe = subst (λ (o : Option Snapshot). IfSome o (λ _. next ≡ Safe)) (sym unwatched) tt;
+  idle = λ _ _. inl is;
+}
 
-  -- it comes
-  comes : (stamp : ℕ) (refusal : Option Answer) → refusal_of (phase_at v seat) command.Safe ≡ refusal → FitsRefusal refusal command.Safe (answer.Safe stamp)
-      → DidAskedBeside refusal f seat command.Safe (answer.Safe stamp) v t → phase_at t seat ≡ Safe
-  comes stamp None is fits did =
-      in_phase (phase_at t seat ≡ Safe) f seat command.Safe (answer.Safe stamp) v t (λ plain began. asked began.between stamp began.asked) (λ has so. asked v stamp so) did
-  comes stamp (Some r) is fits passes = absurd (differ (fits ∙ refused_so (phase_at v seat) r is))
-    where
-      differ : answer.Safe stamp ≡ answer.NotIdle → ⊥
-      differ same = cc
+some_not : {X : Type 0} (x : X) → Some x ≡ None → ⊥
+some_not x is = cc
 
-  kept : (told : Option Snapshot) → (phase_at v seat ≡ Safe → phase_at t seat ≡ Safe) → IfSome told (λ _. phase_at v seat ≡ Safe) → IfSome told (λ _. phase_at t seat ≡ Safe)
-  kept None keeps so = tt
-  kept (Some s) keeps so = keeps so
+module _ (seat : ℕ) (c : Command) (phase next : Phase) (p : Progress) where
+  after : (a : Answer) → IsOfClient c → MayTell c a → FitsPhase phase c a → next ≡ phase_after (Some c) a phase → IsInPhase phase p → IsInPhase next (heard seat (Some c) a p)
+  after (answer.Began stamp) of tells fits is so = record {
+    active = is;
+    safe = subst (λ (o : Option Snapshot). IfSome o (λ _. next ≡ Safe)) (sym (comes_alone c (answer.Began stamp) phase p of tells fits so)) tt;
+    idle = λ none _. absurd (some_not _ none);
+  }
+  after (answer.Safe stamp) of tells fits is so = record {
+    active = subst (λ (o : Option Transaction). IfSome o (λ _. next ≡ Active)) (sym (none_beside c stamp phase p of tells fits so)) tt;
+    safe = is;
+    idle = λ _ none. absurd (some_not _ none);
+  }
+  after (answer.Sealed stamp) of tells fits is so = absurd (never_seals c stamp of tells)
+  after (answer.WaitSeat other seen) of tells fits is so = absurd (never_waits_seat c other seen of tells)
+  after (answer.WaitRing flushed) of tells fits is so = absurd (never_waits_ring c flushed of tells)
+  after (answer.Unsafe other stamp) of tells fits is so = at_rest next (heard seat (Some c) (answer.Unsafe other stamp) p) refl refl is
+  after answer.Ended of tells fits is so = at_rest next (heard seat (Some c) answer.Ended p) refl refl is
+  after (answer.Committed stamp succ pred) of tells fits is so = at_rest next (heard seat (Some c) (answer.Committed stamp succ pred) p) refl refl is
+  after (answer.Excluded stamp succ pred) of tells fits is so = at_rest next (heard seat (Some c) (answer.Excluded stamp succ pred) p) refl refl is
+  after (answer.ExcludedEarly succ pred) of tells fits is so = at_rest next (heard seat (Some c) (answer.ExcludedEarly succ pred) p) refl refl is
+  after (answer.Owned other number) of tells fits is so = at_rest next (heard seat (Some c) (answer.Owned other number) p) refl refl is
+  after (answer.Newer stamp) of tells fits is so = at_rest next (heard seat (Some c) (answer.Newer stamp) p) refl refl is
+  after answer.Aborted of tells fits is so = at_rest next (heard seat (Some c) answer.Aborted p) refl refl is
+  after answer.NotIdle of tells fits is so = stays phase next p is so
+  after answer.NoTransaction of tells fits is so = stays phase next p is so
+  after answer.IsSealed of tells fits is so = stays phase next p is so
+  after answer.NotSealed of tells fits is so = stays phase next p is so
+  after answer.ReadOnly of tells fits is so = stays phase next p is so
+  after answer.NotSafe of tells fits is so = stays phase next p is so
+  after a of tells fits is so = goes phase next p (with_line (Some c) a) (with_look (Some c) a) is so
 
-  looked : (told : Option Snapshot) (look : Snapshot → Snapshot) → (phase_at v seat ≡ Safe → phase_at t seat ≡ Safe) → IfSome told (λ _. phase_at v seat ≡ Safe)
-      → IfSome (option_map look told) (λ _. phase_at t seat ≡ Safe)
-  looked None look keeps so = tt
-  looked (Some s) look keeps so = keeps so
+-- a session that is in such a phase isn't sealed
+unsealed_by : (t : Option Transaction) (s : Option Snapshot) (phase : Phase) → IfSome t (λ _. phase ≡ Active) → IfSome s (λ _. phase ≡ Safe) → (t ≡ None → s ≡ None → (phase ≡ Idle) ⊎ (phase ≡ Pending))
+    → phase ≡ Sealed → ⊥
+unsealed_by (Some t) s phase active safe idle sealed = cc
+unsealed_by None (Some s) phase active safe idle sealed = cc
+unsealed_by None None phase active safe idle sealed = elim (idle refl refl) as (λ _. ⊥) [
+  | inl is ↦ cc
+  | inr is ↦ cc
+]
 
-  watched : (c : Command) (a : Answer) (p : Progress) → IsOfClient c → MayTell c a → FitsPhase (phase_at v seat) c a → DidAskedBeside (refusal_of (phase_at v seat) c) f seat c a v t
-      → IsSafeWhereTold (phase_at v seat) p → IsSafeWhereTold (phase_at t seat) (heard seat (Some c) a p)
-  watched c (answer.Began stamp) p of tells fits did so =
-      subst (λ (told : Option Snapshot). IfSome told (λ _. phase_at t seat ≡ Safe)) (sym (comes_alone c (answer.Began stamp) (phase_at v seat) p of tells fits so)) tt
-  watched c (answer.Safe stamp) p of tells fits did so =
-      let asks = safe_asks c stamp of tells in
-      comes stamp (refusal_of (phase_at v seat) command.Safe) refl (subst (λ (x : Command). FitsPhase (phase_at v seat) x (answer.Safe stamp)) asks fits)
-      (subst (λ (x : Command). DidAskedBeside (refusal_of (phase_at v seat) x) f seat x (answer.Safe stamp) v t) asks did)
-  watched c (answer.Sealed stamp) p of tells fits did so = absurd (never_seals c stamp of tells)
-  watched c (answer.WaitSeat other seen) p of tells fits did so = absurd (never_waits_seat c other seen of tells)
-  watched c (answer.Unsafe other stamp) p of tells fits did so = tt
-  watched c answer.Ended p of tells fits did so = tt
-  watched c (answer.Committed stamp succ pred) p of tells fits did so = tt
-  watched c (answer.Excluded stamp succ pred) p of tells fits did so = tt
-  watched c (answer.ExcludedEarly succ pred) p of tells fits did so = tt
-  watched c (answer.Owned other number) p of tells fits did so = tt
-  watched c (answer.Newer stamp) p of tells fits did so = tt
-  watched c answer.Aborted p of tells fits did so = tt
-  watched c answer.NotIdle p of tells fits did so = kept p.snapshot (λ safe. stays c answer.NotIdle (refusal_of (phase_at v seat) c) safe tt did) so
-  watched c answer.NoTransaction p of tells fits did so = kept p.snapshot (λ safe. stays c answer.NoTransaction (refusal_of (phase_at v seat) c) safe tt did) so
-  watched c answer.IsSealed p of tells fits did so = kept p.snapshot (λ safe. stays c answer.IsSealed (refusal_of (phase_at v seat) c) safe tt did) so
-  watched c answer.NotSealed p of tells fits did so = kept p.snapshot (λ safe. stays c answer.NotSealed (refusal_of (phase_at v seat) c) safe tt did) so
-  watched c answer.ReadOnly p of tells fits did so = kept p.snapshot (λ safe. stays c answer.ReadOnly (refusal_of (phase_at v seat) c) safe tt did) so
-  watched c answer.NotSafe p of tells fits did so = kept p.snapshot (λ safe. stays c answer.NotSafe (refusal_of (phase_at v seat) c) safe tt did) so
-  watched c a p of tells fits did so = looked p.snapshot (with_look (Some c) a) (λ safe. stays c a (refusal_of (phase_at v seat) c) safe tt did) so
+pub unsealed : (phase : Phase) (p : Progress) → IsInPhase phase p → phase ≡ Sealed → ⊥
+unsealed phase p so sealed = unsealed_by p.current p.snapshot phase so.active so.safe so.idle sealed
 
-  ended : (a : Answer) → DidOfSnapshotBeside f seat command.Commit a v t → TellsEnd a
-  ended answer.Ended did = tt
-  ended a did = absurd did
+-- and where it is idle nothing is in progress
+pub none_current : (phase : Phase) (p : Progress) → IsInPhase phase p → phase ≡ Idle → p.current ≡ None
+none_current phase p so idle = none_now p.current phase so.active (λ active. cc)
 
-  ends : (phase : Phase) (a : Answer) → is_snapshot phase ≡ true → FitsPhase phase command.Commit a → (refusal_of phase command.Commit ≡ None → DidInBeside phase f seat command.Commit a v t) → TellsEnd a
-  ends Pending a has fits did = subst (λ (x : Answer). TellsEnd x) (sym fits) refl
-  ends Safe a has fits did = ended a (did refl)
-  ends Idle a has fits did = absurd (cc)
-  ends Active a has fits did = absurd (cc)
-  ends Sealed a has fits did = absurd (cc)
+pub none_watched : (phase : Phase) (p : Progress) → IsInPhase phase p → phase ≡ Idle → p.snapshot ≡ None
+none_watched phase p so idle = none_told p.snapshot phase so.safe (λ safe. cc)
 
--- A LINE
-pub watched_line : (f : View) (l : ScriptLine) (a : Answer) (v t : View) (p : Progress) → IsOfClient l.command → MayTell l.command a → DidLineBeside f l a v t
-    → IsSafeWhereTold (phase_at v l.session) p → IsSafeWhereTold (phase_at t l.session) (heard l.session (Some l.command) a p)
-watched_line f l a v t p of tells did so = watched f l.session v t l.command a p of tells did.fits did.did so
+-- AN ABORT leaves nothing in progress.
+aborted : (a : Answer) (phase next : Phase) → IsAnswerTo command.Abort a → next ≡ phase_after (Some command.Abort) a phase → next ≡ Idle
+aborted answer.Aborted phase next fits is = is
+aborted a phase next fits is = absurd fits
 
--- a commit of a session that has a snapshot
+pub abort_rests : (a : Answer) (phase next : Phase) → (phase ≡ Sealed → ⊥) → FitsPhase phase command.Abort a → next ≡ phase_after (Some command.Abort) a phase → next ≡ Idle
+abort_rests a Idle next un fits is = is ∙ ap (λ (x : Answer). phase_after (Some command.Abort) x Idle) fits
+abort_rests a Active next un fits is = aborted a Active next fits is
+abort_rests a Sealed next un fits is = absurd (un refl)
+abort_rests a Pending next un fits is = aborted a Pending next fits is
+abort_rests a Safe next un fits is = aborted a Safe next fits is
+
+-- A COMMIT of a session with a snapshot ends it.
+ended : (f : View) (seat : ℕ) (v t : View) (a : Answer) → DidOfSnapshotBeside f seat command.Commit a v t → TellsEnd a
+ended f seat v t answer.Ended did = tt
+ended f seat v t a did = absurd did
+
+ends : (f : View) (seat : ℕ) (v t : View) (phase : Phase) (a : Answer) → is_snapshot phase ≡ true → FitsPhase phase command.Commit a
+    → (refusal_of phase command.Commit ≡ None → DidInBeside phase f seat command.Commit a v t) → TellsEnd a
+ends f seat v t Pending a has fits did = subst (λ (x : Answer). TellsEnd x) (sym fits) refl
+ends f seat v t Safe a has fits did = ended f seat v t a (did refl)
+ends f seat v t Idle a has fits did = absurd (cc)
+ends f seat v t Active a has fits did = absurd (cc)
+ends f seat v t Sealed a has fits did = absurd (cc)
+
 pub line_ends : (f : View) (l : ScriptLine) (a : Answer) (v t : View) → DidLineBeside f l a v t → is_snapshot (phase_at v l.session) ≡ true → l.command ≡ command.Commit → TellsEnd a
 line_ends f l a v t done has asks =
     let phase = phase_at v l.session in
     let did : DidAskedBeside (refusal_of phase command.Commit) f l.session command.Commit a v t = subst (λ (c : Command). DidAskedBeside (refusal_of phase c) f l.session c a v t) asks done.did in
     ends f l.session v t phase a has (subst (λ (c : Command). FitsPhase phase c a) asks done.fits)
     (λ free. subst (λ (r : Option Answer). DidAskedBeside r f l.session command.Commit a v t) free did)
+
+-- A LINE
+abbrev pub LinesLeave : Type 0
+LinesLeave = (f : View) (l : ScriptLine) (a : Answer) (v t : View) → DidLineBeside f l a v t → phase_at t l.session ≡ phase_after (Some l.command) a (phase_at v l.session)
+
+pub lines_leave : ((number begin : ℕ) → IsRunOf (world.begun number begin) []) → ((w u : Work) (steps : List Step) → Extends w u → IsAnswered w steps → IsAnswered u steps) → LinesLeave
+lines_leave runs stay f l a v t did = sym (turns_line runs stay f l a v t did).took.phase
+
+pub in_phase_line : LinesLeave → (f : View) (l : ScriptLine) (a : Answer) (v t : View) (p : Progress) → IsOfClient l.command → MayTell l.command a → DidLineBeside f l a v t
+    → IsInPhase (phase_at v l.session) p → IsInPhase (phase_at t l.session) (heard l.session (Some l.command) a p)
+in_phase_line leave f l a v t p of tells did so = after l.session l.command (phase_at v l.session) (phase_at t l.session) p a of tells did.fits (leave f l a v t did) so

@@ -19,6 +19,11 @@ dealings_of c = progress_of c.seat (said_of c.lines.items c.answers.items)
 abbrev pub HasNone : Transcript → Type 0
 HasNone c = (dealings_of c).snapshot ≡ None
 
+-- neither a transaction nor a snapshot is in progress
+pub record HasNothing (c : Transcript) : Type 0 where
+  pub no_transaction : (dealings_of c).current ≡ None
+  pub no_snapshot : HasNone c
+
 -- the transaction in progress, and no snapshot, with the operations that were answered
 pub record IsAt (c : Transcript) (steps : List Step) : Type 0 where
   pub current : Transaction

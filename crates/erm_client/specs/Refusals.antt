@@ -1,8 +1,7 @@
 -- What a client's lines may be answered, and which answers are refusals.
-use Rattle.std.specs.Prelude.{◌≡◌, Option, Some, None, IsSome}
+use Rattle.std.specs.Prelude.{◌≡◌, ℕ, List, Option, Some, None, IsSome}
 use Rattle.erm_client.specs.declared.refusal.Refusal.{Refusal}
 use Rattle.erm_client.specs.declared.refusal.Refusal.TheVariants as refusal
-use Rattle.erm_model.specs.declared.operation.Reply.{Reply}
 use Rattle.erm_model.specs.declared.operation.Reply.TheVariants as reply
 use Rattle.erm_report.specs.declared.answer.Answer.{Answer}
 use Rattle.erm_report.specs.declared.answer.Answer.TheVariants as answer
@@ -30,6 +29,15 @@ refusal_told (answer.CellsFull drawn) = Some (refusal.CellsFull drawn)
 refusal_told (answer.OidsFull drawn) = Some (refusal.OidsFull drawn)
 refusal_told answer.NoReceipt = Some refusal.NoReceipt
 refusal_told a = None
+
+-- refusals with which the transaction, or the snapshot, has ended
+abbrev pub IsEnding : Refusal → Type 0
+IsEnding refusal.Ended = Unit {0}
+IsEnding (refusal.Unsafe seat stamp) = Unit {0}
+IsEnding (refusal.Owned seat number) = Unit {0}
+IsEnding (refusal.Newer stamp) = Unit {0}
+IsEnding (refusal.Excluded succ pred) = Unit {0}
+IsEnding why = ⊥
 
 -- an answer tells a refusal; that a snapshot has ended is one to a commit alone
 abbrev pub IsRefusal : Answer → Type 0
@@ -93,11 +101,18 @@ MayTell command.Abort a = TellsAbort a
 MayTell command.Durable a = TellsDurable a
 MayTell c a = Unit {0}
 
--- it is a reply, and there was no memory for what its caller is to be given
+-- keys were found, and there was no memory for a copy of them, with their values
 pub record IsUntold (a : Answer) (why : Refusal) : Type 0 where
   pub memory : why ≡ refusal.Memory
-  pub reply : Reply
-  pub is : a ≡ answer.Replied reply
+  pub found : List (ℕ × List ℕ)
+  pub is : a ≡ answer.Replied (reply.Found found)
+
+-- A refusal by which a line was answered. The others say that the session has no snapshot, that the client was told to stop, and that memory ran out.
+abbrev pub IsByAnswer : Refusal → Type 0
+IsByAnswer refusal.NoSnapshot = ⊥
+IsByAnswer refusal.Stopped = ⊥
+IsByAnswer refusal.Memory = ⊥
+IsByAnswer why = Unit {0}
 
 -- the commands that a client has
 abbrev pub IsOfClient : Command → Type 0

@@ -2,12 +2,12 @@
 ghost use Rattle.std.specs.Prelude.{◌≡◌, ◌≢◌, ◌<◌, IfErr, IfOk, None, OnOk, false, true};
 ghost use Rattle.std.specs.List.{All};
 ghost use Rattle.erm_beside.specs.Laws.{GoesOnward};
-ghost use Rattle.erm_client.specs.Clients.{FinishesWork, GoesOn, HasRun, IsClient};
+ghost use Rattle.erm_client.specs.Clients.{FinishesWork, GoesOn, HasRun, IsClient, Rests, StarvesWork};
 ghost use Rattle.erm_client.specs.Dealings.{HasNone};
 ghost use Rattle.erm_client.specs.Refusals.{IsOfClient};
-ghost use Rattle.erm_client.specs.Transcripts.{HasRoom, IsAnswered, IsAsked, IsLine, IsNew, IsRefused, IsUnended};
+ghost use Rattle.erm_client.specs.Transcripts.{HasRoom, IsAnswered, IsAsked, IsLine, IsNew, IsRefused, IsUnended, room_for};
 ghost use Rattle.erm_lines.specs.Whole.{is_snapshot};
-ghost use Rattle.erm_model.specs.declared.outcome.Phase.TheVariants.{Active, Sealed};
+ghost use Rattle.erm_model.specs.declared.outcome.Phase.TheVariants.{Active, Idle, Sealed};
 ghost use Rattle.erm_model.specs.RowTransaction.{SameLaw};
 ghost use Rattle.erm_node.specs.Sound.{sound_law};
 ghost use Rattle.erm_script.specs.Script.{IsInRange};
@@ -34,6 +34,16 @@ fn bytes_are_small(bytes: &[u8])
     ensures { All (λ b. b < 256) bytes.now }
 {}
 
+// For how many lines there is to be room before a command is asked: for its own, and for one that gives up what may be in progress then.
+fn lines_ahead(command: &Command) -> usize
+    ensures { result ≡ room_for command.now }
+{
+    match command {
+        Command::Abort => 1,
+        _ => 2,
+    }
+}
+
 /// A session of a world, as a program has it.
 #[derive(Drop)]
 pub struct Client<'a, S: SharedSession, T> {
@@ -59,7 +69,11 @@ pub struct Finished<S, T> {
 }
 
 impl<'a, S: SafeSession, T: Turns> Client<'a, S, T> {
-    /// The client of a session, of this seat, that has committed nothing.
+    /// The client of a session, of this seat, that is idle and has committed nothing.
+    ///
+    /// ```text
+    /// let mut client = Client::new(alloc, session, &table, turns, seat);
+    /// ```
     pub fn new(
         alloc: Global,
         session: S,
@@ -70,6 +84,7 @@ impl<'a, S: SafeSession, T: Turns> Client<'a, S, T> {
         requires stands { S.stands shared.now session }
         requires seat { seat ≡ S.seat session }
         requires ready { IsReady (S.own session) (S.seat session) None }
+        requires idle { phase_at (S.own session) (S.seat session) ≡ Idle }
         ensures client { IsClient S.stands S.seat S.own result }
         ensures same { result.session ≡ session }
         ensures shared { result.shared ≡ shared.entry }
@@ -91,13 +106,16 @@ impl<'a, S: SafeSession, T: Turns> Client<'a, S, T> {
         requires law { SameLaw S.law sound_law }
         requires client { IsClient S.stands S.seat S.own self.old }
         requires opened { self.old.transcript.standing ≡ Standing.Open }
-        requires room { HasRoom self.old.transcript }
+        requires room { HasRoom (room_for line.command) self.old.transcript }
         requires line { IsLine (S.seat self.old.session) line }
         ensures on { GoesOn S.stands S.seat S.own S.ends T.told self.old self.new }
-        ensures ok { OnOk result (IsAsked (phase_at (S.own self.old.session) (S.seat self.old.session)) self.old.transcript line.command self.new.transcript) }
+        ensures ok { OnOk result (IsAsked (phase_at (S.own self.old.session) (S.seat self.old.session)) (phase_at (S.own self.new.session) (S.seat self.new.session)) self.old.transcript line.command self.new.transcript) }
         ensures err { IfErr result (λ why. IsRefused self.old.transcript line.command why self.new.transcript) }
         ensures other { IfErr result (λ why. why ≢ Refusal.Ended) }
+        ensures rests { line.command ≡ Command.Abort → Rests S.seat S.own self.new }
     {
+        erm_maps::begun_transactions_are_runs();
+        erm_maps::answers_stay();
         match run_next(
             rt,
             self.alloc,
@@ -122,7 +140,8 @@ impl<'a, S: SafeSession, T: Turns> Client<'a, S, T> {
         }
     }
 
-    // Asks a command of the session, and puts it and its answer into the transcript. The memory for both is taken before.
+    // Asks a command of the session, and puts it and its answer into the transcript. The memory for both is taken before, and for a line that gives up what
+    // is in progress then: so this one is always there.
     fn ask<R: Wait>(&mut self, rt: &R, command: Command) -> Result<(), Refusal>
         requires law { SameLaw S.law sound_law }
         requires client { IsClient S.stands S.seat S.own self.old }
@@ -130,16 +149,17 @@ impl<'a, S: SafeSession, T: Turns> Client<'a, S, T> {
         requires of { IsOfClient command }
         requires range { IsInRange command }
         ensures on { GoesOn S.stands S.seat S.own S.ends T.told self.old self.new }
-        ensures ok { OnOk result (IsAsked (phase_at (S.own self.old.session) (S.seat self.old.session)) self.old.transcript command self.new.transcript) }
+        ensures ok { OnOk result (IsAsked (phase_at (S.own self.old.session) (S.seat self.old.session)) (phase_at (S.own self.new.session) (S.seat self.new.session)) self.old.transcript command self.new.transcript) }
         ensures err { IfErr result (λ why. IsRefused self.old.transcript command why self.new.transcript) }
         ensures other { IfErr result (λ why. why ≢ Refusal.Ended) }
+        ensures rests { command ≡ Command.Abort → Rests S.seat S.own self.new }
     {
         match self.transcript.standing {
             Standing::Open => {}
             Standing::Stopped => return Err(Refusal::Stopped),
             Standing::Starved => return Err(Refusal::Memory),
         }
-        if self.transcript.make_room().is_err() {
+        if self.transcript.make_room(lines_ahead(&command)).is_err() {
             return Err(Refusal::Memory);
         }
         let line = self.transcript.next_line(command);
@@ -147,6 +167,10 @@ impl<'a, S: SafeSession, T: Turns> Client<'a, S, T> {
     }
 
     /// Begins a transaction: its begin stamp.
+    ///
+    /// ```text
+    /// let begin = client.begin(rt)?;
+    /// ```
     pub fn begin<R: Wait>(&mut self, rt: &R) -> Result<Stamp, Refusal>
         requires law { SameLaw S.law sound_law }
         requires client { IsClient S.stands S.seat S.own self.old }
@@ -160,6 +184,13 @@ impl<'a, S: SafeSession, T: Turns> Client<'a, S, T> {
 
     /// Begins a snapshot, which only reads, and waits until it is known whether it is safe: its begin stamp. It sees what had committed by its begin, and
     /// no more, and what is asked of it is never refused for others, nor is anything of others for it.
+    ///
+    /// ```text
+    /// match client.safe(rt) {
+    ///     Err(Refusal::Unsafe { .. }) => client.safe(rt)?,
+    ///     begin => begin?,
+    /// };
+    /// ```
     pub fn safe<R: Wait>(&mut self, rt: &R) -> Result<Stamp, Refusal>
         requires law { SameLaw S.law sound_law }
         requires client { IsClient S.stands S.seat S.own self.old }
@@ -172,6 +203,12 @@ impl<'a, S: SafeSession, T: Turns> Client<'a, S, T> {
     }
 
     /// Reads the value of a key, if it has one.
+    ///
+    /// ```text
+    /// let Some(value) = client.get(rt, 0, key)? else {
+    ///     return Ok(None);
+    /// };
+    /// ```
     pub fn get<R: Wait>(&mut self, rt: &R, table: u8, key: u64) -> Result<Option<Value>, Refusal>
         requires law { SameLaw S.law sound_law }
         requires client { IsClient S.stands S.seat S.own self.old }
@@ -184,7 +221,11 @@ impl<'a, S: SafeSession, T: Turns> Client<'a, S, T> {
         value_in(self.transcript.last())
     }
 
-    /// Sets the value of a key.
+    /// Sets the value of a key. Where it is refused because memory ran out, the transcript has nothing of it; so it is of each call but a scan.
+    ///
+    /// ```text
+    /// client.put(rt, 0, key, value)?;
+    /// ```
     pub fn put<R: Wait>(&mut self, rt: &R, table: u8, key: u64, value: Value) -> Result<(), Refusal>
         requires law { SameLaw S.law sound_law }
         requires client { IsClient S.stands S.seat S.own self.old }
@@ -199,6 +240,10 @@ impl<'a, S: SafeSession, T: Turns> Client<'a, S, T> {
     }
 
     /// Takes the value of a key away, if it has one.
+    ///
+    /// ```text
+    /// client.del(rt, 0, key)?;
+    /// ```
     pub fn del<R: Wait>(&mut self, rt: &R, table: u8, key: u64) -> Result<(), Refusal>
         requires law { SameLaw S.law sound_law }
         requires client { IsClient S.stands S.seat S.own self.old }
@@ -212,6 +257,10 @@ impl<'a, S: SafeSession, T: Turns> Client<'a, S, T> {
     }
 
     /// Finds the least key at or above `from` that has a value.
+    ///
+    /// ```text
+    /// let mut found = client.next(rt, 0, from)?;
+    /// ```
     pub fn next<R: Wait>(
         &mut self,
         rt: &R,
@@ -229,7 +278,14 @@ impl<'a, S: SafeSession, T: Turns> Client<'a, S, T> {
         pair_in(self.transcript.last())
     }
 
-    /// Finds all keys from `low` to `high`, these two too, that have a value. Memory is taken for them twice: the transcript has them too.
+    /// Finds all keys from `low` to `high`, these two too, that have a value. Memory is taken for them twice: the transcript has them too, also where there is
+    /// none for the caller's copy.
+    ///
+    /// ```text
+    /// for (key, value) in client.scan(rt, 0, low, high)?.as_slice() {
+    ///     sum = added(sum, key, value);
+    /// }
+    /// ```
     pub fn scan<R: Wait>(
         &mut self,
         rt: &R,
@@ -248,13 +304,23 @@ impl<'a, S: SafeSession, T: Turns> Client<'a, S, T> {
         found_in(self.alloc, self.transcript.last())
     }
 
-    /// Commits the transaction, or gives it up where its exclusion window is closed. It waits for others that may count for that.
+    /// Commits the transaction, or gives it up where its exclusion window is closed. It waits for others that may count for that. Once it has committed
+    /// nothing is in progress.
+    ///
+    /// ```text
+    /// match client.commit(rt) {
+    ///     Ok(commit) => Ok(commit.stamp),
+    ///     Err(Refusal::Excluded { .. }) => again(rt, client),
+    ///     Err(why) => Err(why),
+    /// }
+    /// ```
     pub fn commit<R: Wait>(&mut self, rt: &R) -> Result<Commit, Refusal>
         requires law { SameLaw S.law sound_law }
         requires client { IsClient S.stands S.seat S.own self.old }
         ensures on { GoesOn S.stands S.seat S.own S.ends T.told self.old self.new }
         ensures ok { IfOk result (λ commit. IsAnswered self.old.transcript Command.Commit (Answer.Committed commit.stamp commit.succ commit.pred) self.new.transcript) }
         ensures err { IfErr result (λ why. IsRefused self.old.transcript Command.Commit why self.new.transcript) }
+        ensures rests { OnOk result (Rests S.seat S.own self.new) }
     {
         self.ask(rt, Command::Commit)?;
         commit_in(self.transcript.last())
@@ -273,12 +339,19 @@ impl<'a, S: SafeSession, T: Turns> Client<'a, S, T> {
     }
 
     /// Ends the snapshot: it has its place in the serial order, in front of all that commit at its begin stamp or later. A transaction isn't ended so.
+    ///
+    /// ```text
+    /// client.safe(rt)?;
+    /// let found = client.scan(rt, 0, 0, u64::MAX)?;
+    /// client.end(rt)?;
+    /// ```
     pub fn end<R: Wait>(&mut self, rt: &R) -> Result<(), Refusal>
         requires law { SameLaw S.law sound_law }
         requires client { IsClient S.stands S.seat S.own self.old }
         ensures on { GoesOn S.stands S.seat S.own S.ends T.told self.old self.new }
         ensures ok { OnOk result (IsAnswered self.old.transcript Command.Commit Answer.Ended self.new.transcript) }
         ensures err { IfErr result (λ why. IsUnended self.old.transcript why self.new.transcript) }
+        ensures rests { OnOk result (Rests S.seat S.own self.new) }
     {
         if self.has_no_snapshot() {
             return Err(Refusal::NoSnapshot);
@@ -287,19 +360,33 @@ impl<'a, S: SafeSession, T: Turns> Client<'a, S, T> {
         end_in(self.transcript.last())
     }
 
-    /// Gives the transaction up: nothing of it stays. A snapshot is over then, without a place in the serial order.
+    /// Gives the transaction up: nothing of it stays. A snapshot is over then, without a place in the serial order. Whatever it answers, nothing is in
+    /// progress behind it, unless memory ran out in the line itself: there is always room for its line.
+    ///
+    /// ```text
+    /// let Some(left) = own.checked_sub(amount) else {
+    ///     client.abort(rt)?;
+    ///     return Ok(false);
+    /// };
+    /// ```
     pub fn abort<R: Wait>(&mut self, rt: &R) -> Result<(), Refusal>
         requires law { SameLaw S.law sound_law }
         requires client { IsClient S.stands S.seat S.own self.old }
         ensures on { GoesOn S.stands S.seat S.own S.ends T.told self.old self.new }
         ensures ok { OnOk result (IsAnswered self.old.transcript Command.Abort Answer.Aborted self.new.transcript) }
         ensures err { IfErr result (λ why. IsRefused self.old.transcript Command.Abort why self.new.transcript) }
+        ensures rests { Rests S.seat S.own self.new }
     {
         self.ask(rt, Command::Abort)?;
         abort_in(self.transcript.last())
     }
 
     /// Waits until the session's last commit is on the disk: its stamp.
+    ///
+    /// ```text
+    /// client.commit(rt)?;
+    /// let stamp = client.durable(rt)?;
+    /// ```
     pub fn durable<R: Wait>(&mut self, rt: &R) -> Result<Stamp, Refusal>
         requires law { SameLaw S.law sound_law }
         requires client { IsClient S.stands S.seat S.own self.old }
@@ -313,6 +400,10 @@ impl<'a, S: SafeSession, T: Turns> Client<'a, S, T> {
 
     /// Closes the session behind its last line: its transaction is aborted where it is active. A session whose client was told to stop, or without
     /// memory, isn't closed; its transaction is given up. It comes back, and so do the transcript and what the client waited by.
+    ///
+    /// ```text
+    /// let Finished { session, transcript, .. } = client.close(rt);
+    /// ```
     pub fn close<R: Wait>(self, rt: &R) -> Finished<S, T>
         requires client { IsClient S.stands S.seat S.own self }
         ensures stands { S.stands self.entry.shared.now result.session }
@@ -320,6 +411,7 @@ impl<'a, S: SafeSession, T: Turns> Client<'a, S, T> {
         ensures transcript { result.transcript ≡ self.entry.transcript }
         ensures rests { phase_at (S.own result.session) (S.seat self.entry.session) ≡ Active → ⊥ }
         ensures did { FinishesWork (S.ends self.entry.session) (S.own self.entry.session) (S.ends result.session) (S.own result.session) result.transcript result.closed }
+        ensures starved { StarvesWork (S.ends self.entry.session) (S.own self.entry.session) (S.ends result.session) (S.own result.session) result.transcript result.closed }
         ensures waits { self.entry.transcript.standing ≡ Standing.Open → result.closed ≡ None → phase_at (S.own result.session) (S.seat self.entry.session) ≡ Sealed → T.told result.turns }
     {
         let Client {

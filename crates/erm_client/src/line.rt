@@ -1,11 +1,12 @@
 //! One line of a session, unless its client is told to stop before it; and its end.
-ghost use Rattle.std.specs.Prelude.{◌≡◌, IfNone, IfOk, IfSome, None};
+ghost use Rattle.std.specs.Prelude.{◌≡◌, IfErr, IfNone, IfOk, IfSome, None};
 ghost use Rattle.erm_beside.specs.Laws.{GoesOnward};
 ghost use Rattle.erm_model.specs.declared.outcome.Phase.TheVariants.{Active, Sealed};
 ghost use Rattle.erm_model.specs.RowTransaction.{SameLaw};
 ghost use Rattle.erm_node.specs.Sound.{sound_law};
 ghost use Rattle.erm_threads.specs.Work.{WasEnded};
 ghost use Rattle.erm_worker.specs.Work.{GaveUp, IsReady, MayBeAsked, RanLine};
+ghost use Rattle.erm_world.specs.Face.{Grows};
 ghost use Rattle.erm_world.specs.World.{View, phase_at};
 
 use erm_beside::{SafeSession, SharedSession};
@@ -30,7 +31,7 @@ pub fn give_up<S: SharedSession>(session: &mut S, shared: &S::Shared)
 }
 
 /// Runs a line as the session's worker does: its answer, or `None` where the client was told to stop, before it or while it waited. `Err` where
-/// memory ran out.
+/// memory ran out: then its transaction in progress may have gone on.
 pub fn run_next<S: SafeSession, T: Turns, R: Wait>(
     rt: &R,
     alloc: Global,
@@ -50,6 +51,7 @@ pub fn run_next<S: SafeSession, T: Turns, R: Wait>(
     ensures ran { IfOk result (λ answered. (f : View) → S.ends session.new f → RanLine f line.now answered (S.own session.old) (S.own session.new)) }
     ensures ready { IfOk result (λ answered. IfSome answered (λ _. IsReady (S.own session.new) (S.seat session.old) receipt.new)) }
     ensures told { IfOk result (λ answered. IfNone answered (T.told turns.new)) }
+    ensures grown { IfErr result (λ _. Grows ((S.own session.old).session (S.seat session.old)) ((S.own session.new).session (S.seat session.old))) }
 {
     if !turns.goes_on() {
         give_up(session, shared);

@@ -67,11 +67,11 @@ pub enum Refusal {
     /// The session has committed nothing that could be on the disk.
     #[error("the session has committed nothing")]
     NoReceipt,
-    /// The client was told to stop. It is asked no more; its transaction was given up, unless it is sealed. A snapshot stays as it was.
+    /// The client was told to stop, by what it waits by. It is asked no more; its transaction was given up, unless it is sealed. A snapshot stays as it was.
     #[error("the client was told to stop")]
     Stopped,
-    /// Memory ran out: for the line, which then wasn't asked; while it was run, and then the client is asked no more; or for what was found,
-    /// and then the transcript has it.
+    /// Memory ran out: for the line, which then wasn't asked; while it was run, and then the client is asked no more, and nothing of the line was done but that
+    /// the transaction in progress, which is given up, may have gone on; or for a copy of what a scan found, and then the transcript has it.
     #[error("memory ran out")]
     Memory,
 }

@@ -1,5 +1,5 @@
 //! What was asked of a session, and answered.
-ghost use Rattle.std.specs.Prelude.{◌≡◌, ◌∷◌, ◌++◌, ℕ, List, [], OnOk};
+ghost use Rattle.std.specs.Prelude.{◌≡◌, ◌∷◌, ◌++◌, ◌+◌, ◌-◌, ◌^◌, ℕ, List, [], IsOk, OnOk, min, vec_len};
 ghost use Rattle.erm_client.specs.Transcripts.{EndsWith, HasMore, HasRoom, IsNew, IsSame, Starves};
 ghost use Rattle.erm_report.specs.declared.answer.Answer.{Answer};
 
@@ -44,17 +44,20 @@ impl Transcript {
         }
     }
 
-    /// Makes room for one line more, and its answer.
-    pub fn make_room(&mut self) -> Result<(), AllocError>
+    /// Makes room for so many lines more, and their answers, where there isn't.
+    pub fn make_room(&mut self, many: usize) -> Result<(), AllocError>
         ensures same { IsSame self.old self.new }
-        ensures room { OnOk result (HasRoom self.new) }
+        ensures room { OnOk result (HasRoom many self.new) }
+        ensures there { HasRoom many self.old → IsOk result }
+        ensures kept { (spare : ℕ) → HasRoom spare self.old → HasRoom spare self.new }
     {
-        self.lines.reserve(1)?;
-        self.answers.reserve(1)
+        self.lines.reserve(many)?;
+        self.answers.reserve(many)
     }
 
-    /// The next line, with this command.
+    /// The next line, with this command: its number is its place, as far as numbers go.
     pub fn next_line(&self, command: Command) -> ScriptLine
+        ensures number { result.line ≡ min (vec_len self.now.lines + 1) (2 ^ 32 - 1) }
         ensures seat { result.session ≡ self.now.seat }
         ensures asked { result.command ≡ command }
     {
@@ -71,8 +74,9 @@ impl Transcript {
 
     /// Puts a line and its answer behind the others. There is room for them.
     pub fn add(&mut self, line: ScriptLine, answer: Answer)
-        requires room { HasRoom self.old }
+        requires room { HasRoom 1 self.old }
         ensures more { HasMore self.old line answer self.new }
+        ensures left { HasRoom 2 self.old → HasRoom 1 self.new }
     {
         let _ = self.lines.push(line);
         let _ = self.answers.push(answer);
@@ -80,7 +84,7 @@ impl Transcript {
 
     /// Puts a line behind the others, before whose answer the client was told to stop. There is room for it.
     pub fn stop(&mut self, line: ScriptLine)
-        requires room { HasRoom self.old }
+        requires room { HasRoom 1 self.old }
         ensures ends { EndsWith self.old line self.new }
     {
         let _ = self.lines.push(line);

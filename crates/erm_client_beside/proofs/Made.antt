@@ -8,6 +8,7 @@ use Rattle.erm_client.specs.Transcripts.{IsNew as IsUnasked}
 use Rattle.erm_client_beside.specs.Jobs.{IsJobOf}
 use Rattle.erm_engine.specs.Opened.{IsNew, opened_view}
 use Rattle.erm_model.proofs.Members.{none_in_nil}
+use Rattle.erm_model.specs.declared.outcome.Phase.TheVariants.{Idle}
 use Rattle.erm_model.specs.RowTransaction.{Law}
 use Rattle.erm_rule.specs.declared.rule.Table.{Table}
 use Rattle.erm_rule.specs.declared.view.Opening.{Opening}
@@ -15,7 +16,7 @@ use Rattle.erm_rule.specs.Openings.{start_of}
 use Rattle.erm_shared_session.specs.declared.session.TableSession.{TableSession}
 use Rattle.erm_shared_session.specs.Stands.{Stands, own_of, seat_of}
 use Rattle.erm_worker.specs.Work.{IsReady}
-use Rattle.erm_world.specs.World.{View}
+use Rattle.erm_world.specs.World.{View, phase_at}
 
 -- it is ready for its first line
 none_begun : (o : Opening) (seat : ℕ) → IsReady (opened_view (start_of o)) seat None
@@ -23,6 +24,10 @@ none_begun o seat = record { run = λ active. absurd (cc); receipt = λ f in_non
 
 pub opened_ready : (o : Opening) (seat : ℕ) (v : View) → v ≡ opened_view (start_of o) → IsReady v seat None
 opened_ready o seat v is = subst (λ (w : View). IsReady w seat None) (sym is) (none_begun o seat)
+
+-- and idle
+pub opened_idle : (o : Opening) (seat : ℕ) (v : View) → v ≡ opened_view (start_of o) → phase_at v seat ≡ Idle
+opened_idle o seat v is = ap (λ (w : View). phase_at w seat) is
 
 -- what comes next stands behind those that came
 pub comes_at : {X : Type 0} (gone left rest all : List X) (x : X) → gone ++ left ≡ all → left ≡ x ∷ rest → slice_get all (length gone) ≡ Some x

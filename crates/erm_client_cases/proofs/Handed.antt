@@ -8,12 +8,13 @@ use Rattle.erm_client.specs.Transcripts.{IsNew}
 use Rattle.erm_engine.specs.Opened.{opened_view}
 use Rattle.erm_good_report.specs.Transactions.{progress_of, said_of}
 use Rattle.erm_model.proofs.Members.{none_in_nil}
+use Rattle.erm_model.specs.declared.outcome.Phase.TheVariants.{Idle}
 use Rattle.erm_model.specs.Run.{Step}
 use Rattle.erm_rule.specs.declared.view.Opening.{Opening}
 use Rattle.erm_rule.specs.Openings.{start_of}
 use Rattle.erm_script.specs.declared.script.ScriptLine.{ScriptLine}
 use Rattle.erm_worker.specs.Work.{IsReady}
-use Rattle.erm_world.specs.World.{View}
+use Rattle.erm_world.specs.World.{View, phase_at}
 
 opened_ready : (o : Opening) (seat : ℕ) → IsReady (opened_view (start_of o)) seat None
 opened_ready o seat = record { run = λ active. absurd (cc); receipt = λ f in_none committed. none_in_nil f in_none }
@@ -21,6 +22,10 @@ opened_ready o seat = record { run = λ active. absurd (cc); receipt = λ f in_n
 -- a session that was just handed out is ready for its first line
 pub new_ready : (o : Opening) (seat : ℕ) (v : View) → v ≡ opened_view (start_of o) → IsReady v seat None
 new_ready o seat v is = subst (λ (w : View). IsReady w seat None) (sym is) (opened_ready o seat)
+
+-- and idle
+pub new_idle : (o : Opening) (seat : ℕ) (v : View) → v ≡ opened_view (start_of o) → phase_at v seat ≡ Idle
+new_idle o seat v is = ap (λ (w : View). phase_at w seat) is
 
 -- of a client that was asked nothing no transaction committed
 pub none_committed : (Kind : List Step → Type 0) (seat : ℕ) (c : Transcript) → IsNew seat c → AllCommitted Kind c

@@ -19,11 +19,6 @@ use std::sync::Wait;
 // What is kept of an account whose balance is zero: 2 ^ 63 is added to each balance.
 const ZERO: u64 = 1 << 63;
 
-// The total of two and of four accounts with nothing in them: 2 ^ 63 is added for each.
-const TWO: u128 = 2 << 63;
-
-const FOUR: u128 = 4 << 63;
-
 // A deposit to the account that the other client reads.
 const DEPOSIT: Task = Task::Deposit {
     holder: Holder {
@@ -38,8 +33,8 @@ const DEPOSIT: Task = Task::Deposit {
 enum Ask {
     // A call of the first client.
     Call(calls::Ask),
-    // A task of the second one, the teller.
-    Serve(Task),
+    // A task of the second one, the teller, in so many tries.
+    Serve(Task, u32),
     // The teller's session begins a snapshot, and doesn't wait.
     Begin,
     // The total that the teller's audit shows of customers with numbers from the first to the second one, in so many tries.
@@ -67,7 +62,7 @@ const CALLED: Told = Told::Called(Some(calls::Told::Done));
 const NONE: Told = Told::Called(Some(calls::Told::Value(None)));
 
 // Customer 7 has 100, of which 60 are moved to customer 8. Audits beside the transfer, before it has written, between both writes and before its commit, are
-// not refused, and show what each had before; and so do others behind it what each has then.
+// not refused, and show what each had before; and so do others behind it what each has then, and all customers.
 const BESIDE: [Step; 18] = [
     (Ask::Call(calls::Ask::Begin), CALLED),
     (Ask::Call(calls::Ask::Put(0, 7, ZERO + 100)), CALLED),
@@ -79,17 +74,17 @@ const BESIDE: [Step; 18] = [
     ),
     (Ask::Call(calls::Ask::Get(1, 7)), NONE),
     (Ask::Call(calls::Ask::Get(1, 8)), NONE),
-    (Ask::Audit(7, 8, 1), Told::Shown(Some(FOUR + 100))),
+    (Ask::Audit(7, 8, 1), Told::Shown(Some(100))),
     (Ask::Call(calls::Ask::Put(0, 7, ZERO + 40)), CALLED),
-    (Ask::Audit(7, 8, 1), Told::Shown(Some(FOUR + 100))),
-    (Ask::Audit(7, 7, 1), Told::Shown(Some(TWO + 100))),
+    (Ask::Audit(7, 8, 1), Told::Shown(Some(100))),
+    (Ask::Audit(7, 7, 1), Told::Shown(Some(100))),
     (Ask::Call(calls::Ask::Put(1, 8, ZERO + 60)), CALLED),
-    (Ask::Audit(7, 8, 1), Told::Shown(Some(FOUR + 100))),
-    (Ask::Audit(8, 8, 1), Told::Shown(Some(TWO))),
+    (Ask::Audit(7, 8, 1), Told::Shown(Some(100))),
+    (Ask::Audit(8, 8, 1), Told::Shown(Some(0))),
     (Ask::Call(calls::Ask::Commit), CALLED),
-    (Ask::Audit(7, 8, 1), Told::Shown(Some(FOUR + 100))),
-    (Ask::Audit(7, 7, 1), Told::Shown(Some(TWO + 40))),
-    (Ask::Audit(8, 8, 1), Told::Shown(Some(TWO + 60))),
+    (Ask::Audit(0, u64::MAX, 1), Told::Shown(Some(100))),
+    (Ask::Audit(7, 7, 1), Told::Shown(Some(40))),
+    (Ask::Audit(8, 8, 1), Told::Shown(Some(60))),
 ];
 
 // The first client's transaction reads an account that the teller then raises, and commits behind the begin of the teller's snapshot: it has its turn before
@@ -97,26 +92,42 @@ const BESIDE: [Step; 18] = [
 const WENT_BACK: [Step; 15] = [
     (Ask::Call(calls::Ask::Begin), CALLED),
     (Ask::Call(calls::Ask::Get(0, 7)), NONE),
-    (Ask::Serve(DEPOSIT), Told::Served(Some(Outcome::Done))),
+    (Ask::Serve(DEPOSIT, 1), Told::Served(Some(Outcome::Done))),
     (Ask::Begin, Told::Began),
     (Ask::Call(calls::Ask::Put(1, 8, ZERO + 5)), CALLED),
     (Ask::Call(calls::Ask::Commit), CALLED),
     (Ask::Audit(7, 8, 1), Told::Unsafe(1)),
-    (Ask::Audit(7, 8, 1), Told::Shown(Some(FOUR + 105))),
+    (Ask::Audit(7, 8, 1), Told::Shown(Some(105))),
     (Ask::Call(calls::Ask::Begin), CALLED),
     (
         Ask::Call(calls::Ask::Get(0, 7)),
         Told::Called(Some(calls::Told::Value(Some(ZERO + 100)))),
     ),
-    (Ask::Serve(DEPOSIT), Told::Served(Some(Outcome::Done))),
+    (Ask::Serve(DEPOSIT, 1), Told::Served(Some(Outcome::Done))),
     (Ask::Begin, Told::Began),
     (Ask::Call(calls::Ask::Put(1, 8, ZERO + 6)), CALLED),
     (Ask::Call(calls::Ask::Commit), CALLED),
-    (Ask::Audit(7, 8, 2), Told::Shown(Some(FOUR + 206))),
+    (Ask::Audit(7, 8, 2), Told::Shown(Some(206))),
 ];
 
-// What the steps show, the steps, and how both clients end. An audit has four lines, and one that isn't safe two.
-const CASES: [(&str, &[Step], [End; 2]); 2] = [
+// The first client has written the account to which the teller deposits: that is tried three times in vain, and done once the first one has committed. Then
+// the customer owes more than he has, and an audit has no total.
+const OWNED: [Step; 10] = [
+    (Ask::Call(calls::Ask::Begin), CALLED),
+    (Ask::Call(calls::Ask::Put(0, 7, ZERO + 5)), CALLED),
+    (Ask::Serve(DEPOSIT, 3), Told::Served(None)),
+    (Ask::Call(calls::Ask::Commit), CALLED),
+    (Ask::Serve(DEPOSIT, 3), Told::Served(Some(Outcome::Done))),
+    (Ask::Audit(0, u64::MAX, 1), Told::Shown(Some(105))),
+    (Ask::Call(calls::Ask::Begin), CALLED),
+    (Ask::Call(calls::Ask::Put(1, 7, ZERO - 106)), CALLED),
+    (Ask::Call(calls::Ask::Commit), CALLED),
+    (Ask::Audit(7, 7, 1), Told::Shown(None)),
+];
+
+// What the steps show, the steps, and how both clients end. An audit has four lines, and one that isn't safe two; a deposit that is tried in vain has four,
+// with its abort.
+const CASES: [(&str, &[Step], [End; 2]); 3] = [
     (
         "audits beside a transfer aren't refused, and show what was before it",
         &BESIDE,
@@ -127,9 +138,14 @@ const CASES: [(&str, &[Step], [End; 2]); 2] = [
         &WENT_BACK,
         [End::Closed(8, 8), End::Closed(20, 20)],
     ),
+    (
+        "a teller tries as often as it is told where another one is in its way",
+        &OWNED,
+        [End::Closed(6, 6), End::Closed(24, 24)],
+    ),
 ];
 
-// Begins a snapshot of the teller's session, which is idle, as a call that waits would, and doesn't wait.
+// Begins a snapshot of the teller's session, which is idle, as a call that waits would, and doesn't wait. There is room for the line that gives it up.
 fn begin_alone<'a>(client: &mut TableClient<'a>) -> Told
     requires client { IsClient (λ x s. Stands sound_law x s) seat_of own_of client.old }
     requires kept { AllCommitted IsOfTellers client.old.transcript }
@@ -139,6 +155,9 @@ fn begin_alone<'a>(client: &mut TableClient<'a>) -> Told
     let Phase::Idle = client.session.phase(client.shared) else {
         return Told::Refused;
     };
+    if client.transcript.make_room(1).is_err() {
+        return Told::Refused;
+    }
     match client.session.begin_safe(client.shared) {
         Ok(_) => Told::Began,
         Err(_) => Told::Refused,
@@ -153,7 +172,7 @@ fn show<'a, R: Wait>(rt: &R, client: &mut TableClient<'a>, low: u64, high: u64, 
     ensures kept { AllCommitted IsOfTellers client.new.transcript }
 {
     match audit(rt, client, low, high, tries) {
-        Ok(found) => Told::Shown(total_of(low, high, &found.0, &found.1)),
+        Ok(found) => Told::Shown(total_of(&found.0, &found.1)),
         Err(Refusal::Unsafe { seat, .. }) => Told::Unsafe(seat),
         Err(_) => Told::Refused,
     }
@@ -175,7 +194,7 @@ fn answer<'a, R: Wait>(
 {
     match asked {
         Ask::Call(ask) => Told::Called(call(rt, first, ask)),
-        Ask::Serve(task) => Told::Served(serve(rt, teller, task, 1).ok()),
+        Ask::Serve(task, tries) => Told::Served(serve(rt, teller, task, tries).ok()),
         Ask::Begin => begin_alone(teller),
         Ask::Audit(low, high, tries) => show(rt, teller, low, high, tries),
     }

@@ -43,8 +43,8 @@ const TRANSFER: Task = Task::Transfer {
     amount: 60,
 };
 
-// The total of four accounts with 100 in all: 2 ^ 63 is added for each.
-const HUNDRED: u128 = (4 << 63) + 100;
+// What both customers hold in all.
+const HUNDRED: u128 = 100;
 
 // What a teller is asked.
 #[derive(Clone, Copy)]
@@ -90,7 +90,7 @@ fn shown<'a, R: Wait>(rt: &R, client: &mut TableClient<'a>) -> Option<u128>
     ensures kept { AllCommitted IsOfTellers client.new.transcript }
 {
     let found = audit(rt, client, 7, 8, 1).ok()?;
-    total_of(7, 8, &found.0, &found.1)
+    total_of(&found.0, &found.1)
 }
 
 // The same in a transaction.
@@ -101,7 +101,7 @@ fn tracked<'a, R: Wait>(rt: &R, client: &mut TableClient<'a>) -> Option<u128>
     ensures kept { AllCommitted IsOfTellers client.new.transcript }
 {
     let found = audit_in_transaction(rt, client, 7, 8).ok()?;
-    total_of(7, 8, &found.0, &found.1)
+    total_of(&found.0, &found.1)
 }
 
 // What a teller is answered.

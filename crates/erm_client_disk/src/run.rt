@@ -97,10 +97,23 @@ fn run_opened_log<
 /// does the disk.
 ///
 /// Each program keeps its promise. A crash at any moment leaves the commits below one stamp that the transcripts tell: all that a client was told to be on
-/// the disk, once it has been told, and all at the end, where the disk hasn't failed and memory sufficed each. Where the disk fails the clients are told to
-/// stop. Where memory runs out for a client within a line that client is asked no more, the others go on, and what a crash leaves of this run is not told.
+/// the disk, once it has been told, and all at the end, where the disk hasn't failed and memory sufficed each. Only where the disk fails, or memory runs out
+/// for one of them, may clients have been told to stop. Where memory runs out for a client within a line that client is asked no more, and what a crash
+/// leaves of this run is not told; nor is it where they have 2 ^ 32 lines or more in all.
 ///
 /// It waits for the programs: its clauses are of what it returns, if it returns.
+///
+/// ```text
+/// let ProgramsOnDisk { disk, ended } = run_programs_on_disk(rt, alloc, disk, &gate, programs);
+/// let ran = match ended {
+///     Ok(ran) => ran,
+///     Err(ProgramsStop::Unopened(stop, programs)) => return Err(stopped(stop, programs)),
+///     Err(ProgramsStop::Memory(programs)) => return Err(lacked(programs)),
+/// };
+/// for run in ran.programs.as_slice() {
+///     count(&run.program, &run.transcript);
+/// }
+/// ```
 pub fn run_programs_on_disk<
     D: Disk + Drop + Send,
     G: Gate + Sync,

@@ -139,8 +139,9 @@ fn limits_are_kept(rt: HostRuntime) -> Result<(), AllocError> {
 // A session stays active from before all commits, so that nothing is cut.
 const OLD: [Turn; 1] = [Turn(2, Call::Begin, Reply::At(13))];
 
-// All cells are drawn. A transaction that wants one more is refused, and goes on.
-const DRAWN: [Turn; 4] = [
+// All cells are drawn. A transaction that wants one more is refused, and goes on; once the old session is over, what only that
+// could read is cut off, and the claim finds a cell.
+const DRAWN: [Turn; 8] = [
     Turn(1, Call::Begin, Reply::At(344_077)),
     Turn(
         1,
@@ -148,7 +149,15 @@ const DRAWN: [Turn; 4] = [
         Reply::Stopped(RowStop::CellsFull { drawn: 65_536 }),
     ),
     Turn(1, Call::Read(0), Reply::First(1)),
-    Turn(1, Call::Abort, Reply::Done),
+    Turn(2, Call::Abort, Reply::Done),
+    Turn(1, Call::Write(0, 2), Reply::Done),
+    Turn(1, Call::Read(0), Reply::First(2)),
+    Turn(1, Call::Seal, Reply::At(344_077)),
+    Turn(
+        1,
+        Call::Settle,
+        Reply::Commits([49_153, 344_077, 344_084, 344_077, 229_389]),
+    ),
 ];
 
 const CELLS: [Case; 1] = [(

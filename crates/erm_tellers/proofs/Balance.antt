@@ -3,7 +3,7 @@ use Rattle.std.proofs.Common.{◌≡◌, ℕ, ◌+◌, List, [], ◌∷◌, ◌+
 use Rattle.std.specs.FinMap.{insert}
 use Rattle.erm_accounts.proofs.Totals.{total_lowered, total_raised, within-inside}
 use Rattle.erm_accounts.specs.Accounts.{kept, raised, table_of}
-use Rattle.erm_accounts.specs.Totals.{AuditsLeaveTotals, DepositsRaiseTotals, WithdrawalsLowerTotals, total, within}
+use Rattle.erm_accounts.specs.Totals.{AuditsLeaveTotals, DepositsRaiseTotals, HoldInAll, WithdrawalsLowerTotals, total, within}
 use Rattle.erm_invariant.specs.Commits.{transactions_in}
 use Rattle.erm_invariant.specs.Invariant.{Keeps}
 use Rattle.erm_model.proofs.Keys.{value_at-insert_other}
@@ -48,7 +48,7 @@ all_move moves (x ∷ xs) rest are m n run low high =
     omega (arith, one, others)
 
 -- TRANSFERS among these customers, and audits
-pub among_keep : TransactionsMoveTotals → (low high n : ℕ) (steps : List Step) → MovesAmong low high steps → Keeps (λ (m : Database). total m low high ≡ n) steps
+pub among_keep : TransactionsMoveTotals → (low high n : ℕ) (steps : List Step) → MovesAmong low high steps → Keeps (λ (m : Database). HoldInAll m low high n) steps
 among_keep moves low high n steps (inl among) m holds run =
     let moved = moves steps (inr among.is) m run low high in
     let payer = within-inside low high among.is.payer among.is.amount among.payer_above among.payer_below in

@@ -1,10 +1,11 @@
 -- What a client's calls say of the transaction in progress, and of the stretch of its transcript.
-use Rattle.std.proofs.Common.{◌≡◌, ℕ, List, [], ◌∷◌, ◌++◌, Option, Some, None, Result, Ok, Err, IfErr, IfOk, OnOk, refl, sym, ap, ◌∙◌, subst}
+use Rattle.std.proofs.Common.{◌≡◌, ℕ, ◌+◌, List, [], ◌∷◌, ◌++◌, Option, Some, None, Result, Ok, Err, IfErr, IfOk, OnOk, refl, sym, ap, ◌∙◌, subst}
 use Rattle.std.specs.Option.{option_map, option_to_list}
 use Rattle.erm_accounts.specs.Accounts.{Account, reads, table_of, writes}
 use Rattle.erm_client.proofs.Dealt.{at_begun, at_replied, dealt_answered, safe_begun, safe_replied}
-use Rattle.erm_client.proofs.Stretched.{never_ends, refused_now, went_answered, went_committed, went_ended, went_refused, went_unended}
-use Rattle.erm_client.specs.Dealings.{HasNone, IsAt, IsSafeAt, begins_by, dealings_of}
+use Rattle.erm_client.proofs.Stretched.{begins_answered, never_ends, refused_now, went_answered, went_committed, went_ended, went_refused, went_unended}
+use Rattle.erm_client.proofs.Telling.{answers_refuse}
+use Rattle.erm_client.specs.Dealings.{HasNone, IsAt, IsSafeAt, begins_by, begins_in, dealings_of}
 use Rattle.erm_client.specs.declared.refusal.Refusal.{Refusal}
 use Rattle.erm_client.specs.declared.replies.Commit.{Commit}
 use Rattle.erm_client.specs.declared.transcript.Transcript.{Transcript}
@@ -22,6 +23,7 @@ use Rattle.erm_script.specs.declared.script.Command.{Command}
 use Rattle.erm_script.specs.declared.script.Command.TheVariants as command
 use Rattle.erm_tellers.specs.Served as served
 use Rattle.erm_tellers.specs.Tellers.{CommittedAt, finds}
+use Rattle.erm_tellers.specs.Tries.{Begun, GaveUp}
 
 -- an answer that tells neither a commit nor that a snapshot has ended
 abbrev pub IsPlain : Answer → Type 0
@@ -50,6 +52,24 @@ module _ (c d : Transcript) (ok : IsTranscript c) where
   pub refused_by : {Y : Type 0} (asked : Command) (result : Result Y Refusal) → IfErr result (λ why. IsRefused c asked why d) → IfErr result (λ why. WasRefused why c d)
   refused_by asked (Ok y) refused = tt
   refused_by asked (Err why) refused = refused_now c d ok asked why refused
+
+  -- a begin that was answered was asked once, and so was one that was refused by an answer
+  pub begun_by : {Y : Type 0} (P : Y → Answer) (asked : Command) (result : Result Y Refusal) → ((y : Y) → IsPlain (P y)) → begins_by asked ≡ 1
+      → IfOk result (λ y. IsAnswered c asked (P y) d) → OnOk result (Begun c d)
+  begun_by P asked (Ok y) plain one answered = record {
+    went = subst (λ (n : ℕ). Went n [] [] c d) one (went_answered c d ok asked (P y) (plain_commit (P y) (plain y)) (plain_end c (P y) (plain y)) answered);
+    once = begins_answered c d asked (P y) answered ∙ ap (λ (n : ℕ). begins_in c + n) one;
+  }
+  begun_by P asked (Err why) plain one answered = tt
+
+  pub gave_by : {Y : Type 0} (asked : Command) (result : Result Y Refusal) → (MayTell asked answer.Ended → ⊥) → begins_by asked ≡ 1
+      → IfErr result (λ why. IsRefused c asked why d) → IfErr result (λ why. GaveUp why c d)
+  gave_by asked (Ok y) never one refused = tt
+  gave_by asked (Err why) never one refused = record {
+    refused = refused_now c d ok asked why refused;
+    went = subst (λ (n : ℕ). Went n [] [] c d) one (went_refused c d ok asked why (never_ends c asked why never) refused);
+    begun = λ by. let it = answers_refuse c d asked why by refused in begins_answered c d asked it.0 it.1 ∙ ap (λ (n : ℕ). begins_in c + n) one;
+  }
 
   -- a commit that is refused in a transaction
   pub undone_by : {Y : Type 0} (result : Result Y Refusal) → IfErr result (λ why. IsRefused c command.Commit why d) → IfErr result (λ _. (steps : List Step) → IsAt c steps → Went 0 [] [] c d)

@@ -1,8 +1,8 @@
--- A transfer leaves customers solvent.
+-- A transfer leaves customers solvent, and accounts readable.
 use Rattle.std.proofs.Common.{◌≡◌, ◌≢◌, ℕ, ◌+◌, ◌≤◌, ◌^◌, List, Option, Some, None, sym, ap, subst, ⊎_elim, arith}
 use Rattle.std.specs.FinMap.{insert}
-use Rattle.erm_accounts.proofs.Solvent.{stay_solvent}
-use Rattle.erm_accounts.specs.Accounts.{Account, AreSolvent, Current, IsOfBank, Savings, beside, kept, raised, table_of}
+use Rattle.erm_accounts.proofs.Solvent.{stay_readable, stay_solvent}
+use Rattle.erm_accounts.specs.Accounts.{Account, AreReadable, AreSolvent, Current, IsOfBank, Savings, beside, kept, raised, table_of}
 use Rattle.erm_invariant.specs.Invariant.{Keeps}
 use Rattle.erm_model.proofs.Keys.{value_at-insert_other}
 use Rattle.erm_model.specs.Database.{Database, at}
@@ -45,3 +45,12 @@ transfers steps is m solvent run =
 
 pub keep_solvency : ((steps : List Step) → IsOfBank steps → Keeps AreSolvent steps) → (steps : List Step) → IsOfTellers steps → Keeps AreSolvent steps
 keep_solvency of_bank steps kind = ⊎_elim (λ (is : IsOfBank steps). of_bank steps is) (λ (is : IsTransfer steps). transfers steps is) kind
+
+transfers_readable : (steps : List Step) → IsTransfer steps → Keeps AreReadable steps
+transfers_readable steps is m readable run =
+    let between = insert m (at (table_of is.account) is.payer) is.left in
+    subst (λ done. AreReadable (after_all (ops_of done) m)) (sym is.steps_are)
+    (stay_readable between is.to is.payee is.more (stay_readable m is.account is.payer is.left readable is.readable.0) is.readable.1)
+
+pub keep_readable : ((steps : List Step) → IsOfBank steps → Keeps AreReadable steps) → (steps : List Step) → IsOfTellers steps → Keeps AreReadable steps
+keep_readable of_bank steps kind = ⊎_elim (λ (is : IsOfBank steps). of_bank steps is) (λ (is : IsTransfer steps). transfers_readable steps is) kind

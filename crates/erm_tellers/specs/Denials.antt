@@ -1,7 +1,7 @@
 -- When what is kept of accounts doesn't allow an amount to be taken, or added, and when it has no total.
-use Rattle.std.specs.Prelude.{◌≢◌, ℕ, ◌+◌, ◌<◌, ◌≤◌, ◌^◌, ◌⊎◌, List, length, Option, Some, None}
+use Rattle.std.specs.Prelude.{◌≢◌, ℕ, ◌+◌, ◌*◌, ◌<◌, ◌≤◌, ◌^◌, ◌⊎◌, List, length, Option, Some, None}
 use Rattle.erm_accounts.specs.Accounts.{raised}
-use Rattle.erm_accounts.specs.Totals.{IsFoundTotal, many}
+use Rattle.erm_accounts.specs.Totals.{sum_found}
 use Rattle.erm_model.specs.Member.{◌∈◌}
 
 -- no balance is kept there, but something else than eight bytes
@@ -21,8 +21,6 @@ MayNotAdd amount own = IsUnreadable own ⊎ (2 ^ 64 ≤ raised own + amount)
 abbrev pub AreUnreadable : List (ℕ × List ℕ) → Type 0
 AreUnreadable found = (pair : ℕ × List ℕ) × (pair ∈ found) × IsUnreadable (Some pair.1)
 
--- What was found of customers from low to high has no total: some of it is no balance, there is more of it than there are customers (which no scan finds),
--- or the total is 2 ^ 128 or above.
-abbrev pub HasNoTotal : ℕ → ℕ → List (ℕ × List ℕ) → List (ℕ × List ℕ) → Type 0
-HasNoTotal low high current savings = AreUnreadable current ⊎ AreUnreadable savings ⊎ (many low high < length current) ⊎ (many low high < length savings)
-    ⊎ ((found : ℕ) → IsFoundTotal low high current savings found → 2 ^ 128 ≤ found)
+-- What was found of customers has no total: some of it is no balance, or they owe more than they have.
+abbrev pub HasNoTotal : List (ℕ × List ℕ) → List (ℕ × List ℕ) → Type 0
+HasNoTotal current savings = AreUnreadable current ⊎ AreUnreadable savings ⊎ (sum_found current + sum_found savings < 2 ^ 63 * (length current + length savings))

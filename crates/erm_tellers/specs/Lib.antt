@@ -3,3 +3,4 @@ pub mod Laws
 pub mod Moves
 pub mod Served
 pub mod Tellers
+pub mod Tries

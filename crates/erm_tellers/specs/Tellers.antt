@@ -1,6 +1,6 @@
 -- What tellers do: the bank's transactions, as a program issues them.
 use Rattle.std.specs.Prelude.{◌≡◌, ◌≢◌, ℕ, ◌+◌, ◌≤◌, ◌^◌, ◌⊎◌, List, [], ◌∷◌, ◌++◌, Option, Some}
-use Rattle.erm_accounts.specs.Accounts.{Account, Current, IsDeposit, IsOfBank, IsWithdrawal, Savings, beside, raised, reads, table_of, writes}
+use Rattle.erm_accounts.specs.Accounts.{Account, Current, IsBalance, IsDeposit, IsOfBank, IsWithdrawal, Savings, beside, raised, reads, table_of, writes}
 use Rattle.erm_client.specs.Dealings.{dealings_of}
 use Rattle.erm_client.specs.declared.transcript.Transcript.{Transcript}
 use Rattle.erm_good_report.specs.Transactions.{Commits, Transaction, steps_of}
@@ -40,6 +40,7 @@ pub record IsTransfer (steps : List Step) : Type 0 where
   pub covered : 2 ^ 64 + amount ≤ raised own + raised other
   pub lowered : raised (Some left) + amount ≡ raised own
   pub raised_by : raised (Some more) ≡ raised there + amount
+  pub readable : IsBalance (Some left) × IsBalance (Some more)
 
 -- what the tellers' transactions do
 abbrev pub IsOfTellers : List Step → Type 0

@@ -1,11 +1,12 @@
 //! Audits: what is kept of customers, as of one state.
-ghost use Rattle.std.specs.Prelude.{◌≡◌, IfOk, IsErr, max, true};
-ghost use Rattle.erm_client.specs.Clients.{GoesOn, IsClient};
+ghost use Rattle.std.specs.Prelude.{◌≡◌, IfOk, IsErrAnd, OnOk, false, max, true};
+ghost use Rattle.erm_client.specs.Clients.{GoesOn, IsClient, Rests};
 ghost use Rattle.erm_client.specs.Dealings.{AllCommitted};
 ghost use Rattle.erm_model.specs.RowTransaction.{SameLaw};
 ghost use Rattle.erm_node.specs.Sound.{sound_law};
-ghost use Rattle.erm_tellers.specs.Served.{Audited, AuditedInTransaction};
+ghost use Rattle.erm_tellers.specs.Served.{Audited, AuditedInTransaction, AuditedOnce};
 ghost use Rattle.erm_tellers.specs.Tellers.{Audits, IsOfTellers, WasDone};
+ghost use Rattle.erm_tellers.specs.Tries.{IsUnsafe};
 
 use crate::Side;
 use crate::dealing::{begin, begin_snapshot, commit, end_snapshot, find, give_up};
@@ -17,7 +18,8 @@ use std::sync::Wait;
 
 // Whether it may go otherwise when it is tried again: the snapshot wasn't known to be safe.
 fn is_unsafe(found: &Result<(Pairs, Pairs), Refusal>) -> bool
-    ensures { result ≡ true → IsErr found.now }
+    ensures passing { result ≡ true → IsErrAnd found.now IsUnsafe }
+    ensures other { result ≡ false → IsErrAnd found.now IsUnsafe → ⊥ }
 {
     matches!(found, Err(Refusal::Unsafe { .. }))
 }
@@ -32,7 +34,8 @@ fn look<'a, S: SafeSession, T: Turns, R: Wait>(
     requires law { SameLaw S.law sound_law }
     requires client { IsClient S.stands S.seat S.own client.old }
     ensures on { GoesOn S.stands S.seat S.own S.ends T.told client.old client.new }
-    ensures ended { Audited low high 1 result client.old.transcript client.new.transcript }
+    ensures ended { AuditedOnce low high result client.old.transcript client.new.transcript }
+    ensures rests { OnOk result (Rests S.seat S.own client.new) }
 {
     begin_snapshot(rt, client)?;
     let current = find(rt, client, Side::Current, low, high)?;
@@ -51,7 +54,8 @@ fn look_once<'a, S: SafeSession, T: Turns, R: Wait>(
     requires law { SameLaw S.law sound_law }
     requires client { IsClient S.stands S.seat S.own client.old }
     ensures on { GoesOn S.stands S.seat S.own S.ends T.told client.old client.new }
-    ensures ended { Audited low high 1 result client.old.transcript client.new.transcript }
+    ensures ended { AuditedOnce low high result client.old.transcript client.new.transcript }
+    ensures rests { Rests S.seat S.own client.new }
 {
     match look(rt, client, low, high) {
         Ok(both) => Ok(both),
@@ -64,7 +68,12 @@ fn look_once<'a, S: SafeSession, T: Turns, R: Wait>(
 
 /// Audits the customers with numbers from `low` to `high`, these two too: what is kept of the current accounts and of the savings, by customer, all as of
 /// one state of the serial order. It reads them in a snapshot, so that nothing that it reads is refused, nor anything of others for it. Where the snapshot
-/// isn't safe it is tried again, so often in all, and once at least.
+/// isn't safe it is tried again, so often in all, and once at least: what is given up because of that was tried as often as that. Whatever it answers, it
+/// leaves nothing in progress, unless memory ran out within a line.
+///
+/// ```text
+/// let (current, savings) = audit(rt, client, 1, 1_000, 3)?;
+/// ```
 pub fn audit<'a, S: SafeSession, T: Turns, R: Wait>(
     rt: &R,
     client: &mut Client<'a, S, T>,
@@ -78,6 +87,7 @@ pub fn audit<'a, S: SafeSession, T: Turns, R: Wait>(
     ensures on { GoesOn S.stands S.seat S.own S.ends T.told client.old client.new }
     ensures kept { AllCommitted IsOfTellers client.new.transcript }
     ensures ended { Audited low high (max tries 1) result client.old.transcript client.new.transcript }
+    ensures rests { Rests S.seat S.own client.new }
 {
     let mut found = look_once(rt, client, low, high);
     'tries: for _tried in 1..tries {
@@ -100,6 +110,7 @@ fn track<'a, S: SafeSession, T: Turns, R: Wait>(
     requires client { IsClient S.stands S.seat S.own client.old }
     ensures on { GoesOn S.stands S.seat S.own S.ends T.told client.old client.new }
     ensures ended { AuditedInTransaction low high result client.old.transcript client.new.transcript }
+    ensures rests { OnOk result (Rests S.seat S.own client.new) }
 {
     begin(rt, client)?;
     let current = find(rt, client, Side::Current, low, high)?;
@@ -109,7 +120,11 @@ fn track<'a, S: SafeSession, T: Turns, R: Wait>(
 }
 
 /// The same audit in a transaction. It sees what had committed by its begin without a wait, but what it reads is counted, so that it may be excluded, and
-/// others for it; and it reads some hundreds of accounts at most.
+/// others for it; and it reads some hundreds of accounts at most. It is tried once, and leaves nothing in progress, as above.
+///
+/// ```text
+/// let (current, savings) = audit_in_transaction(rt, client, 1, 100)?;
+/// ```
 pub fn audit_in_transaction<'a, S: SafeSession, T: Turns, R: Wait>(
     rt: &R,
     client: &mut Client<'a, S, T>,
@@ -123,6 +138,7 @@ pub fn audit_in_transaction<'a, S: SafeSession, T: Turns, R: Wait>(
     ensures kept { AllCommitted IsOfTellers client.new.transcript }
     ensures ended { AuditedInTransaction low high result client.old.transcript client.new.transcript }
     ensures done { IfOk result (λ both. WasDone (Audits low high both.0 both.1) client.new.transcript) }
+    ensures rests { Rests S.seat S.own client.new }
 {
     match track(rt, client, low, high) {
         Ok(both) => Ok(both),

@@ -1,7 +1,7 @@
 //! A client's calls, with what they say of the transaction or snapshot in progress, and of the stretch of its transcript.
 ghost use Rattle.std.specs.Prelude.{ℕ, ◌++◌, ◌∷◌, [], List, IfErr, IfOk, OnOk};
 ghost use Rattle.erm_accounts.specs.Accounts.{reads, writes};
-ghost use Rattle.erm_client.specs.Clients.{GoesOn, IsClient};
+ghost use Rattle.erm_client.specs.Clients.{GoesOn, IsClient, Rests};
 ghost use Rattle.erm_client.specs.Dealings.{IsAt, IsSafeAt};
 ghost use Rattle.erm_client.specs.Stretches.{WasRefused, Went};
 ghost use Rattle.erm_model.specs.RowTransaction.{SameLaw};
@@ -9,6 +9,7 @@ ghost use Rattle.erm_model.specs.Run.{Step};
 ghost use Rattle.erm_node.specs.Sound.{sound_law};
 ghost use Rattle.erm_tellers.specs.Served.{Commits, Ends};
 ghost use Rattle.erm_tellers.specs.Tellers.{account_of, finds};
+ghost use Rattle.erm_tellers.specs.Tries.{Begun, GaveUp};
 
 use crate::Side;
 use erm_beside::SafeSession;
@@ -25,9 +26,9 @@ pub fn begin<'a, S: SafeSession, T: Turns, R: Wait>(
     requires law { SameLaw S.law sound_law }
     requires client { IsClient S.stands S.seat S.own client.old }
     ensures on { GoesOn S.stands S.seat S.own S.ends T.told client.old client.new }
-    ensures went { Went 1 [] [] client.old.transcript client.new.transcript }
+    ensures begun { OnOk result (Begun client.old.transcript client.new.transcript) }
     ensures at { OnOk result (IsAt client.new.transcript []) }
-    ensures err { IfErr result (λ why. WasRefused why client.old.transcript client.new.transcript) }
+    ensures err { IfErr result (λ why. GaveUp why client.old.transcript client.new.transcript) }
 {
     client.begin(rt)
 }
@@ -86,7 +87,7 @@ pub fn write<'a, S: SafeSession, T: Turns, R: Wait>(
     client.put(rt, side.table(), customer, value)
 }
 
-/// Commits the transaction.
+/// Commits the transaction: then nothing is in progress.
 pub fn commit<'a, S: SafeSession, T: Turns, R: Wait>(
     rt: &R,
     client: &mut Client<'a, S, T>,
@@ -97,6 +98,7 @@ pub fn commit<'a, S: SafeSession, T: Turns, R: Wait>(
     ensures undone { IfErr result (λ _. (steps : List Step) → IsAt client.old.transcript steps → Went 0 [] [] client.old.transcript client.new.transcript) }
     ensures done { OnOk result ((steps : List Step) → IsAt client.old.transcript steps → Commits steps client.old.transcript client.new.transcript) }
     ensures err { IfErr result (λ why. WasRefused why client.old.transcript client.new.transcript) }
+    ensures rests { OnOk result (Rests S.seat S.own client.new) }
 {
     client.commit(rt)
 }
@@ -109,14 +111,14 @@ pub fn begin_snapshot<'a, S: SafeSession, T: Turns, R: Wait>(
     requires law { SameLaw S.law sound_law }
     requires client { IsClient S.stands S.seat S.own client.old }
     ensures on { GoesOn S.stands S.seat S.own S.ends T.told client.old client.new }
-    ensures went { Went 1 [] [] client.old.transcript client.new.transcript }
+    ensures begun { OnOk result (Begun client.old.transcript client.new.transcript) }
     ensures at { IfOk result (λ begin. IsSafeAt client.new.transcript begin []) }
-    ensures err { IfErr result (λ why. WasRefused why client.old.transcript client.new.transcript) }
+    ensures err { IfErr result (λ why. GaveUp why client.old.transcript client.new.transcript) }
 {
     client.safe(rt)
 }
 
-/// Ends the snapshot.
+/// Ends the snapshot: then nothing is in progress.
 pub fn end_snapshot<'a, S: SafeSession, T: Turns, R: Wait>(
     rt: &R,
     client: &mut Client<'a, S, T>,
@@ -127,6 +129,7 @@ pub fn end_snapshot<'a, S: SafeSession, T: Turns, R: Wait>(
     ensures undone { IfErr result (λ _. Went 0 [] [] client.old.transcript client.new.transcript) }
     ensures done { OnOk result ((begin : ℕ) (steps : List Step) → IsSafeAt client.old.transcript begin steps → Ends steps client.old.transcript client.new.transcript) }
     ensures err { IfErr result (λ why. (begin : ℕ) (steps : List Step) → IsSafeAt client.old.transcript begin steps → WasRefused why client.old.transcript client.new.transcript) }
+    ensures rests { OnOk result (Rests S.seat S.own client.new) }
 {
     client.end(rt)
 }
@@ -140,16 +143,18 @@ fn end<'a, S: SafeSession, T: Turns, R: Wait>(
     requires client { IsClient S.stands S.seat S.own client.old }
     ensures on { GoesOn S.stands S.seat S.own S.ends T.told client.old client.new }
     ensures went { Went 0 [] [] client.old.transcript client.new.transcript }
+    ensures rests { Rests S.seat S.own client.new }
 {
     client.abort(rt)
 }
 
-/// Gives the transaction up, or the snapshot, where one is in progress.
+/// Gives the transaction up, or the snapshot, where one is in progress: then nothing is.
 pub fn give_up<'a, S: SafeSession, T: Turns, R: Wait>(rt: &R, client: &mut Client<'a, S, T>)
     requires law { SameLaw S.law sound_law }
     requires client { IsClient S.stands S.seat S.own client.old }
     ensures on { GoesOn S.stands S.seat S.own S.ends T.told client.old client.new }
     ensures went { Went 0 [] [] client.old.transcript client.new.transcript }
+    ensures rests { Rests S.seat S.own client.new }
 {
     let _ = end(rt, client);
 }

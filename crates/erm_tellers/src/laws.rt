@@ -1,19 +1,20 @@
 //! Laws of what tellers do: each holds as it stands, and its function does nothing.
-ghost use Rattle.erm_accounts.specs.Accounts.{AreSolvent};
+ghost use Rattle.erm_accounts.specs.Accounts.{AreReadable, AreSolvent};
 ghost use Rattle.erm_invariant.specs.Invariant.{Keeps};
 ghost use Rattle.erm_model.specs.Run.{Step};
-ghost use Rattle.erm_tellers.specs.Laws.{AuditsInTransactionsShowTotals, AuditsShowTotals, TellersMoveTotals, TellersStaySolvent, TransfersKeepTotals};
+ghost use Rattle.erm_tellers.specs.Laws.{AuditsHaveTotals, AuditsInTransactionsShowTotals, AuditsShowTotals, AuditsShowWhatIsKept, TellersMoveTotals, TellersStaySolvent, TransfersKeepTotals};
 ghost use Rattle.erm_tellers.specs.Moves.{TransactionsMoveTotals};
 ghost use Rattle.erm_tellers.specs.Tellers.{IsOfTellers};
 ghost use Rattle.std.specs.Prelude.{List};
 
 use erm_accounts::{
     Solvency, audits_leave_totals, deposits_raise_totals, found_totals_are_totals,
-    transactions_keep_solvency, withdrawals_lower_totals,
+    solvent_customers_hold, transactions_keep_accounts_readable, transactions_keep_solvency,
+    withdrawals_lower_totals,
 };
 use erm_client_invariant::{
     Kind, clients_are_serial, commits_are_of_kind, invariants_last_for_clients,
-    snapshots_stand_among_commits, told_commits_are_there,
+    snapshots_see_invariants_for_clients, snapshots_stand_among_commits, told_commits_are_there,
 };
 use erm_invariant::Invariant;
 
@@ -22,6 +23,13 @@ pub fn tellers_keep_solvency()
     ensures { (steps : List Step) → IsOfTellers steps → Keeps AreSolvent steps }
 {
     transactions_keep_solvency();
+}
+
+/// And leaves all accounts readable.
+pub fn tellers_keep_accounts_readable()
+    ensures { (steps : List Step) → IsOfTellers steps → Keeps AreReadable steps }
+{
+    transactions_keep_accounts_readable();
 }
 
 /// Whatever the interleaving of any number of clients, all of whose commits are of these, customers stay solvent.
@@ -41,7 +49,7 @@ impl Kind for Tellers {
     ghost has = { λ _ steps. IsOfTellers steps };
 }
 
-/// The invariant that customers with numbers from `low` to `high` have this total.
+/// The invariant that customers with numbers from `low` to `high` hold so much in all.
 pub struct Total {
     pub low: u64,
     pub high: u64,
@@ -49,10 +57,18 @@ pub struct Total {
 }
 
 impl Invariant for Total {
-    ghost use Rattle.std.specs.Prelude.{◌≡◌};
-    ghost use Rattle.erm_accounts.specs.Totals.{total};
+    ghost use Rattle.erm_accounts.specs.Totals.{HoldInAll};
 
-    ghost holds = { λ t m. total m t.low t.high ≡ t.total };
+    ghost holds = { λ t m. HoldInAll m t.low t.high t.total };
+}
+
+/// The invariant that customers are solvent, and their accounts readable.
+pub struct Soundness;
+
+impl Invariant for Soundness {
+    ghost use Rattle.erm_accounts.specs.Accounts.{AreReadable, AreSolvent};
+
+    ghost holds = { λ _ m. AreSolvent m × AreReadable m };
 }
 
 /// Each of the tellers' transactions that is run alone moves the total of the customers of each range by what it brings to them and takes from them: a
@@ -74,7 +90,7 @@ pub fn tellers_move_totals()
     clients_are_serial();
 }
 
-/// And where all commits are transfers among these customers, and audits, it is kept.
+/// And where all commits are transfers among these customers, and audits, what they hold in all is kept.
 pub fn transfers_keep_totals()
     ensures { TransfersKeepTotals }
 {
@@ -82,7 +98,7 @@ pub fn transfers_keep_totals()
     invariants_last_for_clients::<Total>();
 }
 
-/// Each audit by a snapshot that ended shows the customers' accounts, and so their total, as they were at its place in the serial order.
+/// Each audit by a snapshot that ended shows the customers' accounts, and adds up to what they hold in all, as at its place in the serial order.
 pub fn audits_show_totals()
     ensures { AuditsShowTotals }
 {
@@ -97,4 +113,24 @@ pub fn audits_in_transactions_show_totals()
     told_commits_are_there();
     clients_are_serial();
     found_totals_are_totals();
+}
+
+/// So where all commits are transfers among these customers, and audits, each audit of them adds up to what they held at the opening.
+pub fn audits_show_what_is_kept()
+    ensures { AuditsShowWhatIsKept }
+{
+    transactions_move_totals();
+    snapshots_see_invariants_for_clients::<Total>();
+    found_totals_are_totals();
+}
+
+/// And whatever tellers do, each audit has a total, where the customers were solvent and their accounts readable at the opening.
+pub fn audits_have_totals()
+    ensures { AuditsHaveTotals }
+{
+    tellers_keep_solvency();
+    tellers_keep_accounts_readable();
+    snapshots_see_invariants_for_clients::<Soundness>();
+    found_totals_are_totals();
+    solvent_customers_hold();
 }

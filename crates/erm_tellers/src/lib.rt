@@ -10,8 +10,10 @@ mod tellers;
 
 pub use audits::{audit, audit_in_transaction};
 pub use laws::{
-    Tellers, Total, audits_in_transactions_show_totals, audits_show_totals, tellers_keep_solvency,
-    tellers_move_totals, tellers_stay_solvent, transactions_move_totals, transfers_keep_totals,
+    Soundness, Tellers, Total, audits_have_totals, audits_in_transactions_show_totals,
+    audits_show_totals, audits_show_what_is_kept, tellers_keep_accounts_readable,
+    tellers_keep_solvency, tellers_move_totals, tellers_stay_solvent, transactions_move_totals,
+    transfers_keep_totals,
 };
 pub use shown::total_of;
 pub use side::{Side, taken};

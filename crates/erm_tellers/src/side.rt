@@ -1,6 +1,6 @@
 //! The two accounts of a customer, and what they hold.
 ghost use Rattle.std.specs.Prelude.{◌≡◌, ◌+◌, ◌<◌, ◌≤◌, ◌^◌, ◌⊎◌, IfNone, IfSome, Some};
-ghost use Rattle.erm_accounts.specs.Accounts.{beside, raised, table_of};
+ghost use Rattle.erm_accounts.specs.Accounts.{IsBalance, beside, raised, table_of};
 ghost use Rattle.erm_tellers.specs.Denials.{IsUnreadable, MayNotAdd, MayNotTake};
 ghost use Rattle.erm_tellers.specs.Tellers.{account_of};
 
@@ -59,7 +59,8 @@ fn raised_in(value: &Option<Value>) -> Option<u64>
 
 // The value that keeps a balance, with 2 ^ 63 added to it.
 fn value_of(balance: u64) -> Value
-    ensures { raised (Some result) ≡ balance }
+    ensures balance { raised (Some result) ≡ balance }
+    ensures readable { IsBalance (Some result) }
 {
     Value::new(&balance.to_be_bytes()).unwrap()
 }
@@ -81,6 +82,7 @@ fn lowered(own: u64, other: u64, amount: u64) -> Option<u64>
 pub fn taken(own: &Option<Value>, other: &Option<Value>, amount: u64) -> Option<Value>
     ensures left { IfSome result (λ left. raised (Some left) + amount ≡ raised own.now) }
     ensures covered { IfSome result (λ left. 2 ^ 64 + amount ≤ raised own.now + raised other.now) }
+    ensures readable { IfSome result (λ left. IsBalance (Some left)) }
     ensures none { IfNone result (MayNotTake amount own.now other.now) }
 {
     let balance = raised_in(own)?;
@@ -92,6 +94,7 @@ pub fn taken(own: &Option<Value>, other: &Option<Value>, amount: u64) -> Option<
 /// What is kept of an account after an amount is added to it, or `None` where what is kept of it doesn't allow it.
 pub fn added(own: &Option<Value>, amount: u64) -> Option<Value>
     ensures more { IfSome result (λ more. raised (Some more) ≡ raised own.now + amount) }
+    ensures readable { IfSome result (λ more. IsBalance (Some more)) }
     ensures none { IfNone result (MayNotAdd amount own.now) }
 {
     let balance = raised_in(own)?;

@@ -1,13 +1,14 @@
 //! What a teller is asked for.
-ghost use Rattle.std.specs.Prelude.{◌≡◌, ◌≢◌, ◌+◌, ◌≤◌, ◌^◌, ◌⊎◌, IfNone, IfSome, IsErr, Some, false, max, true};
-ghost use Rattle.erm_accounts.specs.Accounts.{raised};
-ghost use Rattle.erm_client.specs.Clients.{GoesOn, IsClient};
+ghost use Rattle.std.specs.Prelude.{◌≡◌, ◌≢◌, ◌+◌, ◌≤◌, ◌^◌, ◌⊎◌, IfNone, IfSome, IsErrAnd, Some, false, max, true};
+ghost use Rattle.erm_accounts.specs.Accounts.{IsBalance, raised};
+ghost use Rattle.erm_client.specs.Clients.{GoesOn, IsClient, Rests};
 ghost use Rattle.erm_client.specs.Dealings.{AllCommitted};
 ghost use Rattle.erm_model.specs.RowTransaction.{SameLaw};
 ghost use Rattle.erm_node.specs.Sound.{sound_law};
 ghost use Rattle.erm_tellers.specs.Denials.{MayNotAdd, MayNotTake};
-ghost use Rattle.erm_tellers.specs.Served.{Served};
+ghost use Rattle.erm_tellers.specs.Served.{Served, ServedOnce};
 ghost use Rattle.erm_tellers.specs.Tellers.{IsOfTellers, Serves, WasDone};
+ghost use Rattle.erm_tellers.specs.Tries.{IsPassing};
 
 use crate::Side;
 use crate::dealing::{begin, commit, give_up, read, write};
@@ -58,14 +59,16 @@ pub enum Outcome {
 
 // Whether it was done.
 fn is_done(outcome: &Result<Outcome, Refusal>) -> bool
-    ensures { result ≡ false → outcome.now ≢ Ok Outcome.Done }
+    ensures done { result ≡ true → outcome.now ≡ Ok Outcome.Done }
+    ensures undone { result ≡ false → outcome.now ≢ Ok Outcome.Done }
 {
     matches!(outcome, Ok(Outcome::Done))
 }
 
 // Whether it may go otherwise when it is tried again: another session was in its way.
 fn is_passing(outcome: &Result<Outcome, Refusal>) -> bool
-    ensures { result ≡ true → IsErr outcome.now }
+    ensures passing { result ≡ true → IsErrAnd outcome.now IsPassing }
+    ensures other { result ≡ false → IsErrAnd outcome.now IsPassing → ⊥ }
 {
     matches!(
         outcome,
@@ -83,7 +86,8 @@ fn take<'a, S: SafeSession, T: Turns, R: Wait>(
     requires law { SameLaw S.law sound_law }
     requires client { IsClient S.stands S.seat S.own client.old }
     ensures on { GoesOn S.stands S.seat S.own S.ends T.told client.old client.new }
-    ensures ended { Served (Task.Withdraw holder amount) 1 result client.old.transcript client.new.transcript }
+    ensures ended { ServedOnce (Task.Withdraw holder amount) result client.old.transcript client.new.transcript }
+    ensures rests { result ≡ Ok Outcome.Done → Rests S.seat S.own client.new }
 {
     begin(rt, client)?;
     let own = read(rt, client, holder.side, holder.customer)?;
@@ -106,7 +110,8 @@ fn add<'a, S: SafeSession, T: Turns, R: Wait>(
     requires law { SameLaw S.law sound_law }
     requires client { IsClient S.stands S.seat S.own client.old }
     ensures on { GoesOn S.stands S.seat S.own S.ends T.told client.old client.new }
-    ensures ended { Served (Task.Deposit holder amount) 1 result client.old.transcript client.new.transcript }
+    ensures ended { ServedOnce (Task.Deposit holder amount) result client.old.transcript client.new.transcript }
+    ensures rests { result ≡ Ok Outcome.Done → Rests S.seat S.own client.new }
 {
     begin(rt, client)?;
     let own = read(rt, client, holder.side, holder.customer)?;
@@ -132,6 +137,7 @@ fn moved(
     ensures left { IfSome result (λ both. raised (Some both.0) + amount ≡ raised own.now) }
     ensures covered { IfSome result (λ both. 2 ^ 64 + amount ≤ raised own.now + raised other.now) }
     ensures more { IfSome result (λ both. raised (Some both.1) ≡ raised there.now + amount) }
+    ensures readable { IfSome result (λ both. IsBalance (Some both.0) × IsBalance (Some both.1)) }
     ensures none { IfNone result ((payer.customer ≡ payee.customer) ⊎ MayNotTake amount own.now other.now ⊎ MayNotAdd amount there.now) }
 {
     if payer.customer == payee.customer {
@@ -153,7 +159,8 @@ fn transfer<'a, S: SafeSession, T: Turns, R: Wait>(
     requires law { SameLaw S.law sound_law }
     requires client { IsClient S.stands S.seat S.own client.old }
     ensures on { GoesOn S.stands S.seat S.own S.ends T.told client.old client.new }
-    ensures ended { Served (Task.Transfer payer payee amount) 1 result client.old.transcript client.new.transcript }
+    ensures ended { ServedOnce (Task.Transfer payer payee amount) result client.old.transcript client.new.transcript }
+    ensures rests { result ≡ Ok Outcome.Done → Rests S.seat S.own client.new }
 {
     begin(rt, client)?;
     let own = read(rt, client, payer.side, payer.customer)?;
@@ -178,7 +185,8 @@ fn attempt<'a, S: SafeSession, T: Turns, R: Wait>(
     requires law { SameLaw S.law sound_law }
     requires client { IsClient S.stands S.seat S.own client.old }
     ensures on { GoesOn S.stands S.seat S.own S.ends T.told client.old client.new }
-    ensures ended { Served task 1 result client.old.transcript client.new.transcript }
+    ensures ended { ServedOnce task result client.old.transcript client.new.transcript }
+    ensures rests { result ≡ Ok Outcome.Done → Rests S.seat S.own client.new }
 {
     match task {
         Task::Withdraw { holder, amount } => take(rt, client, holder, amount),
@@ -200,7 +208,8 @@ fn try_once<'a, S: SafeSession, T: Turns, R: Wait>(
     requires law { SameLaw S.law sound_law }
     requires client { IsClient S.stands S.seat S.own client.old }
     ensures on { GoesOn S.stands S.seat S.own S.ends T.told client.old client.new }
-    ensures ended { Served task 1 result client.old.transcript client.new.transcript }
+    ensures ended { ServedOnce task result client.old.transcript client.new.transcript }
+    ensures rests { Rests S.seat S.own client.new }
 {
     let outcome = attempt(rt, client, task);
     if is_done(&outcome) {
@@ -210,7 +219,17 @@ fn try_once<'a, S: SafeSession, T: Turns, R: Wait>(
     outcome
 }
 
-/// Does what is asked for. It is tried again while another session is in its way, so often in all, and once at least.
+/// Does what is asked for. It is tried again while another session is in its way, so often in all, and once at least: what is given up because of another
+/// session was tried as often as that. Whatever it answers, it leaves nothing in progress, unless memory ran out within a line; and a transaction that the
+/// client had in progress before is given up.
+///
+/// ```text
+/// match serve(rt, client, Task::Deposit { holder, amount: 100 }, 3) {
+///     Ok(Outcome::Done) => {}
+///     Ok(Outcome::Short) => {}
+///     Err(why) => return Err(why),
+/// }
+/// ```
 pub fn serve<'a, S: SafeSession, T: Turns, R: Wait>(
     rt: &R,
     client: &mut Client<'a, S, T>,
@@ -224,6 +243,7 @@ pub fn serve<'a, S: SafeSession, T: Turns, R: Wait>(
     ensures kept { AllCommitted IsOfTellers client.new.transcript }
     ensures ended { Served task (max tries 1) result client.old.transcript client.new.transcript }
     ensures done { result ≡ Ok Outcome.Done → WasDone (Serves task) client.new.transcript }
+    ensures rests { Rests S.seat S.own client.new }
 {
     let mut outcome = try_once(rt, client, task);
     'tries: for _tried in 1..tries {

@@ -2,7 +2,7 @@ use Rattle.std.proofs.Common.{◌≡◌, ◌+◌, ◌++◌, ◌∷◌, [], lengt
 use Rattle.std.specs.Vec.Iter.{into_iter_items}
 use Rattle.erm_client_beside.specs.Jobs.{AreJobs, IsJobOf}
 use Rattle.erm_client_beside.proofs.Lists.{more_paired, none_paired}
-use Rattle.erm_client_beside.proofs.Made.{comes_at, made_job, opened_ready}
+use Rattle.erm_client_beside.proofs.Made.{comes_at, made_job, opened_idle, opened_ready}
 use Rattle.erm_engine.proofs.Joined.{yields_on}
 use Rattle.erm_engine.specs.Opened.{IsNew}
 use Rattle.erm_run_beside.proofs.More.{comes_within, longer, none_came, whole_now}
@@ -82,6 +82,12 @@ new-requires-clause-ready g c =
     let gone = c.loop-program.invariant.3 in
     let new = c.requires.new.each (length gone.0) c.in-Some-next.session (comes_at gone.0 _ (into_iter_items c.next-in-loop-program.new.self) c.args.sessions.items c.in-Some-next.session gone.1 c.in-Some-next.ensures.items) in
     opened_ready c.args._opening.now _ _ new.own
+
+pub new-requires-clause-idle : goal.new-requires-clause-idle
+new-requires-clause-idle g c =
+    let gone = c.loop-program.invariant.3 in
+    let new = c.requires.new.each (length gone.0) c.in-Some-next.session (comes_at gone.0 _ (into_iter_items c.next-in-loop-program.new.self) c.args.sessions.items c.in-Some-next.session gone.1 c.in-Some-next.ensures.items) in
+    opened_idle c.args._opening.now _ _ new.own
 
 pub push_reserved-requires : goal.push_reserved-requires
 push_reserved-requires g c =

@@ -1,32 +1,31 @@
 use Rattle.std.proofs.Common.{[], ◌∷◌, ap}
 use Rattle.erm_accounts.specs.Accounts.{Account, reads, writes}
-use Rattle.erm_client.proofs.Stretched.{went_then}
-use Rattle.erm_tellers.proofs.Behind.{did_serve, fell_short, gave_up, gave_up_now, goes, served_no}
+use Rattle.erm_tellers.proofs.Behind.{begun_then, did_serve, fell_short, gave_up, goes, served_no}
 use Rattle.erm_tellers.proofs.Asked.{withdraws}
 use Rattle.erm_tellers.proofs.tellers.take.Goals as goal
 use Rattle.erm_tellers.specs.declared.tellers.Task.TheVariants as task
 use Rattle.erm_tellers.specs.Tellers.{account_of}
 
 pub returns-in_err-begin-clause-ended : goal.returns-in_err-begin-clause-ended
-returns-in_err-begin-clause-ended g c = served_no (task.Withdraw c.args.holder c.args.amount) c.from_residual.result c.from_residual.ensures (gave_up_now c.begin.ensures.went c.in_err-begin.ensures.err)
+returns-in_err-begin-clause-ended g c = served_no (task.Withdraw c.args.holder c.args.amount) c.from_residual.result c.from_residual.ensures c.in_err-begin.ensures.err
 
 pub returns-in_err-own-clause-on : goal.returns-in_err-own-clause-on
 returns-in_err-own-clause-on g c = goes c.begin.ensures.on c.read.ensures.on
 
 pub returns-in_err-own-clause-ended : goal.returns-in_err-own-clause-ended
-returns-in_err-own-clause-ended g c = served_no (task.Withdraw c.args.holder c.args.amount) c.from_residual-in_err-own.result c.from_residual-in_err-own.ensures (gave_up c.begin.ensures.went c.read.ensures.went c.in_err-own.ensures.err)
+returns-in_err-own-clause-ended g c = served_no (task.Withdraw c.args.holder c.args.amount) c.from_residual-in_err-own.result c.from_residual-in_err-own.ensures (gave_up c.in_ok-begin.ensures.begun c.read.ensures.went c.in_err-own.ensures.err)
 
 pub returns-in_err-other-clause-on : goal.returns-in_err-other-clause-on
 returns-in_err-other-clause-on g c = goes (goes c.begin.ensures.on c.read.ensures.on) c.read-2.ensures.on
 
 pub returns-in_err-other-clause-ended : goal.returns-in_err-other-clause-ended
-returns-in_err-other-clause-ended g c = served_no (task.Withdraw c.args.holder c.args.amount) c.from_residual-in_err-other.result c.from_residual-in_err-other.ensures (gave_up (went_then c.begin.ensures.went c.read.ensures.went) c.read-2.ensures.went c.in_err-other.ensures.err)
+returns-in_err-other-clause-ended g c = served_no (task.Withdraw c.args.holder c.args.amount) c.from_residual-in_err-other.result c.from_residual-in_err-other.ensures (gave_up (begun_then c.in_ok-begin.ensures.begun c.read.ensures.went) c.read-2.ensures.went c.in_err-other.ensures.err)
 
 pub returns-in_err-write-clause-on : goal.returns-in_err-write-clause-on
 returns-in_err-write-clause-on g c = goes (goes (goes c.begin.ensures.on c.read.ensures.on) c.read-2.ensures.on) c.write.ensures.on
 
 pub returns-in_err-write-clause-ended : goal.returns-in_err-write-clause-ended
-returns-in_err-write-clause-ended g c = served_no (task.Withdraw c.args.holder c.args.amount) c.from_residual-in_err-write.result c.from_residual-in_err-write.ensures (gave_up (went_then (went_then c.begin.ensures.went c.read.ensures.went) c.read-2.ensures.went) c.write.ensures.went c.in_err-write.ensures.err)
+returns-in_err-write-clause-ended g c = served_no (task.Withdraw c.args.holder c.args.amount) c.from_residual-in_err-write.result c.from_residual-in_err-write.ensures (gave_up (begun_then (begun_then c.in_ok-begin.ensures.begun c.read.ensures.went) c.read-2.ensures.went) c.write.ensures.went c.in_err-write.ensures.err)
 
 pub returns-in_err-commit-clause-on : goal.returns-in_err-commit-clause-on
 returns-in_err-commit-clause-on g c = goes (goes (goes (goes c.begin.ensures.on c.read.ensures.on) c.read-2.ensures.on) c.write.ensures.on) c.commit.ensures.on
@@ -42,7 +41,7 @@ returns-in_err-commit-clause-ended g c =
     let third = c.in_ok-other.ensures.at (one ∷ []) second in
     let fourth = c.in_ok-write.ensures.at (one ∷ two ∷ []) third in
     served_no (task.Withdraw c.args.holder c.args.amount) c.from_residual-in_err-commit.result c.from_residual-in_err-commit.ensures
-    (gave_up (went_then (went_then (went_then c.begin.ensures.went c.read.ensures.went) c.read-2.ensures.went) c.write.ensures.went) (c.in_err-commit.ensures.undone (one ∷ two ∷ three ∷ []) fourth) c.in_err-commit.ensures.err)
+    (gave_up (begun_then (begun_then (begun_then c.in_ok-begin.ensures.begun c.read.ensures.went) c.read-2.ensures.went) c.write.ensures.went) (c.in_err-commit.ensures.undone (one ∷ two ∷ three ∷ []) fourth) c.in_err-commit.ensures.err)
 
 pub returns-in_default-clause-on : goal.returns-in_default-clause-on
 returns-in_default-clause-on g c = goes (goes c.begin.ensures.on c.read.ensures.on) c.read-2.ensures.on
@@ -56,7 +55,7 @@ returns-in_default-clause-ended g c =
     let third = c.in_ok-other.ensures.at (one ∷ []) second in
     let two = reads (account_of c.beside.result) holder.customer c.in_ok-other.other in
     let steps_are = ap (λ (x : Account). one ∷ reads x holder.customer c.in_ok-other.other ∷ []) c.beside.ensures in
-    fell_short {steps = one ∷ two ∷ []} (went_then (went_then c.begin.ensures.went c.read.ensures.went) c.read-2.ensures.went) third (c.in_ok-own.own, c.in_ok-other.other, steps_are, c.in_default.ensures.none)
+    fell_short {steps = one ∷ two ∷ []} (begun_then (begun_then c.in_ok-begin.ensures.begun c.read.ensures.went) c.read-2.ensures.went) third (c.in_ok-own.own, c.in_ok-other.other, steps_are, c.in_default.ensures.none)
 
 pub returns-clause-on : goal.returns-clause-on
 returns-clause-on g c = goes (goes (goes (goes c.begin.ensures.on c.read.ensures.on) c.read-2.ensures.on) c.write.ensures.on) c.commit.ensures.on
@@ -71,5 +70,5 @@ returns-clause-ended g c =
     let second = c.in_ok-own.ensures.at [] c.in_ok-begin.ensures.at in
     let third = c.in_ok-other.ensures.at (one ∷ []) second in
     let fourth = c.in_ok-write.ensures.at (one ∷ two ∷ []) third in
-    did_serve (went_then (went_then (went_then c.begin.ensures.went c.read.ensures.went) c.read-2.ensures.went) c.write.ensures.went) (c.in_ok-commit.ensures.done (one ∷ two ∷ three ∷ []) fourth)
-    (withdraws holder c.args.amount (account_of c.beside.result) c.in_ok-own.own c.in_ok-other.other c.in-Some.left c.beside.ensures c.in-Some.ensures.left c.in-Some.ensures.covered)
+    did_serve (begun_then (begun_then (begun_then c.in_ok-begin.ensures.begun c.read.ensures.went) c.read-2.ensures.went) c.write.ensures.went) (c.in_ok-commit.ensures.done (one ∷ two ∷ three ∷ []) fourth)
+    (withdraws holder c.args.amount (account_of c.beside.result) c.in_ok-own.own c.in_ok-other.other c.in-Some.left c.beside.ensures c.in-Some.ensures.left c.in-Some.ensures.covered c.in-Some.ensures.readable)
