@@ -88,7 +88,8 @@ returns-in-Ok-None-clause-err g c =
 pub returns-in-Err-clause-on : goal.returns-in-Err-clause-on
 returns-in-Err-clause-on g c =
     starved_goes g.S.SharedSession.stands g.S.SharedSession.seat g.S.SharedSession.own g.S.SharedSession.ends g.T.Turns.told c.args.self.now _
-    c.requires.client c.requires.opened refl c.run_next.ensures.stands c.run_next.ensures.onward c.in-Err.ensures.grown c.starve.ensures.starves
+    c.requires.client c.requires.opened refl c.run_next.ensures.stands c.run_next.ensures.onward
+    (λ f end. let within = g.met.S.SharedSession.within c.args.self.now.session f end in (within.tail, within.flushed)) c.in-Err.ensures.grown c.starve.ensures.starves
 
 pub add-requires : goal.add-requires
 add-requires g c = record { room = room_now c.args.line.command c.args.self.now.transcript c.requires.room }
