@@ -1,5 +1,6 @@
 pub mod Commits
 pub mod Cut
 pub mod Lines
+pub mod Starved
 pub mod Unsealed
 pub mod Whole
