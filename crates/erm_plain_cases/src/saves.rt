@@ -168,10 +168,7 @@ const FULL: [Turn; 8] = [
 ];
 
 const CASES: [Case; 7] = [
-    (
-        "one row",
-        &[Step::Turns(&COMMITTED), Step::Turns(&ONE_ROW)],
-    ),
+    ("one row", &[Step::Turns(&COMMITTED), Step::Turns(&ONE_ROW)]),
     (
         "two savepoints",
         &[Step::Turns(&COMMITTED), Step::Turns(&TWO_SAVEPOINTS)],

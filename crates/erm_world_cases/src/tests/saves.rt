@@ -143,7 +143,11 @@ const CASES: [(&str, &[Exchange]); 5] = [
 fn lines_go_back(rt: HostRuntime) -> Result<(), AllocError> {
     for (name, lines) in &CASES {
         let mut world = world(&rt, rt.alloc(), 16)?;
-        assert_eq!(rt; first_other(rt.alloc(), &mut world, *lines)?, None, "{name}");
+        assert_eq!(rt;
+            first_other(rt.alloc(), &mut world, *lines)?,
+            None,
+            "{name}"
+        );
     }
     Ok(())
 }
