@@ -116,9 +116,9 @@ fn push_told(out: &mut Vec<u8>, words: &[u8], answer: &Answer) -> Result<(), All
         | Answer::NotFlushed { flushed: stamp }
         | Answer::Unfilled(stamp) => push_count(out, words, *stamp),
         Answer::CellsFull { drawn } | Answer::OidsFull { drawn } => push_count(out, words, *drawn),
-        Answer::Cut(count) => push_count(out, words, u64::from(*count)),
-        Answer::Saved { held } | Answer::NoSave { held } => push_count(out, words, u64::from(*held)),
-        Answer::Back { n } => push_count(out, words, u64::from(*n)),
+        Answer::Cut(n) | Answer::Back { n } => push_count(out, words, u64::from(*n)),
+        Answer::Saved { held } => push_count(out, words, u64::from(*held)),
+        Answer::NoSave { held } => push_count(out, words, u64::from(*held)),
         Answer::Replied(reply) => push_reply(out, words, reply),
         Answer::Committed { stamp, succ, pred } | Answer::Excluded { stamp, succ, pred } => {
             push_stamps(out, words, *stamp, *succ, *pred)
