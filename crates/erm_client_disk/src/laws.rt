@@ -3,7 +3,8 @@ ghost use Rattle.erm_client_disk.specs.Laws.{EndedClientsAreDone, EndedClientsOu
 
 use erm_client::transcripts_are_a_run;
 use erm_client_told::{
-    starved_transcripts_tell_commits, transcripts_are_a_starved_run, transcripts_tell_commits,
+    starved_transcripts_tell_commits, starved_transcripts_tell_snapshots,
+    transcripts_are_a_starved_run, transcripts_tell_commits,
 };
 use erm_crash::kept_images_may_open;
 use erm_disk_at_once::{commits_are_left, commits_outlive};
@@ -18,6 +19,7 @@ pub fn ended_clients_outlive()
     commits_outlive();
     transcripts_are_a_starved_run();
     starved_transcripts_tell_commits();
+    starved_transcripts_tell_snapshots();
     starved_runs_tell();
 }
 
@@ -31,6 +33,7 @@ pub fn ended_clients_are_done()
     transcripts_tell_commits();
     transcripts_are_a_starved_run();
     starved_transcripts_tell_commits();
+    starved_transcripts_tell_snapshots();
     starved_runs_tell();
 }
 

@@ -82,13 +82,13 @@ of_others q s (c ∷ all) p below are =
     (others q p c.lines.items c.answers.items (λ l there own. let line = are.1.own l there in let seat = are.0 in omega (arith, line.own, seat, below, own)))
     ∙ of_others q (s + 1) all p (omega (arith, below)) are.2
 
-first_own : (s : ℕ) (c : Transcript) (all : List Transcript) → AreFrom s (c ∷ all) → progress_of s (said_all (c ∷ all)) ≡ dealings_of c
+pub first_own : (s : ℕ) (c : Transcript) (all : List Transcript) → AreFrom s (c ∷ all) → progress_of s (said_all (c ∷ all)) ≡ dealings_of c
 first_own s c all are =
     hears_then s nothing (said_of c.lines.items c.answers.items) (said_all all)
     ∙ of_others s (s + 1) all (progress_of s (said_of c.lines.items c.answers.items)) (omega arith) are.2
     ∙ ap (λ (q : ℕ). progress_of q (said_of c.lines.items c.answers.items)) (sym are.0)
 
-behind_own : (s q : ℕ) (c : Transcript) (all : List Transcript) → s < q → AreFrom s (c ∷ all) → progress_of q (said_all (c ∷ all)) ≡ progress_of q (said_all all)
+pub behind_own : (s q : ℕ) (c : Transcript) (all : List Transcript) → s < q → AreFrom s (c ∷ all) → progress_of q (said_all (c ∷ all)) ≡ progress_of q (said_all all)
 behind_own s q c all above are =
     hears_then q nothing (said_of c.lines.items c.answers.items) (said_all all)
     ∙ ap (λ (x : Progress). hears q x (said_all all))

@@ -1,16 +1,20 @@
 -- What the transcripts of clients tell of an execution at once, also where memory ran out for some within a line: the laws, as statements.
 use Rattle.std.specs.Prelude.{◌≡◌, ◌≤◌, ◌⊎◌, List, length, map, Option}
 use Rattle.erm_client.specs.Clients.{WasStarved}
+use Rattle.erm_client.specs.Dealings.{snapshots_told}
 use Rattle.erm_client.specs.declared.transcript.Transcript.{Transcript}
 use Rattle.erm_client.specs.Laws.{AreFrom, answers_of, lines_of}
 use Rattle.erm_client_told.specs.Told.{all_commits, answers_by, parts_of}
 use Rattle.erm_good_at_once.specs.CutReports.{answered_of}
 use Rattle.erm_good_report.specs.GoodReport.{places_of}
+use Rattle.erm_good_report.specs.Opening.{Opening}
 use Rattle.erm_good_report.specs.Phases.{Closed}
 use Rattle.erm_good_report.specs.Transactions.{history_of, transactions_of}
 use Rattle.erm_joined.specs.Merged.{closes_from, counts_of, told_when_cut}
-use Rattle.erm_lines.specs.Executions.{IsOpened}
+use Rattle.erm_lines.specs.Executions.{IsOpened, IsOpeningOf}
+use Rattle.erm_model.specs.Committed.{Committed, HasSnapshotReplies}
 use Rattle.erm_model.specs.declared.limits.TheConstants.{LAST_NUMBER}
+use Rattle.erm_model.specs.Member.{◌∈◌}
 use Rattle.erm_report.specs.declared.answer.Answer.{Answer}
 use Rattle.erm_threads.specs.Work.{DidWork}
 use Rattle.erm_works.specs.Starved.{IsStarvedRunAtOnce}
@@ -34,3 +38,9 @@ abbrev pub StarvedTranscriptsTellCommits : Type 0
 StarvedTranscriptsTellCommits = (v f : View) (all : List Transcript) (closed : List Closed) → AreFrom 1 all → length all ≤ v.opening.sessions
     → IsStarvedRunAtOnce v (lines_of all) (counts_of (answers_by all)) (answers_of all) closed f
     → history_of (transactions_of v.opening.sessions (places_of (answered_of (counts_of (answers_by all)) (lines_of all)) (answers_of all) closed)) ≡ all_commits all
+
+-- And each snapshot that a transcript tells to have ended was answered as on the state below its begin stamp that these commits make.
+abbrev pub StarvedTranscriptsTellSnapshots : Type 0
+StarvedTranscriptsTellSnapshots = (v f : View) (all : List Transcript) (closed : List Closed) (opening : Opening) → AreFrom 1 all → length all ≤ v.opening.sessions
+    → IsStarvedRunAtOnce v (lines_of all) (counts_of (answers_by all)) (answers_of all) closed f → IsOpeningOf v opening
+    → (c : Transcript) → c ∈ all → (x : Committed) → x ∈ snapshots_told c → HasSnapshotReplies (all_commits all) opening.map x.begin x.steps

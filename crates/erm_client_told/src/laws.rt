@@ -1,5 +1,5 @@
 //! Laws of what transcripts tell: each holds as it stands, and its function does nothing.
-ghost use Rattle.erm_client_told.specs.Starved.{StarvedTranscriptsTellCommits, TranscriptsAreAStarvedRun};
+ghost use Rattle.erm_client_told.specs.Starved.{StarvedTranscriptsTellCommits, StarvedTranscriptsTellSnapshots, TranscriptsAreAStarvedRun};
 ghost use Rattle.erm_client_told.specs.Told.{TranscriptsAreACutRun, TranscriptsTellCommits, WholeTranscriptsTellCommits};
 
 use erm_cut_at_once::cut_runs_close_unseen;
@@ -33,6 +33,13 @@ pub fn transcripts_are_a_starved_run()
 /// The commits that it tells are just those that the transcripts tell.
 pub fn starved_transcripts_tell_commits()
     ensures { StarvedTranscriptsTellCommits }
+{
+    starved_runs_tell();
+}
+
+/// And each snapshot that a transcript tells to have ended was answered as on the state that those of these commits make that lie below its begin stamp.
+pub fn starved_transcripts_tell_snapshots()
+    ensures { StarvedTranscriptsTellSnapshots }
 {
     starved_runs_tell();
 }

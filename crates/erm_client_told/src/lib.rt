@@ -5,6 +5,6 @@
 mod laws;
 
 pub use laws::{
-    starved_transcripts_tell_commits, transcripts_are_a_cut_run, transcripts_are_a_starved_run,
-    transcripts_tell_commits,
+    starved_transcripts_tell_commits, starved_transcripts_tell_snapshots,
+    transcripts_are_a_cut_run, transcripts_are_a_starved_run, transcripts_tell_commits,
 };
