@@ -1,5 +1,6 @@
 //! The text of a workload, given to a run: what it tells over the word table is what it tells over the world in lists, byte by byte.
-ghost use Rattle.std.specs.Prelude.{◌≤◌, length};
+ghost use Rattle.std.specs.Prelude.{◌≡◌, ◌≤◌, length};
+ghost use Rattle.erm_model.specs.declared.limits.TheConstants.{SESSIONS};
 ghost use Rattle.erm_disk_cases.specs.declared.worlds.TheConstants.{MOST_BYTES};
 
 use crate::told::{empty, text_of};
@@ -15,7 +16,9 @@ use std::test::Fail;
 const MOST_BYTES: usize = 100_000;
 
 // Which scripts the command `run` takes.
-fn run_grammar() -> Grammar {
+fn run_grammar() -> Grammar
+    ensures { result.sessions ≡ SESSIONS }
+{
     Grammar {
         sessions: SESSIONS,
         index: true,

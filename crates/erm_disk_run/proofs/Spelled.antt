@@ -66,10 +66,11 @@ may_be_run g names line l spelled high = elim spelled as (λ _. MayBeRun (length
   }
 ]
 
--- A script that is not too long can be run, line by line.
-pub can_be_run : (g : Grammar) (bytes : List ℕ) (names : List (List ℕ)) (script : List ScriptLine) → IsScript g bytes names script → length script + SESSIONS ≤ LAST_NUMBER → IsScriptFor names script
-can_be_run g bytes names script is short = record {
-  few = is.few;
+-- A script that is not too long can be run, line by line, where there are no more sessions than there may be.
+pub can_be_run : (g : Grammar) (bytes : List ℕ) (names : List (List ℕ)) (script : List ScriptLine) → g.sessions ≤ SESSIONS → IsScript g bytes names script → length script + SESSIONS ≤ LAST_NUMBER
+    → IsScriptFor names script
+can_be_run g bytes names script most is short = record {
+  few = omega (arith, is.few, most);
   short = short;
   each = λ l at. let found = spelled_at g names (kept_lines bytes) script at.0 l is.spelled at.1 in may_be_run g names found.0 l found.1 (numbered_at 0 script (length names) at.0 l is.numbered at.1);
 }
