@@ -56,13 +56,15 @@ def look(pick):
 
 
 def transaction(pick):
-    """The lines of a transaction, and of the wait behind some; or of a snapshot that only reads."""
+    """The lines of a transaction, of which some go back to a savepoint, and of the wait behind some; or of a snapshot that only reads."""
     if pick.random() < 0.02:
         yield from ("safe", *(look(pick) for _ in range(pick.randint(1, 6))), "commit")
         return
     yield "begin"
     for _ in range(pick.randint(1, 4)):
         yield operation(pick)
+    if pick.random() < 0.05:
+        yield from ("save", operation(pick), operation(pick), "back 1", operation(pick))
     yield from pick.choices((["commit"], ["seal", "settle"], ["abort"]), (80, 17, 3))[0]
     if pick.random() < 0.01:
         yield "durable"
