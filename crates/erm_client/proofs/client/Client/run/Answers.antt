@@ -58,8 +58,8 @@ returns-in-Ok-Some-clause-rests g c asks =
     let seat = g.S.SharedSession.seat c.args.self.now.session in
     let v = g.S.SharedSession.own c.args.self.now.session in
     let t = g.S.SharedSession.own c.run_next.new.session in
-    let ready : IsReady (t.session seat) c.run_next.new.receipt =
-    subst (λ (o : Option Answer). IfSome o (λ _. IsReady (t.session seat) c.run_next.new.receipt)) c.in-Ok-Some.field-0-is c.in-Ok-Some.ensures.ready in
+    let ready : IsReady t seat c.run_next.new.receipt =
+    subst (λ (o : Option Answer). IfSome o (λ _. IsReady t seat c.run_next.new.receipt)) c.in-Ok-Some.field-0-is c.in-Ok-Some.ensures.ready in
     let leave = lines_leave c.begun_transactions_are_runs.ensures c.answers_stay.ensures in
     let ran : (f : View) → g.S.SharedSession.ends c.run_next.new.session f → RanLine f c.args.line (Some c.in-Ok-Some.answer) v t = λ f end. subst (λ (o : Option Answer). RanLine f c.args.line o v t) c.in-Ok-Some.field-0-is (c.in-Ok-Some.ensures.ran f end) in
     let some = g.met.S.SharedSession.some c.args.self.now.shared.now c.run_next.new.session c.run_next.ensures.stands in
