@@ -4,7 +4,6 @@ use Rattle.std.specs.List.{All, slice_get}
 use Rattle.std.proofs.lemmas.Option.{slice_get-get_or}
 use Rattle.erm_client.specs.Clients.{WasStarved}
 use Rattle.erm_client.specs.declared.client.Finished.{Finished}
-use Rattle.erm_client.specs.declared.transcript.Standing.TheVariants as standing
 use Rattle.erm_client.specs.declared.transcript.Transcript.{Transcript}
 use Rattle.erm_client_beside.specs.Back.{AreBack, HasFinished, IsBack}
 use Rattle.erm_client_beside.specs.declared.ran.ProgramRun.{ProgramRun}
