@@ -1,9 +1,7 @@
 -- Transcripts, one behind another, as an execution for some of whose clients memory ran out within a line.
-use Rattle.std.proofs.Common.{◌≡◌, ℕ, ◌≤◌, List, [], ◌∷◌, ◌++◌, length, map, Option, Some, None, append-nil, inl, inr, refl, sym, ap, ◌∙◌, subst, arith}
+use Rattle.std.proofs.Common.{◌≡◌, ℕ, ◌≤◌, List, [], ◌∷◌, ◌++◌, length, map, Option, Some, None, append-nil, inl, inr, sym, ap, ◌∙◌, subst, arith}
 use Rattle.std.specs.List.{slice_get}
 use Rattle.std.proofs.lemmas.Option.{slice_get_cases}
-use Rattle.erm_client.specs.Clients.{WasStarved}
-use Rattle.erm_client.specs.declared.transcript.Transcript.{Transcript}
 use Rattle.erm_client.specs.Laws.{answers_of, lines_of}
 use Rattle.erm_client_told.proofs.Cut.{merged, split}
 use Rattle.erm_client_told.specs.Starved.{DidForClient, TranscriptsAreAStarvedRun}
