@@ -1,5 +1,5 @@
 -- What programs on a disk leave of its slots, and of the segments below that of the place found.
-use Rattle.std.proofs.Common.{◌+◌, ◌≤◌, ◌++◌, ℕ, List, Option, arith}
+use Rattle.std.proofs.Common.{◌≤◌, ◌++◌, ℕ, List, Option, arith}
 use Rattle.erm_ckpt.specs.declared.slot.Slots.{Slots}
 use Rattle.erm_ckpt.specs.Recovered.{State}
 use Rattle.erm_desk.specs.Desk.{Sees}

@@ -132,10 +132,9 @@ module _ {P : Type 0} (laws : EndLaws) (promises : P → P → Transcript → Ty
   pub none_so : (ran : Result (ProgramsRan P) (Vec P Global)) → CameBack ran → IfErr (ended_of ran) (λ stop. (before : Option (List Step)) (state : State) → WasLogOpened before mid state opened
       → NoneRan stop programs.items before after)
   none_so (Ok ran) came = tt
-  none_so (Err back) came = λ before state was. (
-    ap (λ (x : Vec P Global). x.items) came.2,
-    (state, was.found, none_ran laws promises before mid after faults now state opened was first is_first programs.items few came.0),
-  )
+  none_so (Err back) came = λ before state was.
+      let left = none_ran laws promises before mid after faults now state opened was first is_first programs.items few came.0 in
+      (ap (λ (x : Vec P Global). x.items) came.2, (state, was.found, left.0, left.1.0, left.1.1))
 
   pub counts_so : (ran : Result (ProgramsRan P) (Vec P Global)) → DidRun ran → IfOk (ended_of ran) (λ ran. CountsRun ran.failed faults now)
   counts_so (Ok ran) did = either ran.failed refl
