@@ -1,5 +1,5 @@
 -- What lines that are spelled may ask for, where each session has a thread of its own.
-use Rattle.std.proofs.Common.{◌≡◌, ℕ, ◌+◌, ◌<◌, ◌≤◌, true, List, length, inl, inr}
+use Rattle.std.proofs.Common.{◌≡◌, ℕ, ◌+◌, ◌≤◌, true, List, length, inl, inr}
 use Rattle.std.proofs.lemmas.Bool.{true≢false}
 use Rattle.erm_model.specs.declared.limits.TheConstants.{LAST_NUMBER, SESSIONS}
 use Rattle.erm_script.specs.Keywords.{names_session}
