@@ -1,5 +1,5 @@
 -- What a line leaves of its session's phase, and of what is told to be in progress there.
-use Rattle.std.proofs.Common.{◌≡◌, ◌⊎◌, ℕ, true, List, [], Option, Some, None, IfSome, option_map, inl, inr, refl, sym, ap, ◌∙◌, subst}
+use Rattle.std.proofs.Common.{◌≡◌, ◌⊎◌, ℕ, true, List, Option, Some, None, IfSome, option_map, inl, inr, refl, sym, ap, ◌∙◌, subst}
 use Rattle.erm_client.specs.Clients.{IsInPhase}
 use Rattle.erm_client.specs.Dealings.{ComesAlone}
 use Rattle.erm_client.specs.Refusals.{IsOfClient, MayTell, TellsEnd}
