@@ -1,12 +1,13 @@
 -- What an errand of a teller came to.
-use Rattle.std.proofs.Common.{◌≡◌, ℕ, zero, suc, ◌+◌, ◌<◌, ◌^◌, ◌⊎◌, Bool, true, false, List, [], ◌∷◌, ◌++◌, Result, Ok, Err, inl, inr, refl, sym, subst}
-use Rattle.std.specs.Prelude.{if◌then◌else◌}
+use Rattle.std.proofs.Common.{◌≡◌, ℕ, zero, suc, ◌+◌, ◌<◌, ◌^◌, List, [], ◌∷◌, ◌++◌, length, Some, Result, Ok, Err, inl, inr, refl, sym, ap, ◌∙◌, subst, arith}
+use Rattle.std.proofs.lemmas.List.{length-append}
+use Rattle.std.specs.List.{slice_get}
 use Rattle.erm_accounts.specs.Totals.{AddUpTo}
 use Rattle.erm_bank.specs.declared.teller.Errand.{Errand}
 use Rattle.erm_bank.specs.declared.teller.Errand.TheVariants as errand
 use Rattle.erm_bank.specs.declared.teller.Told.{Told}
 use Rattle.erm_bank.specs.declared.teller.Told.TheVariants as told
-use Rattle.erm_bank.specs.Tellers.{DidErrand, IsServing, IsShown}
+use Rattle.erm_bank.specs.Tellers.{CameTo, DidAll, DidErrand, IsServing, IsShown}
 use Rattle.erm_client.proofs.Commits.{all_went}
 use Rattle.erm_client.proofs.Stretched.{went_itself, went_then}
 use Rattle.erm_client.specs.Dealings.{AllCommitted, snapshots_told}
@@ -22,7 +23,7 @@ use Rattle.erm_tellers.specs.declared.tellers.Outcome.{Outcome}
 use Rattle.erm_tellers.specs.declared.tellers.Outcome.TheVariants.{Done, Short}
 use Rattle.erm_tellers.specs.declared.tellers.Task.{Task}
 use Rattle.erm_tellers.specs.declared.tellers.Task.TheVariants as task
-use Rattle.erm_tellers.specs.Served.{AuditedOnce, ServedOnce}
+use Rattle.erm_tellers.specs.Served.{Audited, AuditedOnce, ServedOnce}
 use Rattle.erm_tellers.specs.Tellers.{IsOfTellers, Serves}
 use Rattle.erm_tellers.specs.Tries.{IsPassing, IsUnsafe, Tried, TriedInVain}
 
@@ -37,38 +38,41 @@ vain_went Passing zero c d vain = (0, subst (λ (x : Transcript). Went 0 [] [] c
 vain_went Passing (suc n) c d (mid, why, vain, passing, gave) = let before = vain_went Passing n c mid vain in (before.0 + 1, went_then before.1 gave.went)
 
 -- TASKS
-task_once : (wanted : Task) (tells : Told) → ((low high total : ℕ) → tells ≡ told.Total low high total → ⊥) → (result : Result Outcome Refusal) (n : ℕ) (b c d : Transcript) → Went n [] [] b c
-    → ServedOnce wanted result c d → DidErrand (errand.Serve wanted) tells b d
-task_once wanted tells none (Ok Done) n b c d went did = record {
+task_once : (most : ℕ) (wanted : Task) (tells : Told) → ((low high total : ℕ) → tells ≡ told.Total low high total → ⊥) → (result : Result Outcome Refusal) (n : ℕ) (b c d : Transcript) → Went n [] [] b c
+    → ServedOnce wanted result c d → CameTo most (errand.Serve wanted) tells b d → DidErrand most (errand.Serve wanted) tells b d
+task_once most wanted tells none (Ok Done) n b c d went did came = record {
   begins = n + 1;
   commits = did.commit ∷ [];
   snapshots = [];
   went = went_then went did.went;
   serves = λ x there. (wanted, refl, subst (λ (y : Committed). Serves wanted y.steps) (only did.commit x there) did.serves);
   shown = λ low high total is. absurd (none low high total is);
+  came_to = came;
 }
-task_once wanted tells none (Ok Short) n b c d went did = record {
+task_once most wanted tells none (Ok Short) n b c d went did came = record {
   begins = n + 1;
   commits = [];
   snapshots = [];
   went = went_then went did.went;
   serves = λ x there. absurd (none_in_nil x there);
   shown = λ low high total is. absurd (none low high total is);
+  came_to = came;
 }
-task_once wanted tells none (Err why) n b c d went did = record {
+task_once most wanted tells none (Err why) n b c d went did came = record {
   begins = n + 1;
   commits = [];
   snapshots = [];
   went = went_then went did.went;
   serves = λ x there. absurd (none_in_nil x there);
   shown = λ low high total is. absurd (none low high total is);
+  came_to = came;
 }
 
 pub did_task : {InVain : Type 0} (wanted : Task) (tells : Told) → ((low high total : ℕ) → tells ≡ told.Total low high total → ⊥) → (result : Result Outcome Refusal) (most : ℕ) (c d : Transcript)
-    → Tried IsPassing (ServedOnce wanted result) InVain most c d → DidErrand (errand.Serve wanted) tells c d
-did_task wanted tells none result most c d tried =
+    → Tried IsPassing (ServedOnce wanted result) InVain most c d → CameTo most (errand.Serve wanted) tells c d → DidErrand most (errand.Serve wanted) tells c d
+did_task wanted tells none result most c d tried came =
     let vain = vain_went IsPassing tried.vain c tried.before tried.in_vain in
-    task_once wanted tells none result vain.0 c tried.before d vain.1 tried.came_to
+    task_once most wanted tells none result vain.0 c tried.before d vain.1 tried.came_to came
 
 -- AUDITS
 same_low : (a b m x y n : ℕ) → told.Total a b m ≡ told.Total x y n → a ≡ x
@@ -84,8 +88,8 @@ abbrev Found : Type 0
 Found = List (ℕ × List ℕ)
 
 -- one that was answered, of which this total is told
-pub did_audit : {InVain : Type 0} (low high total : ℕ) (both : Found × Found) (most : ℕ) (c d : Transcript) → high < 2 ^ 64 → AddUpTo both.0 both.1 total
-    → Tried IsUnsafe (AuditedOnce low high (Ok both)) InVain most c d → DidErrand (errand.Audit low high) (told.Total low high total) c d
+pub did_audit : (low high total : ℕ) (both : Found × Found) (most : ℕ) (c d : Transcript) → high < 2 ^ 64 → AddUpTo both.0 both.1 total
+    → Audited low high most (Ok both) c d → DidErrand most (errand.Audit low high) (told.Total low high total) c d
 did_audit low high total both most c d below adds tried =
     let vain = vain_went IsUnsafe tried.vain c tried.before tried.in_vain in
     let did = tried.came_to in
@@ -100,6 +104,7 @@ did_audit low high total both most c d below adds tried =
           (subst (λ (n : ℕ). IsShown low n t (did.snapshot ∷ [])) (same_high low high total l h t is)
           (subst (λ (n : ℕ). IsShown low high n (did.snapshot ∷ [])) (same_total low high total l h t is)
           (record { below = below; snapshot = did.snapshot; there = (0, refl); current = both.0; savings = both.1; audits = did.audits; adds_up = adds })));
+      came_to = ((refl, refl), (both, tried, adds));
     }
 
 -- one of which none is told
@@ -108,8 +113,8 @@ audit_went low high (Ok both) c d did = (did.snapshot ∷ [], did.went)
 audit_went low high (Err why) c d did = ([], did.went)
 
 pub did_look : {InVain : Type 0} (low high : ℕ) (tells : Told) → ((l h t : ℕ) → tells ≡ told.Total l h t → ⊥) → (result : Result (Found × Found) Refusal) (most : ℕ) (c d : Transcript)
-    → Tried IsUnsafe (AuditedOnce low high result) InVain most c d → DidErrand (errand.Audit low high) tells c d
-did_look low high tells none result most c d tried =
+    → Tried IsUnsafe (AuditedOnce low high result) InVain most c d → CameTo most (errand.Audit low high) tells c d → DidErrand most (errand.Audit low high) tells c d
+did_look low high tells none result most c d tried came =
     let vain = vain_went IsUnsafe tried.vain c tried.before tried.in_vain in
     let did = audit_went low high result tried.before d tried.came_to in
     record {
@@ -119,6 +124,7 @@ did_look low high tells none result most c d tried =
       went = went_then vain.1 did.1;
       serves = λ x there. absurd (none_in_nil x there);
       shown = λ l h t is. absurd (none l h t is);
+      came_to = came;
     }
 
 -- WHAT FOLLOWS. The tasks' transactions are the tellers'.
@@ -141,20 +147,32 @@ shown_now low high total ss more all is s =
     subst (λ (xs : List Committed). IsShown low high total xs) (sym is)
     (record { below = s.below; snapshot = s.snapshot; there = ∈-second ss more s.snapshot s.there; current = s.current; savings = s.savings; audits = s.audits; adds_up = s.adds_up })
 
--- WHAT A TELLER TELLS so far, and one thing more where there is memory for it.
-pub in_pushed : {X : Type 0} (ok : Bool) (xs ys : List X) (y x : X) → ys ≡ (if ok then xs ++ y ∷ [] else xs) → x ∈ ys → (x ∈ xs) ⊎ (x ≡ y)
-in_pushed true xs ys y x is there = ∈-push xs y x (subst (λ (l : List _). x ∈ l) is there)
-in_pushed false xs ys y x is there = inl (subst (λ (l : List _). x ∈ l) is there)
+-- ERRANDS IN TURN: one more.
+pub did_more : (most : ℕ) (tells : List Told) (errands : List Errand) (asked : Errand) (tell : Told) (c d e : Transcript) → slice_get errands (length tells) ≡ Some asked
+    → DidAll most tells errands c d → CameTo most asked tell d e → DidAll most (tells ++ tell ∷ []) errands c e
+did_more most [] [] asked tell c d e at same came = absurd (none_in_nil asked (0, at))
+did_more most [] (x ∷ xs) asked tell c d e at same came =
+    let it : Some x ≡ Some asked = at in
+    let is : x ≡ asked = cc in
+    (e, subst (λ (y : Transcript). CameTo most x tell y e) same (subst (λ (y : Errand). CameTo most y tell d e) (sym is) came), refl)
+did_more most (t ∷ ts) [] asked tell c d e at did came = absurd did
+did_more most (t ∷ ts) (x ∷ xs) asked tell c d e at (mid, first, rest) came = (mid, first, did_more most ts xs asked tell mid d e at rest came)
 
-module _ (errands : List Errand) (asked : Errand) (among : asked ∈ errands) (c d : Transcript) (tells : Told) (did : DidErrand asked tells c d) where
+pub longer_told : (before : List Told) (tell : Told) (after : List Told) (place : ℕ) → after ≡ before ++ tell ∷ [] → length before ≡ place → length after ≡ place + 1
+longer_told before tell after place is long =
+    let more : length after ≡ length before + 1 = ap (λ (ts : List Told). length ts) is ∙ length-append before (tell ∷ []) in
+    omega (arith, more, long)
+
+-- WHAT A TELLER TELLS so far, and one thing more.
+module _ (most : ℕ) (errands : List Errand) (asked : Errand) (among : asked ∈ errands) (c d : Transcript) (tells : Told) (did : DidErrand most asked tells c d) where
   pub serves_more : AllCommitted (IsServing errands) c → AllCommitted (IsServing errands) d
   serves_more all = all_went (IsServing errands) did.went (λ x there. let it = did.serves x there in (it.0, subst (λ (e : Errand). e ∈ errands) it.1 among, it.2)) all
 
-  pub shows_more : (ok : Bool) (before after : List Told) → after ≡ (if ok then before ++ tells ∷ [] else before)
+  pub shows_more : (before after : List Told) → after ≡ before ++ tells ∷ []
       → ((low high total : ℕ) → told.Total low high total ∈ before → IsShown low high total (snapshots_told c))
       → (low high total : ℕ) → told.Total low high total ∈ after → IsShown low high total (snapshots_told d)
-  shows_more ok before after is all low high total there =
-      elim (in_pushed ok before after tells (told.Total low high total) is there) as (λ _. IsShown low high total (snapshots_told d)) [
+  shows_more before after is all low high total there =
+      elim (∈-push before tells (told.Total low high total) (subst (λ (l : List Told). told.Total low high total ∈ l) is there)) as (λ _. IsShown low high total (snapshots_told d)) [
         | inl earlier ↦ shown_still low high total (snapshots_told c) did.snapshots (snapshots_told d) did.went.snapshots_are (all low high total earlier)
         | inr now ↦ shown_now low high total (snapshots_told c) did.snapshots (snapshots_told d) did.went.snapshots_are (did.shown low high total (sym now))
       ]

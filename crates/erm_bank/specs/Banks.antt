@@ -85,7 +85,8 @@ AuditsStandInOrder = (before after : Option (List Step)) (state : State) (all : 
     → (c : Transcript) → c ∈ all → (x : Committed) → x ∈ snapshots_told c → (low high total : ℕ) (current savings : List (ℕ × List ℕ)) → high < 2 ^ 64
     → Audits low high current savings x.steps → AddUpTo current savings total → StoodInOrder (all_commits all) (map_of state) low high total
 
--- WHAT IS SO OF A BANK on a disk whose tellers ran. No crash at any moment leaves a customer who owes more than he has, where none did when the disk was opened;
+-- WHAT IS SO OF A BANK on a disk whose tellers ran, where their transcripts have fewer than 2^32 lines in all. No image that a crash leaves at any moment, and
+-- that shows each block and each slot whole, or none, has a customer who owes more than he has, where none did when the disk was opened;
 -- and where the tellers were asked only for transfers among some customers, and for audits, these hold as much in all, whatever crash there was. Each total that
 -- a teller tells was one, also where the disk failed or memory ran out; and in such a bank it is what the customers held when the disk was opened. Where the
 -- disk hasn't failed, and memory ran out for none within a line, the end is as a crash leaves it, and each total was one in the serial order of all commits.

@@ -19,9 +19,11 @@ use std::alloc::Global;
 use std::sync::Wait;
 use std::thread::Threads;
 
-/// Runs tellers on a disk, each with the client of a session of its own. A crash at any moment leaves customers who are solvent, where they were so when the
-/// disk was opened; and where the tellers only transfer among some of them, and audit, these hold as much in all. Each total that a teller tells was one. So it
-/// is where the disk fails, or memory runs out; where neither was, it is so of the end too, and each total was one in the serial order of all that committed.
+/// Runs tellers on a disk, each with the client of a session of its own. Where their clients have fewer than 2^32 lines in all, an image that a crash leaves at
+/// any moment, and that shows each block and each slot whole, or none, has customers who are solvent, where they were so when the disk was opened; and where
+/// the tellers only transfer among some of them, and audit, these hold as much in all. Each total that a teller tells was one. So it is where the disk fails, or
+/// memory runs out; where neither was, it is so of the end too, and each total was one in the serial order of all that committed. Each teller keeps what he
+/// promises: he does his errands in turn, and tells in its place what each came to.
 ///
 /// ```text
 /// let ProgramsOnDisk { disk, ended } = run_bank(rt, alloc, disk, &gate, tellers);

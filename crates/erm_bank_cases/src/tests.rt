@@ -42,6 +42,8 @@ const WITHDRAWAL: Errand = Errand::Serve(Task::Withdraw {
     amount: 101,
 });
 
+const DONE: Told = Told::Served(Outcome::Done);
+
 const SHORT: Told = Told::Served(Outcome::Short);
 
 // The calls of a disk behind one of which it fails: some are in the opening of its log, others at turns of the desk.
@@ -66,7 +68,7 @@ fn transfer(payer: u64, payee: u64, amount: u64) -> Errand {
 
 // A teller who is asked for this.
 fn teller(alloc: Global, errands: &[Errand]) -> Result<Teller, AllocError> {
-    Ok(Teller::new(alloc, Vec::from_slice(alloc, errands)?, TRIES))
+    Teller::new(alloc, Vec::from_slice(alloc, errands)?, TRIES)
 }
 
 // Tellers whose transfers go round among three customers, and who audit between them.
@@ -139,7 +141,7 @@ fn with_hundred<R: Threads + Wait + Sync>(rt: &R, alloc: Global) -> Result<Silen
         high: 9,
         total: 0,
     };
-    if told.as_slice() != [empty, Told::Served(Outcome::Done)].as_slice() {
+    if told.as_slice() != [empty, DONE].as_slice() {
         return Err(Fail::new("the deposit isn't done"));
     }
     Ok(disk)
@@ -157,6 +159,18 @@ fn tell_hundred(ran: &ProgramsRan<Teller>) -> bool {
         }
     }
     true
+}
+
+// Whether a transfer was done: nothing else that the three are asked for can be.
+fn some_is_done(ran: &ProgramsRan<Teller>) -> bool {
+    for run in ran.programs.as_slice() {
+        for told in run.program.told.as_slice() {
+            if *told == DONE {
+                return true;
+            }
+        }
+    }
+    false
 }
 
 // Whether one alone finds what there was, on a disk after a crash, and can't withdraw more.
@@ -191,6 +205,19 @@ fn stopped<R: Threads + Wait + Sync>(
     }
 }
 
+// One alone tells in its place what each errand came to.
+#[test]
+fn one_tells_each(rt: HostRuntime) -> Result<(), Fail> {
+    let alloc = rt.alloc();
+    let disk = Silent {
+        disk: MemDisk::new(alloc),
+    };
+    let errands = [DEPOSIT, WITHDRAWAL, transfer(7, 8, 40), AUDIT];
+    let (_, told) = alone(&rt, alloc, disk, &errands)?;
+    assert!(rt; told.as_slice() == [DONE, SHORT, DONE, SHOWN].as_slice());
+    Ok(())
+}
+
 // Tellers side by side leave the total, and so does a crash behind them that keeps only what was waited for.
 #[test]
 fn tellers_keep_the_total(rt: HostRuntime) -> Result<(), Fail> {
@@ -201,6 +228,7 @@ fn tellers_keep_the_total(rt: HostRuntime) -> Result<(), Fail> {
         return Err(Fail::new("the log isn't opened"));
     };
     assert!(rt; !ran.failed && ran.programs.len() == 3 && tell_hundred(&ran));
+    assert!(rt; some_is_done(&ran), "no transfer is done");
     assert!(rt;
         finds_hundred(&rt, alloc, &disk, Pick::Nothing)?,
         "behind a crash"

@@ -9,7 +9,9 @@ returns-in-Some-clause-did g c =
 pub returns-in-Ok-clause-did : goal.returns-in-Ok-clause-did
 returns-in-Ok-clause-did g c =
     did_look c.args.low c.args.high told.NoTotal (λ low high total is. cc) c.audit.result _ c.args.client.now.transcript c.audit.new.client.transcript c.audit.ensures.ended
+    (c.in-Ok.found, c.in-Ok.ensures.ended, c.in-None.ensures.none)
 
 pub returns-clause-did : goal.returns-clause-did
 returns-clause-did g c =
     did_look c.args.low c.args.high told.Refused (λ low high total is. cc) c.audit.result _ c.args.client.now.transcript c.audit.new.client.transcript c.audit.ensures.ended
+    (_, c.in-Err.ensures.ended)
