@@ -7,7 +7,7 @@ use Rattle.arrayvec.specs.ArrayVec.{ArrayVec}
 use Rattle.erm_bytes.specs.Digest.{digest_of}
 use Rattle.erm_block.specs.declared.block.Block.{Block}
 use Rattle.erm_block.specs.declared.block.Kind.{Kind}
-use Rattle.erm_block.specs.declared.block.Kind.TheVariants.{OldCommit, OldSkip, Open, Commit, Skip}
+use Rattle.erm_block.specs.declared.block.Kind.TheVariants.{OldCommit, OldSkip, Open, Commit, Skip, Mark}
 use Rattle.erm_record.specs.Stored.{stored_length}
 use Rattle.erm_block.specs.declared.block.Form.{Form}
 use Rattle.erm_block.specs.declared.block.Form.TheVariants.{Whole, Stored}
@@ -35,6 +35,7 @@ same_code OldSkip OldSkip e = refl
 same_code Open Open e = refl
 same_code Commit Commit e = refl
 same_code Skip Skip e = refl
+same_code Mark Mark e = refl
 same_code j k e = absurd (omega arith)
 
 code_low : (k : Kind) → code_of k < 16
@@ -43,6 +44,7 @@ code_low OldSkip = omega arith
 code_low Open = omega arith
 code_low Commit = omega arith
 code_low Skip = omega arith
+code_low Mark = omega arith
 
 pub same_header : (j k : Kind) (m n r s : ℕ) → m < 2 ^ 16 → n < 2 ^ 16 → header_word j m r ≡ header_word k n s → SameHeader j k m n r s
 same_header j k m n r s small_m small_n e =
@@ -116,6 +118,7 @@ module _ (short : (row : List ℕ) → stored_length row ≤ length row) (whole 
   same_rows Open a b run_a run_b p q rules_a rules_b count e = ap (λ (es : List Entry). rows_of es) (rules_a.no_rows ∙ sym rules_b.no_rows)
   same_rows Commit a b run_a run_b p q rules_a rules_b count e = same_commit Stored a b run_a run_b p q rules_a rules_b count e
   same_rows Skip a b run_a run_b p q rules_a rules_b count e = ap (λ (es : List Entry). rows_of es) (rules_a.no_rows ∙ sym rules_b.no_rows)
+  same_rows Mark a b run_a run_b p q rules_a rules_b count e = ap (λ (es : List Entry). rows_of es) (rules_a.no_rows ∙ sym rules_b.no_rows)
 
   -- where two spellings stand at one place, they are of one block
   pub same_from_spelling : (a b : Block) (at_a run_a at_b run_b : ℕ) (x y : List ℕ) → IsBlock a at_a run_a → IsBlock b at_b run_b → spelling a ++ x ≡ spelling b ++ y → a ≡ b

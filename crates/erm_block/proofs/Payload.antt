@@ -6,7 +6,7 @@ use Rattle.erm_block.specs.declared.block.Block.{Block}
 use Rattle.erm_block.specs.declared.block.Form.{Form}
 use Rattle.erm_block.specs.declared.block.Form.TheVariants.{Whole, Stored}
 use Rattle.erm_block.specs.declared.block.Kind.{Kind}
-use Rattle.erm_block.specs.declared.block.Kind.TheVariants.{OldCommit, OldSkip, Open, Commit, Skip}
+use Rattle.erm_block.specs.declared.block.Kind.TheVariants.{OldCommit, OldSkip, Open, Commit, Skip, Mark}
 use Rattle.erm_block.specs.Block.{IsSkip, KeepsRulesOf}
 use Rattle.erm_block.specs.Spelling.{payload_of}
 use Rattle.erm_block.proofs.EntryWords.{length-entries}
@@ -24,3 +24,4 @@ module _ (short : (row : List ℕ) → stored_length row ≤ length row) where
   length-payload_of Open block run_before rules = omega (arith, rules.size)
   length-payload_of Commit block run_before rules = omega (arith, length-entries short Stored block.rows.items rules.rows.each, rules.size)
   length-payload_of Skip block run_before rules = length-zeros Stored block run_before rules
+  length-payload_of Mark block run_before rules = omega (arith, rules.size)

@@ -7,7 +7,7 @@ use Rattle.arrayvec.specs.ArrayVec.{ArrayVec}
 use Rattle.erm_bytes.specs.Digest.{digest_of}
 use Rattle.erm_block.specs.declared.block.Block.{Block}
 use Rattle.erm_block.specs.declared.block.Kind.{Kind}
-use Rattle.erm_block.specs.declared.block.Kind.TheVariants.{OldCommit, OldSkip, Open, Commit, Skip}
+use Rattle.erm_block.specs.declared.block.Kind.TheVariants.{OldCommit, OldSkip, Open, Commit, Skip, Mark}
 use Rattle.erm_model.specs.declared.limits.TheConstants.{GREATEST_BLOCK}
 use Rattle.erm_record.specs.Stored.{stored_length}
 use Rattle.erm_block.specs.declared.block.Form.{Form}
@@ -101,6 +101,9 @@ module _ (short : (row : List ℕ) → stored_length row ≤ length row) where
       let t = rules.transaction in
       commit_in_range Stored block run_before rules (omega (arith, t.few, rules.size, rules.count, stored_few short block.rows.items rules.rows.each))
   in_range Skip block run_before rules = skip_in_range Stored block run_before rules
+  in_range Mark block run_before rules =
+      let t = rules.snapshot in
+      record { seat = omega (arith, t.seat_high); n = omega (arith, rules.no_count); number = t.number_high; size = omega (arith, rules.size) }
 
 -- what stands where in words that spell a block
 pub record HasFront (words : List ℕ) (block : Block) (behind : List ℕ) : Type 0 where

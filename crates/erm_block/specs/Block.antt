@@ -8,8 +8,8 @@ use Rattle.erm_block.specs.declared.block.Block.{Block}
 use Rattle.erm_block.specs.declared.block.Form.{Form}
 use Rattle.erm_block.specs.declared.block.Form.TheVariants.{Whole, Stored}
 use Rattle.erm_block.specs.declared.block.Kind.{Kind}
-use Rattle.erm_block.specs.declared.block.Kind.TheVariants.{OldCommit, OldSkip, Open, Commit, Skip}
-use Rattle.erm_block.specs.declared.block.TheConstants.{BLOCK_ROWS, ENTRY_WORDS, RUN_END}
+use Rattle.erm_block.specs.declared.block.Kind.TheVariants.{OldCommit, OldSkip, Open, Commit, Skip, Mark}
+use Rattle.erm_block.specs.declared.block.TheConstants.{BLOCK_ROWS, ENTRY_WORDS, LEAST_SAFE, RUN_END}
 
 -- an object's number, and its row
 abbrev pub Entry : Type 0
@@ -40,7 +40,7 @@ pub record IsSizeFor (form : Form) (n size : ℕ) : Type 0 where
   pub count : length entries ≡ n
   pub size_is : size ≡ size_with form entries
 
--- the block is about a transaction: it names one, and has its successor stamp
+-- the block is about a transaction, or a snapshot that is marked: it names it, and has its successor stamp, or its begin stamp
 pub record NamesTransaction (block : Block) : Type 0 where
   -- it is of one of the sessions
   pub seat_low : 1 ≤ block.seat
@@ -50,7 +50,7 @@ pub record NamesTransaction (block : Block) : Type 0 where
   pub number_high : block.number < 2 ^ 32
   -- it wrote no more rows than a block has
   pub few : block.n ≤ BLOCK_ROWS
-  -- the successor stamp is from 1 to the commit stamp
+  -- that stamp is from 1 to the block's place
   pub succ_low : 1 ≤ block.succ
   pub succ_high : block.succ ≤ block.stamp
 
@@ -82,6 +82,21 @@ pub record IsOpen (block : Block) (run_before : ℕ) : Type 0 where
   pub no_succ : block.succ ≡ 0
   pub no_rows : block.rows.items ≡ []
 
+-- The begin stamp of a safe snapshot is marked: the block names the snapshot, has that stamp where others have a successor stamp, and no rows.
+pub record IsMark (block : Block) (run_before : ℕ) : Type 0 where
+  pub snapshot : NamesTransaction block
+  -- it is of the same run as the block before
+  pub run : block.run ≡ run_before
+  pub size : block.size ≡ LEAST_BLOCK
+  pub no_count : block.n ≡ 0
+  -- the stamp is one of the log
+  pub safe : LEAST_SAFE ≤ block.succ
+  pub no_rows : block.rows.items ≡ []
+
+-- the safe stamp that a mark names
+abbrev pub safe_of : Block → ℕ
+safe_of block = block.succ
+
 -- what a block of this kind keeps
 abbrev pub KeepsRulesOf : Kind → Block → ℕ → Type 0
 KeepsRulesOf OldCommit block run_before = IsCommit Whole block run_before
@@ -89,6 +104,7 @@ KeepsRulesOf OldSkip block run_before = IsSkip Whole block run_before
 KeepsRulesOf Open block run_before = IsOpen block run_before
 KeepsRulesOf Commit block run_before = IsCommit Stored block run_before
 KeepsRulesOf Skip block run_before = IsSkip Stored block run_before
+KeepsRulesOf Mark block run_before = IsMark block run_before
 
 -- a block of the grammar at this place of the log, behind a block of this run
 pub record IsBlock (block : Block) (at run_before : ℕ) : Type 0 where

@@ -3,7 +3,7 @@ use Rattle.std.specs.Prelude.{ℕ, ◌+◌, ◌≤◌, List, [], ◌∷◌, leng
 use Rattle.erm_model.specs.Rows.{Rows, set_row}
 use Rattle.erm_block.specs.declared.block.Block.{Block}
 use Rattle.erm_block.specs.declared.block.Kind.{Kind}
-use Rattle.erm_block.specs.declared.block.Kind.TheVariants.{OldCommit, OldSkip, Open, Commit, Skip}
+use Rattle.erm_block.specs.declared.block.Kind.TheVariants.{OldCommit, OldSkip, Open, Commit, Skip, Mark}
 use Rattle.erm_block.specs.Block.{Entry}
 use Rattle.erm_block.specs.Spelling.{StandsAt}
 
@@ -19,6 +19,7 @@ rows_after_kind OldSkip block rows = rows
 rows_after_kind Open block rows = rows
 rows_after_kind Commit block rows = set_rows block.rows.items rows
 rows_after_kind Skip block rows = rows
+rows_after_kind Mark block rows = rows
 
 -- the rows after a block
 abbrev pub rows_after_block : Block → Rows → Rows

@@ -7,7 +7,7 @@ use Rattle.erm_block.specs.declared.block.Block.{Block}
 use Rattle.erm_block.specs.declared.block.Form.{Form}
 use Rattle.erm_block.specs.declared.block.Form.TheVariants.{Whole, Stored}
 use Rattle.erm_block.specs.declared.block.Kind.{Kind}
-use Rattle.erm_block.specs.declared.block.Kind.TheVariants.{OldCommit, OldSkip, Open, Commit, Skip}
+use Rattle.erm_block.specs.declared.block.Kind.TheVariants.{OldCommit, OldSkip, Open, Commit, Skip, Mark}
 use Rattle.erm_model.specs.declared.header.TheConstants.{RUN_UNIT, SIZE_UNIT}
 use Rattle.erm_model.specs.declared.limits.TheConstants.{LEAST_BLOCK}
 use Rattle.erm_block.specs.declared.words.TheConstants.{COUNT_UNIT, LENGTH_UNIT, NUMBER_UNIT}
@@ -20,6 +20,7 @@ code_of OldSkip = 2
 code_of Open = 3
 code_of Commit = 4
 code_of Skip = 5
+code_of Mark = 6
 
 -- the header: the kind in bits 0 to 3, the size in bits 4 to 19, the run in bits 20 to 63
 abbrev pub header_word : Kind → ℕ → ℕ → ℕ
@@ -51,6 +52,7 @@ payload_of OldSkip block = replicate (block.size - LEAST_BLOCK) 0
 payload_of Open block = []
 payload_of Commit block = flat_map (entry_words Stored) block.rows.items
 payload_of Skip block = replicate (block.size - LEAST_BLOCK) 0
+payload_of Mark block = []
 
 -- a block's words but the digest
 abbrev pub body_of : Block → List ℕ

@@ -19,6 +19,9 @@ pub const BLOCK_ROWS: usize = WRITE_LIMIT;
 /// The most words that a block has.
 pub const BLOCK_WORDS: usize = GREATEST_BLOCK as usize;
 
+/// No mark names a safe stamp below this one: the log begins there.
+pub const LEAST_SAFE: Stamp = 8;
+
 /// Runs are below.
 pub const RUN_END: u64 = LAST_RUN + 1;
 
@@ -36,6 +39,9 @@ pub enum Kind {
     Commit = 4,
     /// A transaction that was excluded: its place is passed over.
     Skip = 5,
+    /// A snapshot that was safe, which names its begin stamp: no commit at or above that stands in the serial order before one below. It sets
+    /// no rows.
+    Mark = 6,
 }
 
 /// How the rows of a commit stand in its block.
@@ -56,11 +62,11 @@ pub struct Block {
     pub run: u64,
     /// Its place in the log, which is the commit stamp.
     pub stamp: Stamp,
-    /// The transaction's successor stamp, or 0 where it is about none.
+    /// The transaction's successor stamp; the begin stamp of the snapshot that a mark is about; or 0 where it is about neither.
     pub succ: Stamp,
-    /// The transaction's session, or 0.
+    /// The session of the transaction or snapshot, or 0.
     pub seat: Seat,
-    /// The transaction's number in its session, or 0.
+    /// The number of the transaction or snapshot in its session, or 0.
     pub number: u32,
     /// How many rows the transaction wrote.
     pub n: u16,

@@ -1,10 +1,10 @@
 //! Whether a block keeps the rules.
 ghost use Rattle.std.specs.Prelude.{◌≡◌, ◌≢◌, ◌≤◌, ◌↔◌, IsTrue};
 ghost use Rattle.std.specs.List.{All, AllPairs, Any};
-ghost use Rattle.erm_block.specs.Block.{AreEntries, IsBlock, IsCommit, IsEntry, IsOpen, IsSizeFor, IsSkip, KeepsRulesOf, NamesTransaction};
+ghost use Rattle.erm_block.specs.Block.{AreEntries, IsBlock, IsCommit, IsEntry, IsMark, IsOpen, IsSizeFor, IsSkip, KeepsRulesOf, NamesTransaction};
 
 use crate::entries::size_with;
-use crate::{BLOCK_ROWS, Block, ENTRY_WORDS, FRAME_WORDS, Form, Kind, RUN_END};
+use crate::{BLOCK_ROWS, Block, ENTRY_WORDS, FRAME_WORDS, Form, Kind, LEAST_SAFE, RUN_END};
 use erm_model::{LOG_END, OID_LIMIT, Oid, Row, SESSIONS, Stamp};
 use erm_record::stored_words_tell_the_row;
 
@@ -28,6 +28,7 @@ fn keeps_rules(block: &Block, run_before: u64) -> bool
         Kind::Open => is_open(block, run_before),
         Kind::Commit => is_commit(block, Form::Stored, run_before),
         Kind::Skip => is_skip(block, Form::Stored, run_before),
+        Kind::Mark => is_mark(block, run_before),
     }
 }
 
@@ -72,6 +73,17 @@ fn is_open(block: &Block, run_before: u64) -> bool
         && block.number == 0
         && block.n == 0
         && block.succ == 0
+        && block.rows.is_empty()
+}
+
+fn is_mark(block: &Block, run_before: u64) -> bool
+    ensures { IsTrue result ↔ IsMark block.now run_before }
+{
+    names_transaction(block)
+        && block.run == run_before
+        && usize::from(block.size) == FRAME_WORDS
+        && block.n == 0
+        && block.succ >= LEAST_SAFE
         && block.rows.is_empty()
 }
 

@@ -39,6 +39,6 @@ fn write_payload(out: &mut [u64], block: &Block)
         Kind::OldCommit => write_entries(out, Form::Whole, &block.rows),
         Kind::Commit => write_entries(out, Form::Stored, &block.rows),
         Kind::OldSkip | Kind::Skip => out.fill(0),
-        Kind::Open => {}
+        Kind::Open | Kind::Mark => {}
     }
 }

@@ -10,7 +10,8 @@ mod read;
 mod words;
 
 pub use block::{
-    BLOCK_ROWS, BLOCK_WORDS, Block, ENTRY_WORDS, FRAME_WORDS, Form, HEAD_WORDS, Kind, RUN_END,
+    BLOCK_ROWS, BLOCK_WORDS, Block, ENTRY_WORDS, FRAME_WORDS, Form, HEAD_WORDS, Kind, LEAST_SAFE,
+    RUN_END,
 };
 pub use check::is_block;
 pub use encode::encode_into;

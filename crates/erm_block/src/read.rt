@@ -60,6 +60,6 @@ fn read_payload(payload: &[u64], kind: Kind, n: u16) -> Option<ArrayVec<(Oid, Ro
     match kind {
         Kind::OldCommit => read_entries(payload, Form::Whole, usize::from(n)),
         Kind::Commit => read_entries(payload, Form::Stored, usize::from(n)),
-        Kind::OldSkip | Kind::Skip | Kind::Open => Some(ArrayVec::new()),
+        Kind::OldSkip | Kind::Skip | Kind::Open | Kind::Mark => Some(ArrayVec::new()),
     }
 }

@@ -43,6 +43,7 @@ pub fn header_parts(word: u64) -> Option<(Kind, u16, u64)>
         3 => Kind::Open,
         4 => Kind::Commit,
         5 => Kind::Skip,
+        6 => Kind::Mark,
         _ => return None,
     };
     let size = word / SIZE_UNIT % (RUN_UNIT / SIZE_UNIT);

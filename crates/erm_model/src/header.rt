@@ -12,3 +12,6 @@ pub const COMMIT_KIND: u64 = 4;
 
 /// The kind of a block of a transaction that was excluded.
 pub const SKIP_KIND: u64 = 5;
+
+/// The kind of a block that marks the begin stamp of a safe snapshot.
+pub const MARK_KIND: u64 = 6;

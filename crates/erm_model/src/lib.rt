@@ -17,7 +17,7 @@ mod run;
 mod staying;
 mod value;
 
-pub use header::{COMMIT_KIND, RUN_UNIT, SIZE_UNIT, SKIP_KIND};
+pub use header::{COMMIT_KIND, MARK_KIND, RUN_UNIT, SIZE_UNIT, SKIP_KIND};
 pub use history::{Commit, TransactionRecord, VersionRead, VersionWritten};
 pub use key::Key;
 pub use laws::{

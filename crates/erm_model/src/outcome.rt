@@ -16,7 +16,7 @@ pub struct Receipt {
     pub pred: Stamp,
 }
 
-/// How a sealed transaction was decided.
+/// How a sealed transaction, or the mark of a safe snapshot, was decided.
 #[derive(Clone, Copy, PartialEq, Eq)]
 pub enum Outcome {
     /// It committed.
@@ -27,6 +27,11 @@ pub enum Outcome {
         succ: Stamp,
         pred: Stamp,
     },
+    /// It is no transaction: the log has the begin stamp `safe` of a safe snapshot, in a block at `stamp`, and the snapshot has ended.
+    Marked {
+        stamp: Stamp,
+        safe: Stamp,
+    },
 }
 
 /// Where a session stands between two calls.
@@ -36,7 +41,7 @@ pub enum Phase {
     Idle,
     /// Its transaction reads and writes.
     Active,
-    /// Its transaction has its commit stamp and waits to be decided.
+    /// Its transaction has its commit stamp and waits to be decided; or the mark of its safe snapshot has its place of the log and waits for room.
     Sealed,
     /// It has a snapshot that only reads, and isn't known to be safe yet.
     Pending,
