@@ -7,7 +7,7 @@ use Rattle.erm_model.specs.RowTransaction.{SameRows}
 use Rattle.erm_record.proofs.StoredRows.{stored_length-le, stored_whole}
 use Rattle.erm_block.specs.declared.block.Block.{Block}
 use Rattle.erm_block.specs.declared.block.Kind.{Kind}
-use Rattle.erm_block.specs.declared.block.Kind.TheVariants.{OldCommit, OldSkip, Open, Commit, Skip}
+use Rattle.erm_block.specs.declared.block.Kind.TheVariants.{OldCommit, OldSkip, Open, Commit, Skip, Mark}
 use Rattle.erm_block.specs.Block.{Entry}
 use Rattle.erm_block.specs.LogList.{End, IsChain, IsLogList, end_after, end_of, rows_after_block, rows_after_kind, set_rows}
 use Rattle.erm_outside.specs.declared.disk.File.TheVariants.{Slot0, Slot1}
@@ -68,6 +68,7 @@ after_same OldSkip block a b same = same
 after_same Open block a b same = same
 after_same Commit block a b same = set_all_same block.rows.items a b same
 after_same Skip block a b same = same
+after_same Mark block a b same = same
 
 states_same : (s t : State) (blocks : List Block) → SameState s t → SameState (state_behind s blocks) (state_behind t blocks)
 states_same s t [] same = same

@@ -34,6 +34,7 @@ module _ (size : (b : Block) (at run : ℕ) → IsBlock b at run → length (spe
   may_kind kind.Open b run f rules safe waits = tt
   may_kind kind.Commit b run f rules safe waits = (waits, rules.transaction.succ_high, safe)
   may_kind kind.Skip b run f rules safe waits = tt
+  may_kind kind.Mark b run f rules safe waits = tt
 
   pub may_hear : (log : LogPlace) (b : Block) (f : Followed) → IsBlock b log.at log.run → IsBelow (Some log) f → MayHear (seen_in_kind b.kind b) f
   may_hear log b f is below =
@@ -55,7 +56,7 @@ module _ (size : (b : Block) (at run : ℕ) → IsBlock b at run → length (spe
         (λ before. omega (arith, waits w before)),
   )
 
-  below_safe : (f g : Followed) (b : ℕ) (lines : List Commit) (at more : ℕ) → b ≡ at → 0 < more → f.safe ≤ at → ((w : Commit) → w ∈ f.waiting → w.stamp < at)
+  below_safe : (f g : Followed) (b : ℕ) (lines : List Commit) (at more : ℕ) → b ≤ at → 0 < more → f.safe ≤ at → ((w : Commit) → w ∈ f.waiting → w.stamp < at)
       → GivesNext f (seen.Safe b) lines g → (g.safe ≤ at + more) × ((w : Commit) → w ∈ g.waiting → w.stamp < at + more)
   below_safe f g b lines at more is some safe waits gives =
       let top : greatest f.base f.safe (seen.Safe b) ≤ at = greater f.base f.safe b at (nat_le f.base b) (nat_lt f.safe b) safe (omega (arith, is)) in (
@@ -70,16 +71,18 @@ module _ (size : (b : Block) (at run : ℕ) → IsBlock b at run → length (spe
     λ w there. omega (arith, waits w (subst (λ (x : Followed). w ∈ x.waiting) same there)),
   )
 
-  below_kind : (k : Kind) (b : Block) (f g : Followed) (lines : List Commit) (at more : ℕ) → b.stamp ≡ at → 0 < more → f.safe ≤ at → ((w : Commit) → w ∈ f.waiting → w.stamp < at)
+  below_kind : (k : Kind) (b : Block) (run : ℕ) (f g : Followed) (lines : List Commit) (at more : ℕ) → KeepsRulesOf k b run → b.stamp ≡ at → 0 < more → f.safe ≤ at → ((w : Commit) → w ∈ f.waiting → w.stamp < at)
       → Hears (seen_in_kind k b) f lines g → (g.safe ≤ at + more) × ((w : Commit) → w ∈ g.waiting → w.stamp < at + more)
-  below_kind kind.OldCommit b f g lines at more is some safe waits hears = below_commit f g (commit_in b) lines at more is some safe waits hears.1
-  below_kind kind.OldSkip b f g lines at more is some safe waits hears = below_nothing f g at more safe waits hears.1
-  below_kind kind.Open b f g lines at more is some safe waits hears = below_safe f g b.stamp lines at more is some safe waits hears.1
-  below_kind kind.Commit b f g lines at more is some safe waits hears = below_commit f g (commit_in b) lines at more is some safe waits hears.1
-  below_kind kind.Skip b f g lines at more is some safe waits hears = below_nothing f g at more safe waits hears.1
+  below_kind kind.OldCommit b run f g lines at more rules is some safe waits hears = below_commit f g (commit_in b) lines at more is some safe waits hears.1
+  below_kind kind.OldSkip b run f g lines at more rules is some safe waits hears = below_nothing f g at more safe waits hears.1
+  below_kind kind.Open b run f g lines at more rules is some safe waits hears = below_safe f g b.stamp lines at more (omega (arith, is)) some safe waits hears.1
+  below_kind kind.Commit b run f g lines at more rules is some safe waits hears = below_commit f g (commit_in b) lines at more is some safe waits hears.1
+  below_kind kind.Skip b run f g lines at more rules is some safe waits hears = below_nothing f g at more safe waits hears.1
+  below_kind kind.Mark b run f g lines at more rules is some safe waits hears =
+      let high = rules.snapshot.succ_high in below_safe f g b.succ lines at more (omega (arith, high, is)) some safe waits hears.1
 
   pub below_block : (log : LogPlace) (b : Block) (f g : Followed) (lines : List Commit) → IsBlock b log.at log.run → IsBelow (Some log) f → Hears (seen_in_kind b.kind b) f lines g
       → IsBelow (Some (record { at = b.stamp + b.size; run = b.run })) g
   below_block log b f g lines is below hears =
-      below_kind b.kind b f g lines b.stamp b.size refl (has_words b log.at log.run is) (omega (arith, below.0, is.stamp))
+      below_kind b.kind b log.run f g lines b.stamp b.size is.rules refl (has_words b log.at log.run is) (omega (arith, below.0, is.stamp))
       (λ w there. omega (arith, below.1 w there, is.stamp)) hears

@@ -6,6 +6,7 @@ use Rattle.erm_model.specs.Member.{◌∈◌}
 use Rattle.erm_block.specs.declared.block.Block.{Block}
 use Rattle.erm_block.specs.declared.block.Kind.{Kind}
 use Rattle.erm_block.specs.declared.block.Kind.TheVariants as kind
+use Rattle.erm_block.specs.Block.{safe_of}
 use Rattle.erm_ckpt.specs.declared.slot.TheConstants.{LOG_START}
 use Rattle.erm_follow.specs.declared.seen.Seen.{Seen}
 use Rattle.erm_follow.specs.declared.seen.Seen.TheVariants as seen
@@ -20,13 +21,15 @@ use Rattle.erm_replica.specs.Stream.Part.{base, block}
 abbrev pub commit_in : Block → Commit
 commit_in b = record { seat = b.seat; number = b.number; stamp = b.stamp; succ = b.succ }
 
--- what a block of this kind tells: its commit, or that its stamp is safe, where a run opens; one that is passed over tells nothing
+-- what a block of this kind tells: its commit; or that its stamp is safe, where a run opens, or the stamp that it names, a mark; one that is
+-- passed over tells nothing
 abbrev pub seen_in_kind : Kind → Block → Option Seen
 seen_in_kind kind.OldCommit b = Some (seen.Commit (commit_in b))
 seen_in_kind kind.OldSkip b = None
 seen_in_kind kind.Open b = Some (seen.Safe b.stamp)
 seen_in_kind kind.Commit b = Some (seen.Commit (commit_in b))
 seen_in_kind kind.Skip b = None
+seen_in_kind kind.Mark b = Some (seen.Safe (safe_of b))
 
 -- what a part tells
 abbrev pub seen_in : Part → Option Seen

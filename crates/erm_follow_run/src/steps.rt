@@ -51,7 +51,8 @@ fn hear(alloc: Global, follow: &mut Follow, block: &Block) -> Result<Vec<Commit>
     }
 }
 
-// What a block tells: its commit, or that its stamp is safe, where a run opens; one that is passed over tells nothing.
+// What a block tells: its commit; or that its stamp is safe, where a run opens, or the stamp that it names, a mark; one that is passed over
+// tells nothing.
 fn seen_in(block: &Block) -> Option<Seen>
     ensures { result ≡ seen_in_kind block.now.kind block.now }
 {
@@ -63,6 +64,7 @@ fn seen_in(block: &Block) -> Option<Seen>
             succ: block.succ,
         })),
         Kind::Open => Some(Seen::Safe(block.stamp)),
+        Kind::Mark => Some(Seen::Safe(block.succ)),
         Kind::OldSkip | Kind::Skip => None,
     }
 }

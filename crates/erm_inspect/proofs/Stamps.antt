@@ -18,6 +18,7 @@ has_words kind.OldSkip block run rules = omega (arith, rules.size.size_is)
 has_words kind.Open block run rules = omega (arith, rules.size)
 has_words kind.Commit block run rules = omega (arith, rules.size)
 has_words kind.Skip block run rules = omega (arith, rules.size.size_is)
+has_words kind.Mark block run rules = omega (arith, rules.size)
 
 -- the stamps ascend strictly, from a place on
 abbrev AscendFrom : ℕ → List Commit → Type 0
@@ -35,6 +36,7 @@ ascend_more kind.OldSkip block low more cs is lt ascend = ascend_lower more low 
 ascend_more kind.Open block low more cs is lt ascend = ascend_lower more low cs (omega (arith, lt)) ascend
 ascend_more kind.Commit block low more cs is lt ascend = (omega (arith, is), ascend_lower more (suc block.stamp) cs (omega (arith, is, lt)) ascend)
 ascend_more kind.Skip block low more cs is lt ascend = ascend_lower more low cs (omega (arith, lt)) ascend
+ascend_more kind.Mark block low more cs is lt ascend = ascend_lower more low cs (omega (arith, lt)) ascend
 
 module _ (sound : Rows → Type 0) where
   ascend_chain : (end : End) (blocks : List Block) → IsChain sound end blocks → AscendFrom end.at (commits_of blocks)

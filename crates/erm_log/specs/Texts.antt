@@ -7,8 +7,8 @@ use Rattle.erm_record.specs.Record.{record_value}
 use Rattle.erm_node.specs.Node.{Shape, node_of}
 use Rattle.erm_block.specs.declared.block.Block.{Block}
 use Rattle.erm_block.specs.declared.block.Kind.{Kind}
-use Rattle.erm_block.specs.declared.block.Kind.TheVariants.{OldCommit, OldSkip, Open, Commit, Skip}
-use Rattle.erm_block.specs.Block.{Entry}
+use Rattle.erm_block.specs.declared.block.Kind.TheVariants.{OldCommit, OldSkip, Open, Commit, Skip, Mark}
+use Rattle.erm_block.specs.Block.{Entry, safe_of}
 use Rattle.erm_ckpt.specs.Recovered.{State}
 use Rattle.erm_log.specs.declared.behind.Behind.{Behind}
 use Rattle.erm_log.specs.declared.behind.Behind.TheVariants.{Nothing, Noise, Stands}
@@ -20,10 +20,15 @@ kind_word OldSkip = codes " old skip"
 kind_word Open = codes " open"
 kind_word Commit = codes " commit"
 kind_word Skip = codes " skip"
+kind_word Mark = codes " mark"
 
 -- the transaction that a block is about: its session, its number and its successor stamp
 abbrev pub transaction_text : Block → List ℕ
 transaction_text block = codes " seat " ++ decimal block.seat ++ codes " number " ++ decimal block.number ++ codes " succ " ++ decimal block.succ
+
+-- the snapshot that a mark is about: its session, its number, and its begin stamp, which is safe
+abbrev pub snapshot_text : Block → List ℕ
+snapshot_text block = codes " seat " ++ decimal block.seat ++ codes " number " ++ decimal block.number ++ codes " safe " ++ decimal (safe_of block)
 
 abbrev pub about_text : Kind → Block → List ℕ
 about_text OldCommit block = transaction_text block
@@ -31,6 +36,7 @@ about_text OldSkip block = transaction_text block
 about_text Open block = []
 about_text Commit block = transaction_text block
 about_text Skip block = transaction_text block
+about_text Mark block = snapshot_text block
 
 -- the first line of a block: its place, its kind, its run, what it is about, and how many words it has
 abbrev pub head_text : Block → List ℕ

@@ -2,7 +2,7 @@
 ghost use Rattle.std.specs.Prelude.{◌≡◌, ◌++◌, OnOk};
 ghost use Rattle.std.specs.List.{flat_map};
 ghost use Rattle.erm_node.specs.NodeShape.{shape_of};
-ghost use Rattle.erm_log.specs.Texts.{about_text, block_text, head_text, kind_word, node_text, pair_text, place_text, row_text, transaction_text, value_text};
+ghost use Rattle.erm_log.specs.Texts.{about_text, block_text, head_text, kind_word, node_text, pair_text, place_text, row_text, snapshot_text, transaction_text, value_text};
 ghost use Rattle.std.specs.Prelude.{Some, None};
 ghost use Rattle.erm_node.specs.Node.{node_of};
 ghost use Rattle.erm_record.specs.Record.{record_value};
@@ -61,15 +61,17 @@ fn kind_word(kind: Kind) -> &'static [u8]
         Kind::Open => b" open",
         Kind::Commit => b" commit",
         Kind::Skip => b" skip",
+        Kind::Mark => b" mark",
     }
 }
 
-// Adds the transaction that a block is about, if it is about one.
+// Adds the transaction or snapshot that a block is about, if it is about one.
 fn push_about(out: &mut Vec<u8>, block: &Block) -> Result<(), AllocError>
     ensures { OnOk result (out.new.items ≡ out.old.items ++ about_text block.now.kind block.now) }
 {
     match block.kind {
         Kind::OldCommit | Kind::OldSkip | Kind::Commit | Kind::Skip => push_transaction(out, block),
+        Kind::Mark => push_snapshot(out, block),
         Kind::Open => Ok(()),
     }
 }
@@ -81,6 +83,15 @@ fn push_transaction(out: &mut Vec<u8>, block: &Block) -> Result<(), AllocError>
     push_count(out, b" seat ", u64::from(block.seat))?;
     push_count(out, b" number ", u64::from(block.number))?;
     push_count(out, b" succ ", block.succ)
+}
+
+// Adds the snapshot of a mark.
+fn push_snapshot(out: &mut Vec<u8>, block: &Block) -> Result<(), AllocError>
+    ensures { OnOk result (out.new.items ≡ out.old.items ++ snapshot_text block.now) }
+{
+    push_count(out, b" seat ", u64::from(block.seat))?;
+    push_count(out, b" number ", u64::from(block.number))?;
+    push_count(out, b" safe ", block.succ)
 }
 
 // Adds the line of a row.

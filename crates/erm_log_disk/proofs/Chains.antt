@@ -7,7 +7,7 @@ use Rattle.erm_model.specs.Rows.{Rows}
 use Rattle.erm_record.specs.Stored.{stored_length}
 use Rattle.erm_block.specs.declared.block.Block.{Block}
 use Rattle.erm_block.specs.declared.block.Kind.{Kind}
-use Rattle.erm_block.specs.declared.block.Kind.TheVariants.{OldCommit, OldSkip, Open, Commit, Skip}
+use Rattle.erm_block.specs.declared.block.Kind.TheVariants.{OldCommit, OldSkip, Open, Commit, Skip, Mark}
 use Rattle.erm_block.specs.Block.{IsBlock, KeepsRulesOf}
 use Rattle.erm_block.specs.LogList.{Continues, End, end_after, end_of, IsChain, IsLogList, rows_after_block}
 use Rattle.erm_block.specs.Spelling.{spelling, Spells, StandsAt}
@@ -26,6 +26,7 @@ run_of_kind OldSkip block run rules = let e = rules.run in omega arith
 run_of_kind Open block run rules = let e = rules.run in omega arith
 run_of_kind Commit block run rules = let e = rules.run in omega arith
 run_of_kind Skip block run rules = let e = rules.run in omega arith
+run_of_kind Mark block run rules = let e = rules.run in omega arith
 
 pub run_low : (block : Block) (at run : ℕ) → IsBlock block at run → run ≤ block.run
 run_low block at run is = run_of_kind block.kind block run is.rules

@@ -9,7 +9,7 @@ use Rattle.erm_model.specs.Rows.{Rows, rows_of, set_row}
 use Rattle.erm_model.specs.RowTransaction.{SameRows}
 use Rattle.erm_block.specs.declared.block.Block.{Block}
 use Rattle.erm_block.specs.declared.block.Kind.{Kind}
-use Rattle.erm_block.specs.declared.block.Kind.TheVariants.{OldCommit, OldSkip, Open, Commit as CommitKind, Skip}
+use Rattle.erm_block.specs.declared.block.Kind.TheVariants.{OldCommit, OldSkip, Open, Commit as CommitKind, Skip, Mark}
 use Rattle.erm_block.specs.Block.{Entry}
 use Rattle.erm_block.specs.LogList.{Continues, End, IsChain, IsLogList, rows_after_block, rows_after_kind, set_rows}
 use Rattle.erm_log_words.specs.Words.{log_words}
@@ -44,6 +44,7 @@ same_kind OldSkip block a b same = same
 same_kind Open block a b same = same
 same_kind CommitKind block a b same = same_entries block.rows.items a b same
 same_kind Skip block a b same = same
+same_kind Mark block a b same = same
 
 pub same_after : (block : Block) (a b : Rows) → SameRows a b → SameRows (rows_after_block block a) (rows_after_block block b)
 same_after block a b same = same_kind block.kind block a b same

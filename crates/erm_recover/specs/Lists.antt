@@ -24,6 +24,7 @@ commits_in_kind kind.OldSkip block = []
 commits_in_kind kind.Open block = []
 commits_in_kind kind.Commit block = commit_in block ∷ []
 commits_in_kind kind.Skip block = []
+commits_in_kind kind.Mark block = []
 
 -- the commits that a block tells
 abbrev pub commits_in : Block → List Commit

@@ -65,7 +65,7 @@ fn note_commit(commits: &mut Vec<Commit>, block: &Block) -> Result<(), AllocErro
             };
             commits.push(commit)?;
         }
-        Kind::OldSkip | Kind::Open | Kind::Skip => {}
+        Kind::OldSkip | Kind::Open | Kind::Skip | Kind::Mark => {}
     }
     Ok(())
 }

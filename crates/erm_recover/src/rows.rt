@@ -31,7 +31,7 @@ pub fn set_block<T: ReplaceTest>(test: &T, rows: &mut [Row], block: &Block) -> b
 {
     match block.kind {
         Kind::OldCommit | Kind::Commit => set_rows(test, rows, &block.rows, true),
-        Kind::OldSkip | Kind::Open | Kind::Skip => true,
+        Kind::OldSkip | Kind::Open | Kind::Skip | Kind::Mark => true,
     }
 }
 

@@ -54,6 +54,7 @@ sized kind.Commit b run rules most =
     let size : IsSizeFor Stored b.n b.size = record { entries = b.rows.items; each = rules.rows.each; count = rules.count; size_is = rules.size } in
     new_size b.size (size-between stored_length-le Stored b.n b.size size).0 most
 sized kind.Skip b run rules most = new_size b.size (size-between stored_length-le Stored b.n b.size rules.size).0 most
+sized kind.Mark b run rules most = ap (λ (n : ℕ). n == 5) rules.size
 
 code_low : (k : Kind) → code_of k < 16
 code_low kind.OldCommit = omega arith
@@ -61,6 +62,7 @@ code_low kind.OldSkip = omega arith
 code_low kind.Open = omega arith
 code_low kind.Commit = omega arith
 code_low kind.Skip = omega arith
+code_low kind.Mark = omega arith
 
 header_code : (code size run : ℕ) → code < 16 → (code + 16 * size + 1048576 * run) % 16 ≡ code
 header_code code size run low = omega (arith, low)

@@ -41,7 +41,7 @@ pub(crate) fn block_size(header: u64) -> Option<usize>
 fn has_size(code: u64, size: u64) -> bool
     ensures { result ≡ has_size code size }
 {
-    if code == 3 {
+    if code == 3 || code == 6 {
         return size == LEAST_BLOCK;
     }
     1 <= code

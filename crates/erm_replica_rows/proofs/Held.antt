@@ -10,6 +10,7 @@ use Rattle.erm_model.specs.RowTransaction.{SameRows}
 use Rattle.erm_block.specs.declared.block.Block.{Block}
 use Rattle.erm_block.specs.declared.block.Kind.{Kind}
 use Rattle.erm_block.specs.declared.block.Kind.TheVariants as kind
+use Rattle.erm_block.specs.Block.{KeepsRulesOf}
 use Rattle.erm_ckpt.specs.Checkpoint.{Checkpoint, zero_rows}
 use Rattle.erm_node.specs.Sound.{IsSound}
 use Rattle.erm_replica.specs.declared.item.Item.{Item}
@@ -127,15 +128,24 @@ held_risen bytes k n p stamp taken others holds split reads goes_on below safe_r
     not_none o x some none = cc
 
 -- a stamp that a block names lies in front of the place behind it
-named_within : (b : Block) (stamp : ℕ) → safe_in (block b) ≡ Some stamp → stamp ≤ b.stamp + b.size
-named_within b stamp named = of_kind b.kind named
+named_within : (b : Block) (run stamp : ℕ) → KeepsRulesOf b.kind b run → safe_in (block b) ≡ Some stamp → stamp ≤ b.stamp + b.size
+named_within b run stamp rules named = of_kind b.kind rules named
   where
-    of_kind : (k : Kind) → safe_in_kind k b ≡ Some stamp → stamp ≤ b.stamp + b.size
-    of_kind kind.OldCommit e = absurd (cc)
-    of_kind kind.OldSkip e = absurd (cc)
-    of_kind kind.Open e = let same : b.stamp ≡ stamp = cc in omega (arith, same)
-    of_kind kind.Commit e = absurd (cc)
-    of_kind kind.Skip e = absurd (cc)
+    of_kind : (k : Kind) → KeepsRulesOf k b run → safe_in_kind k b ≡ Some stamp → stamp ≤ b.stamp + b.size
+    of_kind kind.OldCommit rules e = absurd (cc)
+    of_kind kind.OldSkip rules e = absurd (cc)
+    of_kind kind.Open rules e = let same : b.stamp ≡ stamp = cc in omega (arith, same)
+    of_kind kind.Commit rules e = absurd (cc)
+    of_kind kind.Skip rules e = absurd (cc)
+    of_kind kind.Mark rules e =
+        let same : b.succ ≡ stamp = cc in
+        let high = rules.snapshot.succ_high in
+        omega (arith, same, high)
+
+-- a block that may come keeps the rules of its kind
+rules_of : (log : Option LogPlace) (b : Block) → MayCome log (block b) → (run : ℕ) × KeepsRulesOf b.kind b run
+rules_of None b may = absurd may
+rules_of (Some log) b may = (log.run, may.rules)
 
 -- ---- an item that was taken and heard
 
@@ -232,7 +242,7 @@ module _ (respects : (a b : Rows) → SameRows a b → IsSound a ↔ IsSound b) 
       | inl stays ↦ passed_over b stamp is named stays.0 stays.1
       | inr rises ↦ risen b stamp is named
           (subst (λ (log : Option LogPlace). IsFrom stamp log) (sym (next_log ∙ ap (λ (p : Part). Some (log_behind p)) is))
-          (named_within b stamp named))
+          (let rules = rules_of e.log b (subst (λ (p : Part). MayCome e.log p) is adv.there.may) in named_within b rules.0 stamp rules.1 named))
           rises
     ]
 

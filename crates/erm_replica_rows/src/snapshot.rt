@@ -96,12 +96,13 @@ fn hear(snapshot: &mut Snapshot, item: &Item, bytes: &[u8], words: &mut [u64])
     }
 }
 
-// The stamp that a block names as safe: where a run opens, its place.
+// The stamp that a block names as safe: where a run opens, its place; a mark names one.
 fn safe_in(block: &Block) -> Option<Stamp>
     ensures { result ≡ safe_in_kind block.now.kind block.now }
 {
     match block.kind {
         Kind::Open => Some(block.stamp),
+        Kind::Mark => Some(block.succ),
         Kind::OldCommit | Kind::OldSkip | Kind::Commit | Kind::Skip => None,
     }
 }

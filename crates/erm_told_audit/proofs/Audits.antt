@@ -45,6 +45,7 @@ of_kind kind.OldSkip b x m = absurd (none_in_nil x m)
 of_kind kind.Open b x m = absurd (none_in_nil x m)
 of_kind kind.Commit b x m = in_one x (commit_in b) m
 of_kind kind.Skip b x m = absurd (none_in_nil x m)
+of_kind kind.Mark b x m = absurd (none_in_nil x m)
 
 -- a block that a commit is logged by tells it
 as_logged : (b : Block) (c : Committed) → IsLogged b c → commit_in b ≡ logged c

@@ -7,7 +7,7 @@ use Rattle.erm_record.proofs.StoredRows.{stored_length-le, stored_whole}
 use Rattle.erm_block.specs.Block.{Entry, KeepsRulesOf}
 use Rattle.erm_block.specs.declared.block.Block.{Block}
 use Rattle.erm_block.specs.declared.block.Kind.{Kind}
-use Rattle.erm_block.specs.declared.block.Kind.TheVariants.{OldCommit, OldSkip, Open, Commit, Skip}
+use Rattle.erm_block.specs.declared.block.Kind.TheVariants.{OldCommit, OldSkip, Open, Commit, Skip, Mark}
 use Rattle.erm_block.specs.LogList.{Continues, End, IsChain, IsLogList, end_after, end_of}
 use Rattle.erm_block.specs.Spelling.{spelling}
 use Rattle.erm_block.proofs.OneLogList.{same_log_list}
@@ -40,6 +40,7 @@ opens_run Open b at run is rules stamp later =
     (ap (λ (items : List Entry). record b.rows { items = items }) rules.no_rows)
 opens_run Commit b at run is rules stamp later = absurd (omega (arith, rules.run, later))
 opens_run Skip b at run is rules stamp later = absurd (omega (arith, rules.run, later))
+opens_run Mark b at run is rules stamp later = absurd (omega (arith, rules.run, later))
 
 first_of_none : (xs ys : List Block) → [] ≡ xs ++ ys → xs ≡ []
 first_of_none [] ys none = refl
