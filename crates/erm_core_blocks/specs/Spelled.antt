@@ -4,7 +4,7 @@ use Rattle.erm_model.specs.declared.history.VersionWritten.{VersionWritten}
 use Rattle.erm_model.specs.Member.{◌∈◌}
 use Rattle.erm_machine.specs.declared.attempt.Attempt.{Attempt}
 use Rattle.erm_machine.specs.declared.attempt.Decision.{Decision}
-use Rattle.erm_machine.specs.declared.attempt.Decision.TheVariants.{Commit, Skip}
+use Rattle.erm_machine.specs.declared.attempt.Decision.TheVariants.{Commit, Skip, Mark}
 use Rattle.erm_machine.specs.declared.event.Kind.{Kind}
 use Rattle.erm_machine.specs.declared.event.Kind.TheVariants as kind
 use Rattle.erm_machine.specs.Core.{Core}
@@ -22,14 +22,21 @@ use Rattle.erm_block.specs.Spelling.{spelling}
 abbrev pub HasBlock : Decision → Type 0
 HasBlock Commit = Unit {0}
 HasBlock Skip = Unit {0}
+HasBlock Mark = Unit {0}
 HasBlock d = ⊥
 
 -- the kind of its block
 abbrev pub kind_of : Decision → block.Kind
 kind_of Commit = block_kind.Commit
+kind_of Mark = block_kind.Mark
 kind_of d = block_kind.Skip
 
--- the entries of its block: a commit's are the rows of its claims, in order, and an excluded one has none
+-- the stamp that its block has beside its place: its successor stamp, and a mark's begin stamp
+abbrev pub turn_of : Decision → Attempt → ℕ
+turn_of Mark t = t.begin
+turn_of d t = t.succ
+
+-- the entries of its block: a commit's are the rows of its claims, in order, and an excluded one and a mark have none
 abbrev pub entries_of : Decision → List VersionWritten → List Entry
 entries_of Commit writes = map (λ w. (w.oid, w.row)) writes
 entries_of d writes = []
@@ -39,7 +46,7 @@ pub record IsBlockOf (run seat : ℕ) (t : Attempt) (b : Block) : Type 0 where
   pub kind_is : b.kind ≡ kind_of t.decision
   pub run_is : b.run ≡ run
   pub stamp : b.stamp ≡ t.stamp
-  pub succ : b.succ ≡ t.succ
+  pub succ : b.succ ≡ turn_of t.decision t
   pub of_seat : b.seat ≡ seat
   pub number : b.number ≡ t.number
   -- how many objects it claimed
@@ -69,9 +76,10 @@ abbrev pub DecidesSpelled : Core → ℕ → Kind → Type 0
 DecidesSpelled c seat (kind.Decide at header) = IsSpelled c.shared.run seat (decided_by header (c.seats seat).current)
 DecidesSpelled c seat k = Unit {0}
 
--- two transactions have one block: the same place of the log, decision, name, successor stamp, rows and words
+-- two transactions have one block: the same place of the log, decision, name, begin stamp, successor stamp, rows and words
 pub record SameBlock (t u : Attempt) : Type 0 where
   pub number : u.number ≡ t.number
+  pub begin : u.begin ≡ t.begin
   pub stamp : u.stamp ≡ t.stamp
   pub size : u.size ≡ t.size
   pub decision : u.decision ≡ t.decision

@@ -11,7 +11,7 @@ use Rattle.erm_machine.specs.Decided.{written_of}
 use Rattle.erm_machine.specs.Lawful.{opening_rows}
 use Rattle.erm_machine.specs.Log.{ring_at}
 use Rattle.erm_block.specs.declared.block.Block.{Block}
-use Rattle.erm_core_blocks.specs.Spelled.{entries_of, kind_of}
+use Rattle.erm_core_blocks.specs.Spelled.{entries_of, kind_of, turn_of}
 use Rattle.erm_core_flush.specs.Turns.{IsOpenAt}
 use Rattle.erm_core_view.specs.Views.{pin_of, view_of}
 use Rattle.erm_log_list.specs.LogOf.{ranges_below}
@@ -35,7 +35,7 @@ block_of run seat t = record {
   kind = kind_of t.decision;
   run = run;
   stamp = t.stamp;
-  succ = t.succ;
+  succ = turn_of t.decision t;
   seat = seat;
   number = t.number;
   n = length t.writes;

@@ -3,7 +3,7 @@ use Rattle.std.specs.Prelude.{◌≡◌, Bool, ◌||◌, if◌then◌else◌, �
 use Rattle.erm_model.specs.declared.limits.TheConstants.{LAST_RUN}
 use Rattle.erm_machine.specs.declared.attempt.Attempt.{Attempt}
 use Rattle.erm_machine.specs.declared.attempt.Decision.{Decision}
-use Rattle.erm_machine.specs.declared.attempt.Decision.TheVariants.{Undecided, Commit, Skip, Abort}
+use Rattle.erm_machine.specs.declared.attempt.Decision.TheVariants.{Undecided, Commit, Skip, Abort, Mark}
 use Rattle.erm_machine.specs.declared.limits.TheConstants.{FLUSH_SEAT}
 use Rattle.erm_machine.specs.declared.part.Part.{Part}
 use Rattle.erm_machine.specs.declared.place.Place.{Place}
@@ -28,6 +28,7 @@ work_of t = record {
   reads = map read_of t.reads;
   claims = map written_of t.writes;
   made = t.made;
+  is_mark = t.is_mark;
 }
 
 -- how it ended
@@ -36,6 +37,7 @@ fate_of Commit t = world.commits t.stamp t.succ t.pred
 fate_of Skip t = world.excluded t.stamp t.succ t.pred
 fate_of Abort t = world.aborts
 fate_of Undecided t = world.aborts
+fate_of Mark t = world.marked t.stamp t.begin
 
 abbrev pub finished_of : Attempt → Finished
 finished_of t = record { work = work_of t; fate = fate_of t.decision t }

@@ -11,6 +11,7 @@ attempt_of t = record {
   stamp = t.stamp;
   size = t.size;
   decision = t.decision;
+  is_mark = t.is_mark;
   succ = t.succ;
   succ_from = t.succ_from;
   pred = t.pred;

@@ -12,7 +12,7 @@ ghost use Rattle.erm_kept.specs.Tasks.{stored};
 use crate::words::is_commit;
 use boxcar::tag::Tag;
 use erm_machine::{Claim, Decision, RING_WORDS, Read, Task, VersionAt};
-use erm_model::{COMMIT_KIND, Oid, ROW_WORDS, RUN_UNIT, SIZE_UNIT, SKIP_KIND, Stamp};
+use erm_model::{COMMIT_KIND, MARK_KIND, Oid, ROW_WORDS, RUN_UNIT, SIZE_UNIT, SKIP_KIND, Stamp};
 use std::alloc::Global;
 
 /// A transaction as its seat keeps it.
@@ -23,6 +23,7 @@ pub struct AttemptState {
     pub stamp: Stamp,
     pub size: u64,
     pub decision: Decision,
+    pub is_mark: bool,
     pub succ: Stamp,
     pub succ_from: Stamp,
     pub pred: Stamp,
@@ -50,6 +51,17 @@ fn no_read() -> Read
     }
 }
 
+// The kind that the header of a block spells, by the decision.
+fn header_kind(decision: Decision) -> u64
+    ensures { result ≡ seat_specs.header_kind decision }
+{
+    match decision {
+        Decision::Commit => COMMIT_KIND,
+        Decision::Mark => MARK_KIND,
+        Decision::Undecided | Decision::Skip | Decision::Abort => SKIP_KIND,
+    }
+}
+
 impl AttemptState {
     /// A transaction that has just begun. It takes no memory.
     pub fn begun(alloc: Global, number: u32, begin: Stamp) -> AttemptState
@@ -62,6 +74,7 @@ impl AttemptState {
             stamp: 0,
             size: 0,
             decision: Decision::Undecided,
+            is_mark: false,
             succ: 0,
             succ_from: 0,
             pred: 0,
@@ -85,6 +98,7 @@ impl AttemptState {
         self.stamp = 0;
         self.size = 0;
         self.decision = Decision::Undecided;
+        self.is_mark = false;
         self.succ = 0;
         self.succ_from = 0;
         self.pred = 0;
@@ -115,11 +129,13 @@ impl AttemptState {
         self.pred = self.pred.max(stamp);
     }
 
-    /// The decision by the Serial Safety Net: commit where the exclusion window is open.
+    /// The decision: a safe snapshot marks its begin stamp; a transaction commits, by the Serial Safety Net, where its exclusion window is open.
     pub fn decision(&self) -> Decision
         ensures { result ≡ seat_specs.decision_of (attempt_of self.now) }
     {
-        if self.pred < self.succ {
+        if self.is_mark {
+            Decision::Mark
+        } else if self.pred < self.succ {
             Decision::Commit
         } else {
             Decision::Skip
@@ -144,11 +160,7 @@ impl AttemptState {
     pub fn is_header(&self, run: u64, header: u64) -> bool
         ensures { result ≡ life_specs.is_header (attempt_of self.now) run header }
     {
-        let kind = if is_commit(self.decision()) {
-            COMMIT_KIND
-        } else {
-            SKIP_KIND
-        };
+        let kind = header_kind(self.decision());
         let size = header / SIZE_UNIT % (RUN_UNIT / SIZE_UNIT);
         header % SIZE_UNIT == kind && size == self.size && header / RUN_UNIT == run
     }

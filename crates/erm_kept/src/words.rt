@@ -86,6 +86,14 @@ pub fn is_safe(task: Task) -> bool
     )
 }
 
+/// Whether the transaction may be sealed, or the safe snapshot, which is then a mark.
+pub fn may_seal(task: Task) -> bool
+    ensures seals { result ≡ seat_specs.may_seal task }
+    ensures fresh { result ≡ true → IsFresh task }
+{
+    may_start(task) || is_safe(task)
+}
+
 /// Whether a snapshot is safe, or looks whether it is.
 pub fn is_snapshot(task: Task) -> bool
     ensures snapshot { result ≡ seat_specs.is_snapshot task }

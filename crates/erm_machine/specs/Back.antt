@@ -3,14 +3,14 @@ use Rattle.std.specs.Prelude.{◌≡◌, ◌≢◌, ◌⊎◌, ℕ, ◌+◌, ◌
 use Rattle.erm_model.specs.Member.{◌∈◌}
 use Rattle.erm_machine.specs.declared.limits.TheConstants.{SESSIONS}
 use Rattle.erm_machine.specs.declared.attempt.Attempt.{Attempt}
-use Rattle.erm_machine.specs.declared.attempt.Decision.TheVariants.{Commit}
+use Rattle.erm_machine.specs.declared.attempt.Decision.TheVariants.{Commit, Mark}
 use Rattle.erm_machine.specs.declared.part.Part.{Part}
 use Rattle.erm_machine.specs.declared.place.Place.{Place}
 use Rattle.erm_machine.specs.declared.place.Place.TheVariants.{Leaving}
 use Rattle.erm_machine.specs.declared.task.Task.{Task}
 use Rattle.erm_machine.specs.declared.task.Task.TheVariants as task
 use Rattle.erm_machine.specs.Facts.{all_of, HasBegun}
-use Rattle.erm_machine.specs.Seat.{is_commit, is_new}
+use Rattle.erm_machine.specs.Seat.{is_active, is_commit, is_new}
 use Rattle.erm_machine.specs.Words.{begin_of, is_session}
 
 -- a commit whose successor stamp lies below its own: in the serial order it goes back, in front of earlier ones
@@ -46,12 +46,16 @@ IsBehind (task.Behind next) q = q ≡ next
 IsBehind _ q = ⊥
 
 -- From the clearing of the begin word of a commit that goes back on, its seat's back word is at least its stamp; and a back word is 0, or
--- the stamp of such a commit of its seat. A snapshot has read, claimed and made nothing. Only sessions have committed.
+-- the stamp of such a commit of its seat. A snapshot has read, claimed and made nothing, and neither has a mark, which no active transaction is:
+-- just marks are decided as such. Only sessions have committed.
 pub record OwnBack (seat : ℕ) (x : Part) : Type 0 where
   pub over : (t : Attempt) → t ∈ x.over → GoesBack t → t.stamp ≤ x.back
   pub leaving : IsLeaving x.place → GoesBack x.current → x.current.stamp ≤ x.back
   pub of : (x.back ≡ 0) ⊎ ((t : Attempt) × (t ∈ all_of x) × GoesBack t × (t.stamp ≡ x.back))
   pub snapshot : 0 < passed_to x.task → is_new x.current ≡ true
+  pub unmarked : is_active x.place ≡ true → x.current.is_mark ≡ false
+  pub marks : (t : Attempt) → t ∈ all_of x → t.is_mark ≡ true → is_new t ≡ true
+  pub marked : (t : Attempt) → t ∈ all_of x → t.decision ≡ Mark → t.is_mark ≡ true
   pub only : is_session seat ≡ false → (t : Attempt) → t ∈ x.over → t.decision ≢ Commit
 
 -- What a snapshot has passed of another session: what this has in progress, or gets, begins at its begin stamp or later; and once its back

@@ -10,7 +10,7 @@ use Rattle.erm_machine.specs.declared.limits.TheConstants.{ANNOUNCERS}
 use Rattle.erm_machine.specs.declared.attempt.Attempt.{Attempt}
 use Rattle.erm_machine.specs.declared.attempt.Claim.{Claim}
 use Rattle.erm_machine.specs.declared.attempt.Read.{Read}
-use Rattle.erm_machine.specs.declared.attempt.Decision.TheVariants.{Undecided, Commit}
+use Rattle.erm_machine.specs.declared.attempt.Decision.TheVariants.{Undecided, Commit, Mark}
 use Rattle.erm_machine.specs.declared.part.Part.{Part}
 use Rattle.erm_machine.specs.declared.place.Place.{Place}
 use Rattle.erm_machine.specs.declared.place.Place.TheVariants.{Active}
@@ -67,12 +67,12 @@ MayCount t u = (u.stamp < t.stamp)
 abbrev pub IsOpen : Attempt → Type 0
 IsOpen t = (0 < t.stamp) × (t.decision ≡ Undecided)
 
--- A decided range has the successor and the predecessor stamp that the history gives it, and is a commit exactly where its
--- exclusion window is open.
+-- A decided range has the successor and the predecessor stamp that the history gives it; and but for a mark, which counts for nobody, it is a
+-- commit exactly where its exclusion window is open.
 pub record DecisionFits (h : History) (seat : ℕ) (t : Attempt) : Type 0 where
   pub succ : IsSuccessorStamp h (λ u. u.succ) (record_of seat t)
   pub pred : IsPredecessorStamp h t.pred (record_of seat t)
-  pub window : (t.decision ≡ Commit) ↔ (t.pred < t.succ)
+  pub window : t.decision ≢ Mark → (t.decision ≡ Commit) ↔ (t.pred < t.succ)
 
 -- how many of the versions overwritten settle has passed, where their readers are looked at
 abbrev pub writes_passed : Task → ℕ → ℕ

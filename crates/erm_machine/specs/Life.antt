@@ -1,6 +1,6 @@
 -- Steps that move a seat on in the life of a transaction: begin, seal, decision, end; and what it sees of other seats.
 use Rattle.std.specs.Prelude.{nat_lt, ◌%◌, ◌/◌, List, ℕ, ◌+◌, Bool, true, false, not, ◌&&◌, ◌||◌, ◌==◌, nat_le, if◌then◌else◌, min, max, length, slice_index, slice_set, Option, Some, None}
-use Rattle.erm_model.specs.declared.header.TheConstants.{COMMIT_KIND, RUN_UNIT, SIZE_UNIT, SKIP_KIND}
+use Rattle.erm_model.specs.declared.header.TheConstants.{RUN_UNIT, SIZE_UNIT}
 use Rattle.erm_machine.specs.declared.limits.TheConstants.{ANNOUNCERS, SESSIONS, LEAST_BLOCK, GREATEST_BLOCK}
 use Rattle.erm_machine.specs.declared.attempt.Attempt.{Attempt}
 use Rattle.erm_machine.specs.declared.attempt.Decision.TheVariants.{Abort}
@@ -16,7 +16,7 @@ use Rattle.erm_machine.specs.declared.task.Task.TheVariants as task
 use Rattle.erm_machine.specs.declared.version.VersionAt.{VersionAt}
 use Rattle.erm_machine.specs.Back.{goes_back}
 use Rattle.erm_machine.specs.Core.{begun, blank}
-use Rattle.erm_machine.specs.Seat.{when, saw, with_task, with_current, is_vacant, is_active, is_commit, is_new, is_rest, may_start, end_of, has_number, with_range, decision_of, over}
+use Rattle.erm_machine.specs.Seat.{when, saw, with_task, with_current, is_vacant, is_active, is_new, is_rest, is_safe, may_seal, end_of, has_number, with_range, with_mark, decision_of, header_kind, over}
 use Rattle.erm_machine.specs.Words.{is_session, is_flusher, refuses, is_clear, is_least_bit, without_bit}
 
 -- the number of a seat's next transaction; a pin of the flush seat takes none
@@ -88,10 +88,12 @@ store_begin seat value x (Decided tail stamp) =
     (record x { place = Leaving stamp; task = task.Rest })
 store_begin seat value x _ = None
 
--- SEAL stores 1, and after its draw the stamp. The last step of a sealed transaction stores 0: it is over.
+-- SEAL stores 1, and after its draw the stamp. A safe snapshot that is sealed becomes a mark. The last step of a sealed transaction stores 0: it
+-- is over.
 abbrev pub store_state : ℕ → ℕ → Part → Place → Option Part
 store_state seat value x (Active tail) =
-    when ((value == 1) && is_session seat && may_start x.task) (record x { place = Sealing tail; task = task.Rest })
+    when ((value == 1) && is_session seat && may_seal x.task)
+    (record x { place = Sealing tail; task = task.Rest; current = with_mark (is_safe x.task) x.current })
 store_state seat value x (Drawn tail stamp) = when (value == stamp) (record x { place = Sealed tail stamp })
 store_state seat value x (Leaving stamp) = when (value == 0) (over x.current.decision (record x { place = Idle }))
 store_state seat value x _ = None
@@ -165,10 +167,10 @@ split x other = when (not (is_vacant x.place) && is_vacant other.place) (record 
 abbrev pub join : Part → Part → Option Part
 join x other = when (not (is_vacant x.place) && not (is_vacant other.place)) (saw (max x.seen other.seen) x)
 
--- DECISION. The header is stored last: its kind by the exclusion window, its size, its run.
+-- DECISION. The header is stored last: its kind by the exclusion window, or that of a mark; its size, its run.
 abbrev pub is_header : Attempt → ℕ → ℕ → Bool
 is_header t run header =
-    (header % SIZE_UNIT == (if is_commit (decision_of t) then COMMIT_KIND else SKIP_KIND)) && (header / SIZE_UNIT % (RUN_UNIT / SIZE_UNIT) == t.size) && (header / RUN_UNIT == run)
+    (header % SIZE_UNIT == header_kind (decision_of t)) && (header / SIZE_UNIT % (RUN_UNIT / SIZE_UNIT) == t.size) && (header / RUN_UNIT == run)
 
 abbrev pub decide : ℕ → ℕ → Part → Place → Task → Option Part
 decide at header x (Sealed tail stamp) (task.Fills words) =

@@ -1,6 +1,6 @@
 -- Log: which ranges of the log are flushed and gathered, and the words of the ring.
 use Rattle.std.specs.Prelude.{◌≡◌, ◌≢◌, ◌⊎◌, ℕ, ◌+◌, ◌/◌, ◌%◌, ◌<◌, ◌≤◌, true, false, if◌then◌else◌, ◌∷◌, slice_index_or}
-use Rattle.erm_model.specs.declared.header.TheConstants.{COMMIT_KIND, RUN_UNIT, SIZE_UNIT, SKIP_KIND}
+use Rattle.erm_model.specs.declared.header.TheConstants.{RUN_UNIT, SIZE_UNIT}
 use Rattle.erm_model.specs.Member.{◌∈◌}
 use Rattle.erm_machine.specs.declared.limits.TheConstants.{RING_WORDS, FLUSH_SEAT}
 use Rattle.erm_machine.specs.declared.attempt.Attempt.{Attempt}
@@ -16,7 +16,7 @@ use Rattle.erm_machine.specs.declared.version.Span.{Span}
 use Rattle.erm_machine.specs.Core.{Shared}
 use Rattle.erm_machine.specs.Facts.{all_of}
 use Rattle.erm_machine.specs.Flushing.{size_of}
-use Rattle.erm_machine.specs.Seat.{is_commit}
+use Rattle.erm_machine.specs.Seat.{header_kind}
 use Rattle.erm_machine.specs.Words.{is_flusher}
 
 -- the ring's word for a place of the log
@@ -108,7 +108,7 @@ Log s seats = LogFits s seats (seats FLUSH_SEAT)
 
 -- a decided block's header spells its kind, its size and this run
 pub record HeaderFits (run : ℕ) (t : Attempt) : Type 0 where
-  pub kind_is : t.header % SIZE_UNIT ≡ (if is_commit t.decision then COMMIT_KIND else SKIP_KIND)
+  pub kind_is : t.header % SIZE_UNIT ≡ header_kind t.decision
   pub size_is : size_of t.header ≡ t.size
   pub run_is : t.header / RUN_UNIT ≡ run
 

@@ -55,8 +55,8 @@ pub record Ranges (s : Shared) (seats : ℕ → Part) : Type 0 where
   pub below : s.tail < 2 ^ 61
 
 -- A seat's ranges are those of its transactions, in order; of them one at most starts at or above 2 ^ 60, and none while
--- the seat may still draw. The seat of an unfinished range has state 1 or that stamp, and a finished one is a commit or
--- is skipped. A seat that has no words is vacant. A transaction claims, and reads, no more than its limits.
+-- the seat may still draw. The seat of an unfinished range has state 1 or that stamp, and a finished one is a commit, is
+-- skipped, or is a mark. A seat that has no words is vacant. A transaction claims, and reads, no more than its limits.
 pub record OwnRanges (s : Shared) (seat : ℕ) (x : Part) : Type 0 where
   pub seat_of : is_seat seat ≡ false → x.place ≡ Vacant
   pub current : IsCurrent x.place x.current

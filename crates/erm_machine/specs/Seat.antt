@@ -1,10 +1,11 @@
 -- What a seat's step asks of the seat's own part, and small changes of it.
 use Rattle.std.specs.Prelude.{ℕ, ◌-◌, Bool, true, false, ◌&&◌, ◌||◌, ◌==◌, nat_lt, if◌then◌else◌, max, List, [], ◌∷◌, ◌++◌, length, slice_index_or, slice_set, replicate, Option, Some, None}
+use Rattle.erm_model.specs.declared.header.TheConstants.{COMMIT_KIND, MARK_KIND, SKIP_KIND}
 use Rattle.erm_machine.specs.declared.limits.TheConstants.{LAST_NUMBER}
 use Rattle.erm_machine.specs.declared.attempt.Attempt.{Attempt}
 use Rattle.erm_machine.specs.declared.attempt.Claim.{Claim}
 use Rattle.erm_machine.specs.declared.attempt.Decision.{Decision}
-use Rattle.erm_machine.specs.declared.attempt.Decision.TheVariants.{Commit, Skip}
+use Rattle.erm_machine.specs.declared.attempt.Decision.TheVariants.{Commit, Skip, Mark}
 use Rattle.erm_machine.specs.declared.attempt.OwnCell.{OwnCell}
 use Rattle.erm_machine.specs.declared.attempt.Read.{Read}
 use Rattle.erm_machine.specs.declared.part.Part.{Part}
@@ -122,10 +123,24 @@ with_pred stamp t = record t { pred = max t.pred stamp }
 abbrev pub with_range : ℕ → ℕ → Attempt → Attempt
 with_range stamp size t = with_succ stamp stamp (record t { stamp = stamp; size = size })
 
--- the decision by the Serial Safety Net: the exclusion window is open where the predecessor stamp is below the successor
--- stamp
+-- The decision of a transaction by the Serial Safety Net: the exclusion window is open where the predecessor stamp is below the successor
+-- stamp. A safe snapshot marks its begin stamp.
 abbrev pub decision_of : Attempt → Decision
-decision_of t = if nat_lt t.pred t.succ then Commit else Skip
+decision_of t = if t.is_mark then Mark else if nat_lt t.pred t.succ then Commit else Skip
+
+-- the kind that the header of a block spells, by the decision
+abbrev pub header_kind : Decision → ℕ
+header_kind Commit = COMMIT_KIND
+header_kind Mark = MARK_KIND
+header_kind d = SKIP_KIND
+
+-- a transaction is sealed where its next call may start, and so is a safe snapshot
+abbrev pub may_seal : Task → Bool
+may_seal t = may_start t || is_safe t
+
+-- the transaction as it is sealed: that of a safe snapshot is a mark
+abbrev pub with_mark : Bool → Attempt → Attempt
+with_mark safe t = record t { is_mark = safe || t.is_mark }
 
 -- the transaction is over
 abbrev pub over : Decision → Part → Part

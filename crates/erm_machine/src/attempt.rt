@@ -12,6 +12,8 @@ pub enum Decision {
     Skip,
     /// It ended before it had a range.
     Abort,
+    /// It is a safe snapshot, whose range of the log marks its begin stamp. It counts for nobody.
+    Mark,
 }
 
 /// A version that a transaction has read.
@@ -60,6 +62,8 @@ pub struct Attempt {
     /// The size of its range, in words, or 0.
     pub size: u64,
     pub decision: Decision,
+    /// Whether it is a safe snapshot that was sealed.
+    pub is_mark: bool,
     /// The least of the successor stamps found so far, or 0 for none; from the seal on at most the own stamp.
     pub succ: Stamp,
     /// The stamp of the transaction that `succ` is from.

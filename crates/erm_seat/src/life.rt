@@ -17,8 +17,8 @@ use crate::SeatState;
 use crate::snapshot::after_survey;
 use erm_kept::AttemptState;
 use erm_kept::words::{
-    end_of, has_number, is_active, is_between, is_clear, is_flusher, is_least_bit, is_session,
-    is_vacant, may_start, refuses, without_bit,
+    end_of, has_number, is_active, is_between, is_clear, is_flusher, is_least_bit, is_safe,
+    is_session, is_vacant, may_seal, refuses, without_bit,
 };
 use erm_machine::{
     ANNOUNCERS, Decision, Flushing, GREATEST_BLOCK, LEAST_BLOCK, Place, TailUse, Task, VersionAt,
@@ -234,10 +234,11 @@ impl SeatState {
     {
         match self.place {
             Place::Active { tail } => {
-                if value != 1 || !is_session(seat) || !may_start(self.task) {
+                if value != 1 || !is_session(seat) || !may_seal(self.task) {
                     return false;
                 }
                 self.place = Place::Sealing { tail };
+                self.current.is_mark |= is_safe(self.task);
                 self.task = Task::Rest;
                 true
             }

@@ -5,7 +5,7 @@ use Rattle.erm_model.specs.declared.history.VersionRead.{VersionRead}
 use Rattle.erm_model.specs.declared.history.VersionWritten.{VersionWritten}
 use Rattle.erm_model.specs.declared.limits.TheConstants.{GREATEST_BLOCK, LAST_NUMBER, LEAST_BLOCK, OID_LIMIT, READ_LIMIT, RING_WORDS, SESSIONS, STOP, WRITE_LIMIT}
 use Rattle.erm_model.specs.declared.outcome.Outcome.{Outcome}
-use Rattle.erm_model.specs.declared.outcome.Outcome.TheVariants.{Committed, Excluded}
+use Rattle.erm_model.specs.declared.outcome.Outcome.TheVariants.{Committed, Excluded, Marked}
 use Rattle.erm_model.specs.declared.row_stop.RowStop.{RowStop}
 use Rattle.erm_model.specs.declared.row_stop.RowStop.TheVariants as stop
 use Rattle.erm_model.specs.History.{IsPredecessorStamp, IsSuccessorStamp, Makes, OverwritesFrom, OverwritesReadOf, ReadsFrom}
@@ -206,18 +206,23 @@ DidNotMake v seat stop.WritesFull t = ⊥
 DidNotMake v seat (stop.CellsFull drawn) t = ⊥
 DidNotMake v seat (stop.Excluded succ pred) t = ⊥
 
--- SEAL. The commit stamp is the end of the log, which the block moves on by its size, that of a block at most.
-pub record DidSeal (v : View) (seat stamp : ℕ) (t : View) : Type 0 where
+-- A session is sealed with this transaction, or with this mark. The stamp is the end of the log, which the block moves on by its size, that of a
+-- block at most.
+pub record Seals (v : View) (seat : ℕ) (w : Work) (stamp : ℕ) (t : View) : Type 0 where
   pub stamp_is : stamp ≡ v.tail
-  pub own : t.session seat ≡ record { over = (v.session seat).over; stand = world.sealed (work_at v seat) stamp }
+  pub own : t.session seat ≡ record { over = (v.session seat).over; stand = world.sealed w stamp }
   pub others : (q : ℕ) → q ≢ seat → t.session q ≡ v.session q
   pub opening : t.opening ≡ v.opening
-  pub tail : t.tail ≡ v.tail + size_of (work_at v seat)
-  pub fits : size_of (work_at v seat) ≤ GREATEST_BLOCK
+  pub tail : t.tail ≡ v.tail + size_of w
+  pub fits : size_of w ≤ GREATEST_BLOCK
   pub flushed : t.flushed ≡ v.flushed
   pub pinned : t.pinned ≡ v.pinned
   pub given_up : t.given_up ≡ v.given_up
   pub saves : (q : ℕ) → q ≢ seat → t.saves q ≡ v.saves q
+
+-- SEAL. The transaction has its commit stamp.
+abbrev pub DidSeal : View → ℕ → ℕ → View → Type 0
+DidSeal v seat stamp t = Seals v seat (work_at v seat) stamp t
 
 -- another session's transaction, sealed with this stamp below the bound
 pub record IsSealedBelow (v : View) (seat bound other seen : ℕ) (work : Work) : Type 0 where
@@ -252,16 +257,17 @@ abbrev pub IsClaimReady : View → ℕ → ℕ → ℕ → VersionWritten → Ty
 IsClaimReady v seat bound upto c = (other seen : ℕ) → other < upto → MayHaveRead v seat bound c other seen → ⊥
 
 -- SETTLE, of a transaction with this stamp. Committed with the definitions' numbers, the window open; or excluded with them, the
--- window closed.
+-- window closed. A mark is marked with its begin stamp, and nothing else is.
 abbrev pub Settled : View → ℕ → Work → ℕ → Outcome → View → Type 0
 Settled v seat w stamp (Committed r) t = IsDone v seat w (world.commits stamp r.succ r.pred) t
-    × (r.number ≡ w.number) × (r.stamp ≡ stamp) × (r.end ≡ stamp + size_of w)
+    × (w.is_mark ≡ false) × (r.number ≡ w.number) × (r.stamp ≡ stamp) × (r.end ≡ stamp + size_of w)
     × IsSuccessorStamp (history_of t) (λ u. u.succ) (record_of seat w stamp r.succ r.pred)
     × IsPredecessorStamp (history_of t) r.pred (record_of seat w stamp r.succ r.pred) × (r.pred < r.succ)
 Settled v seat w stamp (Excluded at succ pred) t = IsDone v seat w (world.excluded stamp succ pred) t
-    × (at ≡ stamp)
+    × (w.is_mark ≡ false) × (at ≡ stamp)
     × IsSuccessorStamp (history_of t) (λ u. u.succ) (record_of seat w stamp succ pred)
     × IsPredecessorStamp (history_of t) pred (record_of seat w stamp succ pred) × (succ ≤ pred)
+Settled v seat w stamp (Marked at safe) t = IsDone v seat w (world.marked stamp w.begin) t × (w.is_mark ≡ true) × (at ≡ stamp) × (safe ≡ w.begin)
 
 -- nobody is in the way: who overwrites a version read, or has read a version overwritten, and is sealed below the stamp, is decided
 abbrev pub AreReady : View → ℕ → Work → ℕ → Type 0

@@ -8,8 +8,8 @@ use Rattle.erm_model.specs.Member.{◌∈◌}
 use Rattle.erm_model.specs.Safe.{IsSafeAt}
 use Rattle.erm_world.specs.declared.stops.SafeStop.{SafeStop}
 use Rattle.erm_world.specs.declared.stops.SafeStop.TheVariants as safe
-use Rattle.erm_world.specs.Calls.{Becomes, IsDone}
-use Rattle.erm_world.specs.World.{IsCurrent, IsSession, IsWorking, Session, Snapshot, View, Work, history_of, phase_at, work_at}
+use Rattle.erm_world.specs.Calls.{Becomes, IsDone, Seals}
+use Rattle.erm_world.specs.World.{Has, IsCurrent, IsSession, IsWorking, Session, Snapshot, View, Work, history_of, marking, phase_at, work_at}
 use Rattle.erm_world.specs.World as world
 
 -- the session has this snapshot
@@ -67,6 +67,17 @@ DidNotSafe v seat (safe.Unsafe other stamp) t = IsDone v seat (work_at v seat) w
 -- SAFE READ. The row is the newest below the snapshot's stamp of all that have committed.
 abbrev pub DidSafeRead : View → ℕ → ℕ → List ℕ → Type 0
 DidSafeRead v seat oid row = (stamp : ℕ) × IsNewestBelow (history_of v) v.opening.rows oid (work_at v seat).begin stamp row
+
+-- MARK. A safe snapshot is sealed: its mark has the end of the log for its place.
+pub record DidMark (v : View) (seat stamp : ℕ) (t : View) : Type 0 where
+  pub snapshot : Snapshot
+  pub stands : (v.session seat).stand ≡ world.snapshot snapshot
+  pub safe : snapshot.is_safe ≡ true
+  pub seals : Seals v seat (marking snapshot) stamp t
+
+-- The begin stamp of each mark is safe, of one that waits as of one that is over.
+abbrev pub HasSafeMarks : View → Type 0
+HasSafeMarks v = (seat : ℕ) (w : Work) → IsSession v seat → Has v seat w → w.is_mark ≡ true → IsSafeIn v w.begin
 
 -- it has a snapshot, safe or not
 abbrev pub HasSnapshot : View → ℕ → Type 0

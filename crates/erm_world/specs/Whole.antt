@@ -4,7 +4,7 @@ use Rattle.erm_model.specs.declared.history.VersionWritten.{VersionWritten}
 use Rattle.erm_model.specs.Member.{◌∈◌}
 use Rattle.erm_block.specs.declared.block.Block.{Block}
 use Rattle.erm_block.specs.declared.block.Kind.{Kind}
-use Rattle.erm_block.specs.declared.block.Kind.TheVariants.{Commit, Skip}
+use Rattle.erm_block.specs.declared.block.Kind.TheVariants.{Commit, Skip, Mark}
 use Rattle.erm_block.specs.Block.{Entry}
 use Rattle.erm_world.specs.Log.{Log, Undecided}
 use Rattle.erm_world.specs.World.{Fate, Finished, IsSession, View, Work, size_of}
@@ -17,18 +17,20 @@ pub record KeepsSessions (v t : View) : Type 0 where
   pub tail : t.tail ≡ v.tail
   pub saves : (seat : ℕ) → IsSession v seat → t.saves seat ≡ v.saves seat
 
--- a transaction that ended so was sealed, with this commit stamp and this successor stamp
+-- a transaction that ended so was sealed, with this commit stamp and this successor stamp; a mark has the safe stamp in its place
 abbrev pub HasStamps : Fate → ℕ → ℕ → Type 0
 HasStamps (world.commits stamp succ pred) at last = (at ≡ stamp) × (last ≡ succ)
 HasStamps (world.excluded stamp succ pred) at last = (at ≡ stamp) × (last ≡ succ)
 HasStamps world.aborts at last = ⊥
+HasStamps (world.marked stamp safe) at last = (at ≡ stamp) × (last ≡ safe)
 
 -- the kind of its block
 abbrev pub kind_of : Fate → Kind
 kind_of (world.commits stamp succ pred) = Commit
+kind_of (world.marked stamp safe) = Mark
 kind_of fate = Skip
 
--- the entries of its block: a commit's are the rows that its claims leave, in order, and an excluded one has none
+-- the entries of its block: a commit's are the rows that its claims leave, in order, and an excluded one and a mark have none
 abbrev pub entries_of : Fate → List VersionWritten → List Entry
 entries_of (world.commits stamp succ pred) claims = map (λ w. (w.oid, w.row)) claims
 entries_of fate claims = []

@@ -1,5 +1,5 @@
 -- What a world of sessions means: the transactions of its sessions, over and in progress, and what they have committed.
-use Rattle.std.specs.Prelude.{◌≡◌, Bool, if◌then◌else◌, ℕ, zero, suc, ◌+◌, ◌<◌, ◌≤◌, ◌⊎◌, List, [], ◌∷◌, ◌++◌, map, flat_map, length, sum_by, Option, Some, None}
+use Rattle.std.specs.Prelude.{◌≡◌, Bool, true, false, if◌then◌else◌, ℕ, zero, suc, ◌+◌, ◌<◌, ◌≤◌, ◌⊎◌, List, [], ◌∷◌, ◌++◌, map, flat_map, length, sum_by, Option, Some, None}
 use Rattle.erm_model.specs.declared.history.TransactionRecord.{TransactionRecord}
 use Rattle.erm_model.specs.declared.history.VersionRead.{VersionRead}
 use Rattle.erm_model.specs.declared.history.VersionWritten.{VersionWritten}
@@ -12,23 +12,26 @@ use Rattle.erm_model.specs.Rows.{Rows}
 use Rattle.erm_record.specs.Stored.{block_words}
 
 -- what a transaction has done: the versions that it read, in order of first read; those that it overwrote, in order of first
--- claim; the objects that it made
+-- claim; the objects that it made; and whether it is the mark of a safe snapshot, which did none of this
 pub record Work : Type 0 where
   pub number : ℕ
   pub begin : ℕ
   pub reads : List VersionRead
   pub claims : List VersionWritten
   pub made : List ℕ
+  pub is_mark : Bool
 
 -- a transaction that has done nothing yet
 abbrev pub begun : ℕ → ℕ → Work
-begun number begin = record { number = number; begin = begin; reads = []; claims = []; made = [] }
+begun number begin = record { number = number; begin = begin; reads = []; claims = []; made = []; is_mark = false }
 
--- how a transaction ended: with its commit stamp, successor stamp and predecessor stamp where it was sealed
+-- how a transaction ended: with its commit stamp, successor stamp and predecessor stamp where it was sealed; a mark with the place of its block
+-- and the safe stamp that it names
 pub data Fate : Type 0 where
   commits : (stamp succ pred : ℕ) → Fate
   excluded : (stamp succ pred : ℕ) → Fate
   aborts : Fate
+  marked : (stamp safe : ℕ) → Fate
 
 -- a transaction that is over
 pub record Finished : Type 0 where
@@ -42,7 +45,11 @@ pub record Snapshot : Type 0 where
   pub begin : ℕ
   pub is_safe : Bool
 
--- where a session stands: without a transaction, with one, with one that has its commit stamp, or with a snapshot
+-- the mark of a safe snapshot, which is sealed as a transaction that has done nothing
+abbrev pub marking : Snapshot → Work
+marking s = record (begun s.number s.begin) { is_mark = true }
+
+-- where a session stands: without a transaction, with one, with one that has its commit stamp, or a mark that has its place, or with a snapshot
 pub data Stand : Type 0 where
   idle : Stand
   active : Work → Stand
@@ -129,6 +136,7 @@ abbrev pub commit_of : ℕ → Work → Fate → History
 commit_of seat w (commits stamp succ pred) = record_of seat w stamp succ pred ∷ []
 commit_of seat w (excluded stamp succ pred) = []
 commit_of seat w aborts = []
+commit_of seat w (marked stamp safe) = []
 
 -- what a session has committed, in order
 abbrev pub committed_in : ℕ → List Finished → History
@@ -169,6 +177,7 @@ abbrev pub stamp_of : Fate → Option ℕ
 stamp_of (commits stamp succ pred) = Some stamp
 stamp_of (excluded stamp succ pred) = Some stamp
 stamp_of aborts = None
+stamp_of (marked stamp safe) = Some stamp
 
 -- it is a transaction of the session with this commit stamp
 abbrev pub HasStamp : View → ℕ → Work → ℕ → Type 0

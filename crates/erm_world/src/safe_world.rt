@@ -3,7 +3,7 @@ ghost use Rattle.std.specs.Prelude.{◌≡◌, ◌<◌, IfOk, IfErr, OnOk};
 ghost use Rattle.erm_model.specs.declared.limits.TheConstants.{OID_LIMIT};
 ghost use Rattle.erm_model.specs.declared.outcome.Phase.TheVariants.{Idle, Pending, Safe};
 ghost use Rattle.erm_world.specs.Calls.{DidAbort, MayNotBegin};
-ghost use Rattle.erm_world.specs.Safe.{DidBeginSafe, DidNotSafe, DidSafe, DidSafeRead, HasSafeStamps, HasSnapshot};
+ghost use Rattle.erm_world.specs.Safe.{DidBeginSafe, DidMark, DidNotSafe, DidSafe, DidSafeRead, HasSafeMarks, HasSafeStamps, HasSnapshot};
 ghost use Rattle.erm_world.specs.World.{IsSession, phase_at, work_at};
 
 use crate::RowWorld;
@@ -49,6 +49,15 @@ pub trait SafeWorld: RowWorld {
         ensures same { Self.view self.new ≡ Self.view self.old }
         ensures row { DidSafeRead (Self.view self.old) seat oid result };
 
+    /// Seals a safe snapshot, whose mark gets the end of the log for its place: a block there will say that its begin stamp is safe. The settle
+    /// of a mark waits for room in the ring alone, and ends the snapshot.
+    fn mark(&mut self, seat: Seat) -> Stamp
+        requires stands { Self.stands self.old }
+        requires session { IsSession (Self.view self.old) seat }
+        requires safe { phase_at (Self.view self.old) seat ≡ Safe }
+        ensures stands { Self.stands self.new }
+        ensures sealed { DidMark (Self.view self.old) seat result (Self.view self.new) };
+
     /// Ends the snapshot, safe or not.
     fn end_safe(&mut self, seat: Seat)
         requires stands { Self.stands self.old }
@@ -59,4 +68,7 @@ pub trait SafeWorld: RowWorld {
 
     /// A safe snapshot stands on a safe stamp, in every state.
     ghost safe_stamps: { (w : Self) → Self.stands w → HasSafeStamps (Self.view w) };
+
+    /// And so does each mark, for ever.
+    ghost safe_marks: { (w : Self) → Self.stands w → HasSafeMarks (Self.view w) };
 }

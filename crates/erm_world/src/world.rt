@@ -122,7 +122,8 @@ pub trait RowWorld {
         ensures stands { stands self.new }
         ensures sealed { DidSeal (view self.old) seat result (view self.new) };
 
-    /// Decides a sealed transaction by the Serial Safety Net, or says for what it waits.
+    /// Decides a sealed transaction by the Serial Safety Net, or says for what it waits. The mark of a safe snapshot is done once the ring has
+    /// room for it.
     fn settle(&mut self, seat: Seat) -> Result<Outcome, Wait>
         requires stands { stands self.old }
         requires session { IsSession (view self.old) seat }
