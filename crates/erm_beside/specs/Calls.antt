@@ -1,11 +1,11 @@
 -- What the calls of a session do to its own part where other sessions run beside it. A session's own view is a world as far as the session
 -- knows it: of it only its own part counts, how the world was opened, and how far the log has come at least.
-use Rattle.std.specs.Prelude.{◌≡◌, ◌≢◌, ℕ, ◌+◌, ◌<◌, ◌≤◌, ◌⊎◌, false, List, length}
+use Rattle.std.specs.Prelude.{◌≡◌, ◌≢◌, ℕ, ◌+◌, ◌<◌, ◌≤◌, ◌⊎◌, true, false, List, length}
 use Rattle.erm_model.specs.declared.history.VersionRead.{VersionRead}
 use Rattle.erm_model.specs.declared.history.VersionWritten.{VersionWritten}
 use Rattle.erm_model.specs.declared.limits.TheConstants.{LAST_NUMBER, OID_LIMIT, READ_LIMIT, STOP, WRITE_LIMIT}
 use Rattle.erm_model.specs.declared.outcome.Outcome.{Outcome}
-use Rattle.erm_model.specs.declared.outcome.Outcome.TheVariants.{Committed, Excluded}
+use Rattle.erm_model.specs.declared.outcome.Outcome.TheVariants.{Committed, Excluded, Marked}
 use Rattle.erm_model.specs.declared.row_stop.RowStop.{RowStop}
 use Rattle.erm_model.specs.declared.row_stop.RowStop.TheVariants as stop
 use Rattle.erm_model.specs.Member.{◌∈◌}
@@ -99,12 +99,13 @@ RefusedBeside seat (asked_read oid) why v t = NotReadBeside seat oid why v t
 RefusedBeside seat (asked_claim oid) why v t = NotClaimedBeside seat oid why v t
 RefusedBeside seat asked_make why v t = NotMadeBeside seat why v t
 
--- SETTLE. A sealed transaction with this stamp was committed, its window open, or excluded, its window closed. That the numbers are the
--- definitions' is a fact of the world in which all end.
+-- SETTLE. A sealed transaction with this stamp was committed, its window open, or excluded, its window closed; or a mark was marked. That the
+-- numbers are the definitions' is a fact of the world in which all end.
 abbrev pub SettledBeside : View → ℕ → Work → ℕ → Outcome → View → Type 0
-SettledBeside v seat w stamp (Committed r) t = IsDone v seat w (world.commits stamp r.succ r.pred) t
+SettledBeside v seat w stamp (Committed r) t = IsDone v seat w (world.commits stamp r.succ r.pred) t × (w.is_mark ≡ false)
     × (r.number ≡ w.number) × (r.stamp ≡ stamp) × (r.end ≡ stamp + size_of w) × (r.pred < r.succ)
-SettledBeside v seat w stamp (Excluded at succ pred) t = IsDone v seat w (world.excluded stamp succ pred) t × (at ≡ stamp) × (succ ≤ pred)
+SettledBeside v seat w stamp (Excluded at succ pred) t = IsDone v seat w (world.excluded stamp succ pred) t × (w.is_mark ≡ false) × (at ≡ stamp) × (succ ≤ pred)
+SettledBeside v seat w stamp (Marked at safe) t = IsDone v seat w (world.marked stamp w.begin) t × (w.is_mark ≡ true) × (at ≡ stamp) × (safe ≡ w.begin)
 
 abbrev pub DidSettleBeside : ℕ → Outcome → View → View → Type 0
 DidSettleBeside seat outcome v t = (w : Work) × (stamp : ℕ) × ((v.session seat).stand ≡ world.sealed w stamp) × SettledBeside v seat w stamp outcome t

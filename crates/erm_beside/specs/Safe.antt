@@ -6,7 +6,7 @@ use Rattle.erm_model.specs.History.{IsNewestBelow}
 use Rattle.erm_world.specs.declared.stops.SafeStop.{SafeStop}
 use Rattle.erm_world.specs.declared.stops.SafeStop.TheVariants as safe
 use Rattle.erm_world.specs.Calls.{Becomes, IsDone}
-use Rattle.erm_world.specs.Safe.{WentBack, with_snapshot}
+use Rattle.erm_world.specs.Safe.{DidMark, WentBack, with_snapshot}
 use Rattle.erm_world.specs.World.{Snapshot, View, history_of, work_at}
 use Rattle.erm_world.specs.World as world
 use Rattle.erm_beside.specs.Calls.{IsAnother}
@@ -30,6 +30,10 @@ NotSafeBeside seat (safe.Unsafe other stamp) v t = IsDone v seat (work_at v seat
 abbrev pub NotSafeMet : View → ℕ → SafeStop → View → View → Type 0
 NotSafeMet f seat (safe.NotYet other seen) v t = Unit {0}
 NotSafeMet f seat (safe.Unsafe other stamp) v t = WentBack f seat (work_at v seat).begin other stamp × (stamp < t.tail)
+
+-- MARK. A safe snapshot is sealed: its mark has a place of the log, at or behind where the session knew the log to end.
+abbrev pub DidMarkBeside : ℕ → ℕ → View → View → Type 0
+DidMarkBeside seat stamp v t = DidMark v seat stamp t
 
 -- SAFE READ. The row is the newest one below the stamp of all that commit.
 abbrev pub IsRowBelow : View → ℕ → ℕ → List ℕ → Type 0

@@ -2,7 +2,7 @@
 ghost use Rattle.std.specs.Prelude.{◌≡◌, ◌<◌, IfErr, IfOk, OnOk};
 ghost use Rattle.erm_beside.specs.Calls.{After, MayNotBeginBeside, Passes};
 ghost use Rattle.erm_beside.specs.Laws.{GoesOnward};
-ghost use Rattle.erm_beside.specs.Safe.{DidBeginSafeBeside, DidSafeBeside, IsRowBelow, NotSafeBeside, NotSafeMet};
+ghost use Rattle.erm_beside.specs.Safe.{DidBeginSafeBeside, DidMarkBeside, DidSafeBeside, IsRowBelow, NotSafeBeside, NotSafeMet};
 ghost use Rattle.erm_model.specs.declared.limits.TheConstants.{OID_LIMIT, STOP};
 ghost use Rattle.erm_model.specs.declared.outcome.Phase.TheVariants.{Idle, Pending, Safe};
 ghost use Rattle.erm_world.specs.Calls.{DidAbort};
@@ -56,6 +56,14 @@ pub trait SafeSession: SharedSession {
         ensures onward { GoesOnward (Self.seat self.old) (Self.seat self.new) (Self.ends self.old) (Self.ends self.new) }
         ensures same { Passes (Self.seat self.old) (Self.own self.old) (Self.own self.new) }
         ensures row { (f : View) → Self.ends self.new f → IsRowBelow f (work_at (Self.own self.old) (Self.seat self.old)).begin oid result };
+
+    /// Seals a safe snapshot: its mark gets the end of the log for its place, as far as that has come by then.
+    fn mark(&mut self, shared: &Self::Shared) -> Stamp
+        requires stands { Self.stands shared.now self.old }
+        requires safe { phase_at (Self.own self.old) (Self.seat self.old) ≡ Safe }
+        ensures stands { Self.stands shared.now self.new }
+        ensures onward { GoesOnward (Self.seat self.old) (Self.seat self.new) (Self.ends self.old) (Self.ends self.new) }
+        ensures sealed { After (Self.seat self.old) (DidMarkBeside (Self.seat self.old) result) (Self.own self.old) (Self.own self.new) };
 
     /// Ends the snapshot, safe or not.
     fn end_safe(&mut self, shared: &Self::Shared)

@@ -12,7 +12,7 @@ ghost use Rattle.erm_world.specs.declared.stops.SafeStop.{SafeStop};
 ghost use Rattle.erm_world.specs.declared.stops.SaveStop.{SaveStop};
 ghost use Rattle.erm_world.specs.declared.stops.Wait.{Wait};
 ghost use Rattle.erm_world.specs.Calls.{DidAbort, DidBegin, DidClaim, DidMake, DidNotClaim, DidNotMake, DidNotRead, DidNotSettle, DidRead, DidSeal, DidSettle, DidWrite, MayNotBegin};
-ghost use Rattle.erm_world.specs.Safe.{DidBeginSafe, DidNotSafe, DidSafe, IsSafeIn};
+ghost use Rattle.erm_world.specs.Safe.{DidBeginSafe, DidMark, DidNotSafe, DidSafe, IsSafeIn};
 ghost use Rattle.erm_world.specs.Saves.{DidNotSave, DidSave, HasNoSave, WentBack};
 ghost use Rattle.erm_world.specs.Whole.{KeepsSessions};
 ghost use Rattle.erm_world.specs.World.{IsSession, View, history_of, phase_at};
@@ -34,6 +34,7 @@ pub fn calls_move_on()
     ensures settles { (v t : View) (seat : ℕ) (outcome : Outcome) → IsSession v seat → DidSettle v seat outcome t → MovesOn v t }
     ensures aborts { (v t : View) (seat : ℕ) → DidAbort v seat t → MovesOn v t }
     ensures begins_safe { (v t : View) (seat begin : ℕ) → DidBeginSafe v seat begin t → MovesOn v t }
+    ensures marks { (v t : View) (seat stamp : ℕ) → IsSession v seat → DidMark v seat stamp t → MovesOn v t }
     ensures is_safe { (v t : View) (seat : ℕ) → DidSafe v seat t → MovesOn v t }
     ensures flushes { (v t : View) → KeepsSessions v t → MovesOn v t }
 {}

@@ -9,7 +9,7 @@ use Rattle.erm_model.specs.Safe.{IsSafeAt}
 use Rattle.erm_world.specs.declared.stops.SafeStop.{SafeStop}
 use Rattle.erm_world.specs.declared.stops.SafeStop.TheVariants as safe
 use Rattle.erm_world.specs.Calls.{Becomes, IsDone, Seals}
-use Rattle.erm_world.specs.World.{Has, IsCurrent, IsSession, IsWorking, Session, Snapshot, View, Work, history_of, marking, phase_at, work_at}
+use Rattle.erm_world.specs.World.{IsCurrent, IsSession, Session, Snapshot, View, Work, history_of, marking, phase_at, work_at}
 use Rattle.erm_world.specs.World as world
 
 -- the session has this snapshot
@@ -21,12 +21,12 @@ abbrev pub DidBeginSafe : View → ℕ → ℕ → View → Type 0
 DidBeginSafe v seat begin t = (length (v.session seat).over < LAST_NUMBER) × (v.tail < STOP) × (begin ≡ v.tail)
     × Becomes v seat (with_snapshot v seat (record { number = length (v.session seat).over + 1; begin = begin; is_safe = false })) t
 
--- The stamp is safe, and stays so: no transaction that has committed shows in what comes before it, and whoever is at work, or begins
--- later, begins there or behind.
+-- The stamp is safe, and stays so: no transaction that has committed shows in what comes before it, and whoever has a transaction or a snapshot,
+-- or begins later, begins there or behind.
 pub record IsSafeIn (v : View) (b : ℕ) : Type 0 where
   pub past : b ≤ v.tail
   pub history : IsSafeAt (history_of v) b
-  pub begins : (seat : ℕ) (w : Work) → IsSession v seat → IsWorking (v.session seat).stand w → b ≤ w.begin
+  pub begins : (seat : ℕ) (w : Work) → IsSession v seat → IsCurrent (v.session seat).stand w → b ≤ w.begin
 
 -- each safe snapshot stands on a safe stamp
 abbrev pub HasSafeStamps : View → Type 0
@@ -74,10 +74,6 @@ pub record DidMark (v : View) (seat stamp : ℕ) (t : View) : Type 0 where
   pub stands : (v.session seat).stand ≡ world.snapshot snapshot
   pub safe : snapshot.is_safe ≡ true
   pub seals : Seals v seat (marking snapshot) stamp t
-
--- The begin stamp of each mark is safe, of one that waits as of one that is over.
-abbrev pub HasSafeMarks : View → Type 0
-HasSafeMarks v = (seat : ℕ) (w : Work) → IsSession v seat → Has v seat w → w.is_mark ≡ true → IsSafeIn v w.begin
 
 -- it has a snapshot, safe or not
 abbrev pub HasSnapshot : View → ℕ → Type 0

@@ -161,13 +161,6 @@ IsCurrent (active u) w = u ≡ w
 IsCurrent (sealed u stamp) w = u ≡ w
 IsCurrent (snapshot s) w = begun s.number s.begin ≡ w
 
--- it reads and writes, or has its commit stamp
-abbrev pub IsWorking : Stand → Work → Type 0
-IsWorking idle w = ⊥
-IsWorking (active u) w = u ≡ w
-IsWorking (sealed u stamp) w = u ≡ w
-IsWorking (snapshot s) w = ⊥
-
 -- it is a transaction of the session
 abbrev pub Has : View → ℕ → Work → Type 0
 Has v seat w = IsOver (v.session seat).over w ⊎ IsCurrent (v.session seat).stand w

@@ -3,7 +3,7 @@ ghost use Rattle.std.specs.Prelude.{◌≡◌, ◌<◌, IfOk, IfErr, OnOk};
 ghost use Rattle.erm_model.specs.declared.limits.TheConstants.{OID_LIMIT};
 ghost use Rattle.erm_model.specs.declared.outcome.Phase.TheVariants.{Idle, Pending, Safe};
 ghost use Rattle.erm_world.specs.Calls.{DidAbort, MayNotBegin};
-ghost use Rattle.erm_world.specs.Safe.{DidBeginSafe, DidMark, DidNotSafe, DidSafe, DidSafeRead, HasSafeMarks, HasSafeStamps, HasSnapshot};
+ghost use Rattle.erm_world.specs.Safe.{DidBeginSafe, DidMark, DidNotSafe, DidSafe, DidSafeRead, HasSafeStamps, HasSnapshot};
 ghost use Rattle.erm_world.specs.World.{IsSession, phase_at, work_at};
 
 use crate::RowWorld;
@@ -68,7 +68,4 @@ pub trait SafeWorld: RowWorld {
 
     /// A safe snapshot stands on a safe stamp, in every state.
     ghost safe_stamps: { (w : Self) → Self.stands w → HasSafeStamps (Self.view w) };
-
-    /// And so does each mark, for ever.
-    ghost safe_marks: { (w : Self) → Self.stands w → HasSafeMarks (Self.view w) };
 }
