@@ -2,7 +2,7 @@
 use Rattle.std.specs.Prelude.{ℕ, List, Some, None, codes}
 use Rattle.erm_model.specs.declared.operation.Reply.TheVariants as reply
 use Rattle.erm_report.specs.declared.answer.Answer.{Answer}
-use Rattle.erm_report.specs.declared.answer.Answer.TheVariants.{Began, Safe, Replied, Cut, Saved, Back, Sealed, Committed, Excluded, Aborted, Ended, Durable, Flushed, Empty, Checkpointed, NotIdle, NoTransaction, IsSealed, NotSealed, ReadOnly, NotSafe, LogEnd, NumbersEnd, WaitSeat, WaitRing, Unsafe, Owned, Newer, ExcludedEarly, ReadsFull, WritesFull, CellsFull, OidsFull, SavesFull, NoSave, NotFlushed, NoReceipt, Unfilled, DiskFault}
+use Rattle.erm_report.specs.declared.answer.Answer.TheVariants.{Began, Safe, Replied, Cut, Saved, Back, Sealed, Committed, Excluded, Aborted, Ended, Marked, Durable, Flushed, Empty, Checkpointed, NotIdle, NoTransaction, IsSealed, NotSealed, ReadOnly, NotSafe, LogEnd, NumbersEnd, WaitSeat, WaitRing, Unsafe, Owned, Newer, ExcludedEarly, ReadsFull, WritesFull, CellsFull, OidsFull, SavesFull, NoSave, NotFlushed, NoReceipt, Unfilled, DiskFault}
 
 -- the words of an answer up to its first number or value
 abbrev pub lead : Answer → List ℕ
@@ -22,6 +22,7 @@ lead (Committed stamp succ pred) = codes "committed "
 lead (Excluded stamp succ pred) = codes "excluded at "
 lead Aborted = codes "aborted"
 lead Ended = codes "ended"
+lead (Marked safe stamp) = codes "marked "
 lead (Durable stamp) = codes "durable "
 lead (Flushed stamp) = codes "flushed "
 lead (Empty stamp) = codes "empty "

@@ -5,7 +5,7 @@ use Rattle.erm_model.specs.declared.limits.TheConstants.{TABLES}
 use Rattle.erm_model.specs.declared.operation.Reply.{Reply}
 use Rattle.erm_model.specs.declared.operation.Reply.TheVariants as reply
 use Rattle.erm_report.specs.declared.answer.Answer.{Answer}
-use Rattle.erm_report.specs.declared.answer.Answer.TheVariants.{Began, Safe, Replied, Cut, Saved, Back, Sealed, Committed, Excluded, Durable, Flushed, Empty, Checkpointed, LogEnd, WaitSeat, WaitRing, Unsafe, Owned, Newer, ExcludedEarly, CellsFull, OidsFull, NoSave, NotFlushed, Unfilled}
+use Rattle.erm_report.specs.declared.answer.Answer.TheVariants.{Began, Safe, Replied, Cut, Saved, Back, Sealed, Committed, Excluded, Marked, Durable, Flushed, Empty, Checkpointed, LogEnd, WaitSeat, WaitRing, Unsafe, Owned, Newer, ExcludedEarly, CellsFull, OidsFull, NoSave, NotFlushed, Unfilled}
 use Rattle.erm_report.specs.declared.line.Line.{Line}
 use Rattle.erm_report.specs.declared.line.Line.TheVariants as line
 use Rattle.erm_script.specs.Script.{IsValue}
@@ -37,6 +37,7 @@ FitsAnswer (Back n) = n < 2 ^ 32
 FitsAnswer (Sealed stamp) = stamp < 2 ^ 64
 FitsAnswer (Committed stamp succ pred) = (stamp < 2 ^ 64) × (succ < 2 ^ 64) × (pred < 2 ^ 64)
 FitsAnswer (Excluded stamp succ pred) = (stamp < 2 ^ 64) × (succ < 2 ^ 64) × (pred < 2 ^ 64)
+FitsAnswer (Marked safe stamp) = (safe < 2 ^ 64) × (stamp < 2 ^ 64)
 FitsAnswer (Durable stamp) = stamp < 2 ^ 64
 FitsAnswer (Flushed stamp) = stamp < 2 ^ 64
 FitsAnswer (Empty stamp) = stamp < 2 ^ 64

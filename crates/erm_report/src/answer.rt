@@ -38,6 +38,12 @@ pub enum Answer {
     Aborted,
     /// The safe snapshot ended: it has its place in the serial order.
     Ended,
+    /// The begin stamp `safe` of the safe snapshot is marked in the log, in a block at this stamp. The snapshot ended: it has its place in the
+    /// serial order.
+    Marked {
+        safe: Stamp,
+        stamp: Stamp,
+    },
     /// The session's last commit, which has this stamp, is synced.
     Durable(Stamp),
     /// The log was written and synced up to this stamp.

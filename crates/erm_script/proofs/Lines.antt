@@ -48,6 +48,7 @@ keyword_in word =
     else if same word (codes "settle") then keyword.Settle
     else if same word (codes "commit") then keyword.Commit
     else if same word (codes "abort") then keyword.Abort
+    else if same word (codes "mark") then keyword.Mark
     else if same word (codes "durable") then keyword.Durable
     else if same word (codes "flush") then keyword.Flush
     else keyword.Checkpoint
@@ -67,6 +68,7 @@ keyword_in-word_of keyword.Seal = refl
 keyword_in-word_of keyword.Settle = refl
 keyword_in-word_of keyword.Commit = refl
 keyword_in-word_of keyword.Abort = refl
+keyword_in-word_of keyword.Mark = refl
 keyword_in-word_of keyword.Durable = refl
 keyword_in-word_of keyword.Flush = refl
 keyword_in-word_of keyword.Checkpoint = refl
@@ -112,6 +114,7 @@ command_in keyword.Seal words = command.Seal
 command_in keyword.Settle words = command.Settle
 command_in keyword.Commit words = command.Commit
 command_in keyword.Abort words = command.Abort
+command_in keyword.Mark words = command.Mark
 command_in keyword.Durable words = command.Durable
 command_in keyword.Flush words = command.Flush
 command_in keyword.Checkpoint words = command.Checkpoint

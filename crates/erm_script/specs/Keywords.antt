@@ -2,7 +2,7 @@
 use Rattle.std.specs.Prelude.{ℕ, Bool, true, false, List, [], ◌∷◌, codes}
 use Rattle.erm_script.specs.declared.grammar.Grammar.{Grammar}
 use Rattle.erm_script.specs.declared.keyword.Keyword.{Keyword}
-use Rattle.erm_script.specs.declared.keyword.Keyword.TheVariants.{Begin, Safe, Get, Put, Del, Next, Scan, Tidy, Save, Back, Seal, Settle, Commit, Abort, Durable, Flush, Checkpoint}
+use Rattle.erm_script.specs.declared.keyword.Keyword.TheVariants.{Begin, Safe, Get, Put, Del, Next, Scan, Tidy, Save, Back, Seal, Settle, Commit, Abort, Mark, Durable, Flush, Checkpoint}
 
 -- the word of a command
 abbrev pub word_of : Keyword → List ℕ
@@ -20,6 +20,7 @@ word_of Seal = codes "seal"
 word_of Settle = codes "settle"
 word_of Commit = codes "commit"
 word_of Abort = codes "abort"
+word_of Mark = codes "mark"
 word_of Durable = codes "durable"
 word_of Flush = codes "flush"
 word_of Checkpoint = codes "checkpoint"

@@ -49,6 +49,7 @@ keyword_of command.Seal = keyword.Seal
 keyword_of command.Settle = keyword.Settle
 keyword_of command.Commit = keyword.Commit
 keyword_of command.Abort = keyword.Abort
+keyword_of command.Mark = keyword.Mark
 keyword_of command.Durable = keyword.Durable
 keyword_of command.Flush = keyword.Flush
 keyword_of command.Checkpoint = keyword.Checkpoint

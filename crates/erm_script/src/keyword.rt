@@ -20,6 +20,7 @@ pub enum Keyword {
     Settle,
     Commit,
     Abort,
+    Mark,
     Durable,
     Flush,
     Checkpoint,
@@ -66,6 +67,8 @@ impl Keyword {
             Some(Keyword::Commit)
         } else if word == b"abort".as_slice() {
             Some(Keyword::Abort)
+        } else if word == b"mark".as_slice() {
+            Some(Keyword::Mark)
         } else if word == b"durable".as_slice() {
             Some(Keyword::Durable)
         } else if word == b"flush".as_slice() {

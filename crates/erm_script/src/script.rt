@@ -38,6 +38,8 @@ pub enum Command {
     Commit,
     /// Gives the transaction up: nothing of it stays.
     Abort,
+    /// Marks the begin stamp of a safe snapshot in the log, and ends the snapshot.
+    Mark,
     /// Asks whether the session's last commit would outlive a crash.
     Durable,
     /// Writes the log, as far as it is decided, to the disk.

@@ -40,6 +40,7 @@ fn lead(answer: &Answer) -> &'static [u8]
         Answer::Excluded { .. } => b"excluded at ",
         Answer::Aborted => b"aborted",
         Answer::Ended => b"ended",
+        Answer::Marked { .. } => b"marked ",
         Answer::Durable(_) => b"durable ",
         Answer::Flushed(_) => b"flushed ",
         Answer::Empty(_) => b"empty ",
@@ -113,6 +114,7 @@ fn push_told(out: &mut Vec<u8>, words: &[u8], answer: &Answer) -> Result<(), All
         Answer::Committed { stamp, succ, pred } | Answer::Excluded { stamp, succ, pred } => {
             push_stamps(out, words, *stamp, *succ, *pred)
         }
+        Answer::Marked { safe, stamp } => push_two(out, words, *safe, b" at ", *stamp),
         Answer::ExcludedEarly { succ, pred } => push_two(out, words, *succ, b" pred ", *pred),
         Answer::WaitSeat { seat, seen } => push_two(out, words, u64::from(*seat), b" ", *seen),
         Answer::Unsafe { seat, stamp } => push_two(out, words, u64::from(*seat), b" ", *stamp),
