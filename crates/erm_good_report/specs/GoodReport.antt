@@ -18,12 +18,13 @@ use Rattle.erm_script.specs.declared.script.Command.TheVariants as command
 use Rattle.erm_script.specs.declared.script.ScriptLine.{ScriptLine}
 use Rattle.erm_script.specs.Script.{name_of}
 use Rattle.erm_good_report.specs.Causes.{HasCauseOf}
+use Rattle.erm_good_report.specs.Marks.{MarksAgree}
 use Rattle.erm_good_report.specs.Opening.{Mode, Opening}
 use Rattle.erm_good_report.specs.Phases.{Closed, Closes, ClosesAgree, PhasesAgree, phase_of}
 use Rattle.erm_good_report.specs.Refusals.{HasCauses, moment_at}
 use Rattle.erm_good_report.specs.Snapshots.{SnapshotsAgree}
 use Rattle.erm_good_report.specs.Stamps.{StampsAgree}
-use Rattle.erm_good_report.specs.Transactions.{Said, said_of, Transaction, ended_of, transactions_of, history_of, steps_of}
+use Rattle.erm_good_report.specs.Transactions.{Said, said_of, Transaction, ended_of, marks_of, transactions_of, history_of, steps_of}
 use Rattle.erm_good_report.specs.Windows.{IsTightAt}
 
 -- what the lines of a report say, part by part
@@ -90,6 +91,12 @@ pub record OrderAgrees (commits : List Committed) (opening : Database) (r : Repo
 abbrev pub serial_of : ℕ → List Said → List Committed
 serial_of sessions said = history_of (transactions_of sessions said) ++ ended_of sessions said
 
+-- what the marks of a report owe, of all that its lines tell
+abbrev pub MarksOwe : Mode → Opening → ℕ → List ScriptLine → List Answer → List Closed → Type 0
+MarksOwe mode opening sessions script answers closed =
+    let told = transactions_of sessions (places_of script answers closed) in
+    MarksAgree (moment_at mode opening script answers told) script answers closed told (marks_of sessions (places_of script answers closed))
+
 -- The good report of a script with these sessions. Its numbers and values fit their types, so that its bytes tell it.
 pub record IsGoodReport (mode : Mode) (opening : Opening) (names : List (List ℕ)) (script : List ScriptLine) (lines : List Line) : Type 0 where
   pub report : Report
@@ -98,6 +105,7 @@ pub record IsGoodReport (mode : Mode) (opening : Opening) (names : List (List �
   pub each : length report.answers ≡ length script
   pub closes : ClosesAgree (length names) (said_of script report.answers) report.closed
   pub owes : OwesToAnswers mode opening script report.answers (transactions_of (length names) (places_of script report.answers report.closed))
+  pub marks : MarksOwe mode opening (length names) script report.answers report.closed
   pub order : OrderAgrees (serial_of (length names) (places_of script report.answers report.closed)) opening.map report
 
 -- The windows of the transactions that are told are tight.
@@ -137,3 +145,4 @@ pub record IsCutReport (mode : Mode) (opening : Opening) (names : List (List ℕ
   pub once : AllPairs (λ c d. c.session ≢ d.session) closed
   pub unseen : (c : Closed) → c ∈ closed → IsClosedUnseen script answers c
   pub owes : OwesToAnswers mode opening script answers (transactions_of (length names) (places_of script answers closed))
+  pub marks : MarksOwe mode opening (length names) script answers closed

@@ -6,6 +6,7 @@ pub mod Opening
 pub mod Phases
 pub mod Refusals
 pub mod Snapshots
+pub mod Marks
 pub mod Stamps
 pub mod Transactions
 pub mod Windows

@@ -13,9 +13,10 @@ use Rattle.erm_script.specs.declared.script.ScriptLine.{ScriptLine}
 use Rattle.erm_good_report.specs.Transactions.{Said, said_of}
 use Rattle.erm_good_report.specs.Windows.{IsReplied}
 
--- whether a line asks for a commit: where it waits, its transaction is sealed
+-- whether a line asks for a commit, or for a mark: where it waits, its transaction or its mark is sealed
 abbrev pub asks_commit : Option Command → Bool
 asks_commit (Some command.Commit) = true
+asks_commit (Some command.Mark) = true
 asks_commit asked = false
 
 -- whether it asks for a safe snapshot: where it waits, its snapshot is pending
@@ -41,6 +42,7 @@ phase_after asked (answer.Newer stamp) phase = Idle
 phase_after asked (answer.Unsafe seat stamp) phase = Idle
 phase_after asked answer.Aborted phase = Idle
 phase_after asked answer.Ended phase = Idle
+phase_after asked (answer.Marked safe stamp) phase = Idle
 phase_after asked a phase = phase
 
 -- the phase that the answers to a session leave
@@ -48,13 +50,14 @@ abbrev pub phase_of : ℕ → List Said → Phase
 phase_of session said = fold (λ phase s. if s.session == session then phase_after s.asked s.answer phase else phase) Idle said
 
 -- What a command needs of its session: that it is idle; that it is idle, or its snapshot is pending; a transaction that reads, or a safe
--- snapshot; a transaction that writes; a sealed one; or one of any kind that may be given up.
+-- snapshot; a transaction that writes; a sealed one; a safe snapshot alone; or one of any kind that may be given up.
 pub data Need : Type 0 where
   NeedsIdle : Need
   NeedsSnapshot : Need
   NeedsReader : Need
   NeedsWriter : Need
   NeedsSealed : Need
+  NeedsSafe : Need
   NeedsAny : Need
 
 -- what a command needs, where it needs something
@@ -73,6 +76,7 @@ need_of command.Seal = Some NeedsWriter
 need_of command.Settle = Some NeedsSealed
 need_of command.Commit = Some NeedsReader
 need_of command.Abort = Some NeedsAny
+need_of command.Mark = Some NeedsSafe
 need_of command.Durable = None
 need_of command.Flush = None
 need_of command.Checkpoint = None
@@ -97,6 +101,10 @@ refusal_for (Some NeedsSealed) Idle = Some answer.NotSealed
 refusal_for (Some NeedsSealed) Active = Some answer.NotSealed
 refusal_for (Some NeedsSealed) Pending = Some answer.ReadOnly
 refusal_for (Some NeedsSealed) Safe = Some answer.ReadOnly
+refusal_for (Some NeedsSafe) Idle = Some answer.NoTransaction
+refusal_for (Some NeedsSafe) Active = Some answer.NotSafe
+refusal_for (Some NeedsSafe) Sealed = Some answer.IsSealed
+refusal_for (Some NeedsSafe) Pending = Some answer.NotSafe
 refusal_for (Some NeedsAny) Idle = Some answer.NoTransaction
 refusal_for (Some NeedsAny) Sealed = Some answer.IsSealed
 refusal_for need phase = None
@@ -164,10 +172,13 @@ IsAnswerTo command.Save answer.SavesFull = Unit {0}
 IsAnswerTo (command.Back n) (answer.Back told) = told ≡ n
 IsAnswerTo (command.Back n) (answer.NoSave held) = Unit {0}
 IsAnswerTo command.Seal (answer.Sealed stamp) = Unit {0}
+IsAnswerTo command.Settle (answer.Marked safe stamp) = Unit {0}
 IsAnswerTo command.Settle a = IsOutcome a
 IsAnswerTo command.Commit answer.Ended = Unit {0}
 IsAnswerTo command.Commit a = IsOutcome a
 IsAnswerTo command.Abort answer.Aborted = Unit {0}
+IsAnswerTo command.Mark (answer.Marked safe stamp) = Unit {0}
+IsAnswerTo command.Mark (answer.WaitRing flushed) = Unit {0}
 IsAnswerTo command.Durable (answer.Durable stamp) = Unit {0}
 IsAnswerTo command.Durable (answer.NotFlushed flushed) = Unit {0}
 IsAnswerTo command.Durable answer.NoReceipt = Unit {0}
@@ -204,6 +215,7 @@ abbrev pub Closes : Phase → Answer → Type 0
 Closes Active answer.Aborted = Unit {0}
 Closes Sealed (answer.Committed stamp succ pred) = Unit {0}
 Closes Sealed (answer.Excluded stamp succ pred) = Unit {0}
+Closes Sealed (answer.Marked safe stamp) = Unit {0}
 Closes Pending answer.Aborted = Unit {0}
 Closes Safe answer.Aborted = Unit {0}
 Closes phase a = ⊥

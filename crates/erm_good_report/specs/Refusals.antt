@@ -14,7 +14,7 @@ use Rattle.erm_good_report.specs.Causes.{CommitsBeside, EitherWrites, HasNoWindo
 use Rattle.erm_good_report.specs.Opening.{Mode, InTurn, AtOnce, Opening}
 use Rattle.erm_good_report.specs.Phases.{phase_of}
 use Rattle.erm_good_report.specs.Stamps.{DrawsUntold, begin_told, stamp_drawn}
-use Rattle.erm_good_report.specs.Transactions.{Said, said_of, Ending, Commits, Transaction, held_of, progress_of, stamp_of, stamp_of_ending, table_of, with_line}
+use Rattle.erm_good_report.specs.Transactions.{Said, said_of, Ending, Commits, Snapshot, Transaction, held_of, progress_of, stamp_of, stamp_of_ending, table_of, with_line}
 
 -- how many objects a command makes at most, and how many it claims at most
 abbrev pub makes_of : Command → ℕ
@@ -51,6 +51,7 @@ IsCounted least most found = (least ≤ found) × (found ≤ most + SESSIONS + 2
 abbrev pub draws_of : Command → ℕ
 draws_of command.Seal = 1
 draws_of command.Commit = 1
+draws_of command.Mark = 1
 draws_of c = 0
 
 -- what the lines of a script add up to
@@ -111,6 +112,19 @@ pub record IsLeastUndecided (m : Moment) (stamp : ℕ) : Type 0 where
   pub transaction : Transaction
   pub sealed : IsSealedWith m session stamp transaction
   pub least : (other : ℕ) → IsUndecidedAt m other → stamp ≤ other
+
+-- The mark of a session's snapshot is sealed and waits for room in the ring, and no transaction that isn't decided has a stamp below this one,
+-- which is the mark's.
+pub record IsLeastMark (m : Moment) (stamp : ℕ) : Type 0 where
+  pub session : ℕ
+  pub snapshot : Snapshot
+  pub current : (progress_of session m.before).snapshot ≡ Some snapshot
+  pub sealed : phase_of session m.before ≡ Sealed
+  pub least : (other : ℕ) → IsUndecidedAt m other → stamp ≤ other
+
+-- a flush comes up to there: to the least stamp of a transaction that isn't decided, or to a mark
+abbrev pub IsLeastOpen : Moment → ℕ → Type 0
+IsLeastOpen m stamp = IsLeastUndecided m stamp ⊎ IsLeastMark m stamp
 
 abbrev pub NoneIsSealed : Moment → Type 0
 NoneIsSealed m = (session : ℕ) → phase_of session m.before ≢ Sealed
@@ -247,15 +261,15 @@ HasLogCause m answer.NumbersEnd = ⊥
 HasLogCause m (answer.Durable stamp) = (last_commit m ≡ Some stamp) × (m.mode ≡ InTurn → stamp < flushed_at m)
 HasLogCause m (answer.NotFlushed flushed) = (m.mode ≡ InTurn) × (flushed ≡ flushed_at m) × ((stamp : ℕ) × (last_commit m ≡ Some stamp) × (flushed ≤ stamp))
 HasLogCause m answer.NoReceipt = last_commit m ≡ None
-HasLogCause m (answer.Flushed place) = (flushed_at m < place) × (IsLeastUndecided m place ⊎ (NoneIsSealed m × IsAboveAll m place))
+HasLogCause m (answer.Flushed place) = (flushed_at m < place) × (IsLeastOpen m place ⊎ (NoneIsSealed m × IsAboveAll m place))
 HasLogCause m (answer.Empty place) = (place ≡ flushed_at m) × IsAboveAll m place
 HasLogCause m (answer.Checkpointed place) = (flushed_at m ≤ place) × NoneIsSealed m × IsAboveAll m place
 HasLogCause m a = Unit {0}
 
 -- a flush or a checkpoint that comes to a block that isn't decided
 abbrev pub HasUnfilledCause : Moment → Command → Answer → Type 0
-HasUnfilledCause m command.Flush (answer.Unfilled place) = (place ≡ flushed_at m) × IsLeastUndecided m place
-HasUnfilledCause m command.Checkpoint (answer.Unfilled place) = (flushed_at m ≤ place) × IsLeastUndecided m place
+HasUnfilledCause m command.Flush (answer.Unfilled place) = (place ≡ flushed_at m) × IsLeastOpen m place
+HasUnfilledCause m command.Checkpoint (answer.Unfilled place) = (flushed_at m ≤ place) × IsLeastOpen m place
 HasUnfilledCause m c a = Unit {0}
 
 -- the cause of an answer

@@ -11,7 +11,7 @@ use Rattle.erm_good_report.specs.Opening.{Mode, InTurn, Opening, is_before}
 use Rattle.erm_good_report.specs.Phases.{asks_commit}
 use Rattle.erm_good_report.specs.Transactions.{Said, Transaction, progress_of, stamp_of, stamp_of_ending}
 
--- the begin stamp that an answer tells, and the commit stamp
+-- the begin stamp that an answer tells, and the commit stamp, or the place of a mark's block
 abbrev pub begin_told : Answer → Option ℕ
 begin_told (answer.Began begin) = Some begin
 begin_told a = None
@@ -20,6 +20,7 @@ abbrev pub stamp_told : Answer → Option ℕ
 stamp_told (answer.Sealed stamp) = Some stamp
 stamp_told (answer.Committed stamp succ pred) = Some stamp
 stamp_told (answer.Excluded stamp succ pred) = Some stamp
+stamp_told (answer.Marked safe stamp) = Some stamp
 stamp_told a = None
 
 -- the commit stamps that an answer prints: that of a session waited for, of a newer commit, of one that makes a snapshot unsafe, or of a durable
@@ -40,7 +41,7 @@ place_told (answer.Checkpointed place) = Some place
 place_told (answer.Durable stamp) = Some (stamp + 1)
 place_told a = None
 
--- the commit stamp that a line draws and tells: a seal's, or a commit's; a settle tells one that was drawn before
+-- the stamp that a line draws and tells: a seal's, a commit's, or a mark's; a settle tells one that was drawn before
 abbrev pub stamp_decided : Option Command → Option ℕ → Option ℕ
 stamp_decided asked told = if asks_commit asked then told else None
 

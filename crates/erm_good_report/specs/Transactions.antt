@@ -99,12 +99,14 @@ pub record Transaction : Type 0 where
   pub ending : Ending
 
 -- A snapshot that only reads (Ports and Grittner, 2012): its number in its session, its begin stamp where a line told that it is safe there,
--- its lines that work on the map, and whether it has its place in the serial order, since it ended.
+-- its lines that work on the map, whether it has its place in the serial order, since it ended, and, where it ended with a mark, the safe stamp
+-- that the mark names and the place of its block.
 pub record Snapshot : Type 0 where
   pub number : ℕ
   pub begin : Option ℕ
   pub lines : List Exchange
   pub placed : Bool
+  pub mark : Option (ℕ × ℕ)
 
 -- an operation that was answered, with its reply
 abbrev pub step_of : Exchange → Option Step
@@ -151,7 +153,7 @@ begun session begin p = record { session = session; number = next_number p; begi
 
 -- the session's snapshot, or the one that begins where it has none
 abbrev pub own_snapshot : Progress → Snapshot
-own_snapshot p = option_map_or (λ s. s) p.snapshot (record { number = next_number p; begin = None; lines = []; placed = false })
+own_snapshot p = option_map_or (λ s. s) p.snapshot (record { number = next_number p; begin = None; lines = []; placed = false; mark = None })
 
 -- a line with its answer, where it works on the map
 abbrev pub exchange_of : Option Command → Answer → Option Exchange
@@ -175,6 +177,10 @@ with_begin begin s = record s { begin = Some begin }
 
 abbrev pub with_end : Snapshot → Snapshot
 with_end s = record s { placed = true }
+
+-- one that has ended with a mark
+abbrev pub with_mark : (safe stamp : ℕ) → Snapshot → Snapshot
+with_mark safe stamp s = record s { placed = true; mark = Some (safe, stamp) }
 
 -- a transaction that was sealed, and one that has ended
 abbrev pub with_seal : ℕ → Transaction → Transaction
@@ -203,6 +209,7 @@ heard session asked (answer.Began begin) p = record p { current = Some (begun se
 heard session asked (answer.Safe begin) p = record p { snapshot = Some (with_begin begin (own_snapshot p)) }
 heard session asked (answer.Unsafe seat stamp) p = ended Aborts (record p { snapshot = Some (own_snapshot p) })
 heard session asked answer.Ended p = ended Aborts (record p { snapshot = option_map with_end p.snapshot })
+heard session asked (answer.Marked safe stamp) p = ended Aborts (record p { snapshot = option_map (with_mark safe stamp) p.snapshot })
 heard session asked (answer.Sealed stamp) p = record p { current = option_map (with_seal stamp) p.current }
 heard session asked (answer.Committed stamp succ pred) p = ended (Commits stamp succ pred) p
 heard session asked (answer.Excluded stamp succ pred) p = ended (Excludes (Some stamp) succ pred) p
@@ -247,6 +254,22 @@ ended_as session s = if s.placed then option_map (placed_at session s) s.begin e
 -- the snapshots of some sessions that ended
 abbrev pub ended_of : ℕ → List Said → List Committed
 ended_of sessions said = flat_map (λ session. filter_map (ended_as session) (progress_of session said).snapshots) (range_with_len 1 sessions)
+
+-- a mark that was told: its snapshot, with the begin stamp that a line told of it, the safe stamp that it names, and the place of its block
+pub record Mark : Type 0 where
+  pub session : ℕ
+  pub number : ℕ
+  pub begin : Option ℕ
+  pub safe : ℕ
+  pub stamp : ℕ
+
+-- a snapshot that ended with a mark
+abbrev pub marked_as : ℕ → Snapshot → Option Mark
+marked_as session s = option_map (λ m. record { session = session; number = s.number; begin = s.begin; safe = m.0; stamp = m.1 }) s.mark
+
+-- the marks of some sessions
+abbrev pub marks_of : ℕ → List Said → List Mark
+marks_of sessions said = flat_map (λ session. filter_map (marked_as session) (progress_of session said).snapshots) (range_with_len 1 sessions)
 
 -- a transaction that committed
 abbrev pub committed_as : Ending → Transaction → Option Committed

@@ -11,7 +11,7 @@ use Rattle.erm_model.specs.Rows.{Rows, set_row}
 use Rattle.erm_model.proofs.Members.{∈-behind}
 use Rattle.erm_machine.specs.declared.attempt.Attempt.{Attempt}
 use Rattle.erm_machine.specs.declared.attempt.Decision.{Decision}
-use Rattle.erm_machine.specs.declared.attempt.Decision.TheVariants.{Commit, Skip}
+use Rattle.erm_machine.specs.declared.attempt.Decision.TheVariants.{Commit, Skip, Mark}
 use Rattle.erm_machine.specs.declared.version.Span.{Span}
 use Rattle.erm_machine.specs.Core.{Core}
 use Rattle.erm_machine.specs.Decided.{history_of, record_of, written_of}
@@ -137,21 +137,31 @@ module _ (law : Law) (c : Core) (to : ℕ) (under : SoundUnder law c) (upto : Is
         (λ u m below. subst (λ (n : ℕ). (u.stamp < n) ⊎ (u.stamp ≡ n)) (sym stamp) (first_range at r rs rows stands u m below))
         (subst (λ (n : ℕ). HasNewestRows (history_of c.seats) (opening_rows c.shared) n rows) (sym stamp) stands.newest))
 
-    after_skip : is.attempt.decision ≡ Skip → HasNewestRows (history_of c.seats) (opening_rows c.shared) (at + r.size) (rows_after_block b rows)
-    after_skip skip =
-        let kind : b.kind ≡ block_kind.Skip = is.is_of.kind_is ∙ ap kind_of skip in
-        let same : rows_after_block b rows ≡ rows = ap (λ (k : block.Kind). rows_after_kind k b rows) kind in
+    -- a block that isn't a commit's sets no rows
+    after_other : (is.attempt.decision ≡ Commit → ⊥) → rows_after_block b rows ≡ rows → HasNewestRows (history_of c.seats) (opening_rows c.shared) (at + r.size) (rows_after_block b rows)
+    after_other other same =
         subst (HasNewestRows (history_of c.seats) (opening_rows c.shared) (at + r.size)) (sym same)
         (newest_after_none (history_of c.seats) (opening_rows c.shared) at (at + r.size) rows (omega arith)
         (λ u m below.
         ⊎_elim (λ (before : u.stamp < at). before)
-        (λ (e : u.stamp ≡ at). let commit = (one_commit r.seat is.attempt u is.stands drawn m (e ∙ sym starts)).0 in absurd (cc))
+        (λ (e : u.stamp ≡ at). absurd (other (one_commit r.seat is.attempt u is.stands drawn m (e ∙ sym starts)).0))
         (first_range at r rs rows stands u m below))
         stands.newest)
+
+    after_skip : is.attempt.decision ≡ Skip → HasNewestRows (history_of c.seats) (opening_rows c.shared) (at + r.size) (rows_after_block b rows)
+    after_skip skip =
+        let kind : b.kind ≡ block_kind.Skip = is.is_of.kind_is ∙ ap kind_of skip in
+        after_other (λ commit. absurd (cc)) (ap (λ (k : block.Kind). rows_after_kind k b rows) kind)
+
+    after_mark : is.attempt.decision ≡ Mark → HasNewestRows (history_of c.seats) (opening_rows c.shared) (at + r.size) (rows_after_block b rows)
+    after_mark mark =
+        let kind : b.kind ≡ block_kind.Mark = is.is_of.kind_is ∙ ap kind_of mark in
+        after_other (λ commit. absurd (cc)) (ap (λ (k : block.Kind). rows_after_kind k b rows) kind)
 
     next_newest : (d : Decision) → is.attempt.decision ≡ d → HasBlock d → HasNewestRows (history_of c.seats) (opening_rows c.shared) (at + r.size) (rows_after_block b rows)
     next_newest Commit e has = after_commit e
     next_newest Skip e has = after_skip e
+    next_newest Mark e has = after_mark e
     next_newest _ e has = absurd has
 
     pub next_stands : r.start < to → Stands (at + r.size) rs (rows_after_block b rows)

@@ -7,7 +7,7 @@ use Rattle.erm_model.specs.RowTransaction.{Law}
 use Rattle.erm_model.proofs.Members.{none_in_nil, ∈-behind}
 use Rattle.erm_machine.specs.declared.attempt.Attempt.{Attempt}
 use Rattle.erm_machine.specs.declared.attempt.Decision.{Decision}
-use Rattle.erm_machine.specs.declared.attempt.Decision.TheVariants.{Commit, Skip}
+use Rattle.erm_machine.specs.declared.attempt.Decision.TheVariants.{Commit, Skip, Mark}
 use Rattle.erm_machine.specs.declared.version.Span.{Span}
 use Rattle.erm_machine.specs.Core.{Core}
 use Rattle.erm_machine.specs.Decided.{history_of, record_of, written_of}
@@ -40,6 +40,7 @@ commit_of run seat t b commit is = record {
 committed : (d : Decision) → HasBlock d → kind_of d ≡ block_kind.Commit → d ≡ Commit
 committed Commit has e = refl
 committed Skip has e = absurd (cc)
+committed Mark has e = absurd (cc)
 committed _ has e = absurd has
 
 -- each range has a block, and each block is of a range
