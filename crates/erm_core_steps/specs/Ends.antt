@@ -7,7 +7,7 @@ use Rattle.erm_block.specs.Block.{IsBlock}
 use Rattle.erm_block.specs.Spelling.{spelling}
 use Rattle.erm_core_blocks.specs.Spelled.{IsBlockOf, decided_by}
 use Rattle.erm_model.specs.declared.outcome.Outcome.{Outcome}
-use Rattle.erm_model.specs.declared.outcome.Outcome.TheVariants.{Committed, Excluded}
+use Rattle.erm_model.specs.declared.outcome.Outcome.TheVariants.{Committed, Excluded, Marked}
 use Rattle.erm_machine.specs.declared.attempt.Attempt.{Attempt}
 use Rattle.erm_machine.specs.declared.place.Place.{Place}
 use Rattle.erm_machine.specs.declared.place.Place.TheVariants.{Decided, Leaving}
@@ -17,10 +17,12 @@ use Rattle.erm_world.specs.World.{size_of}
 use Rattle.erm_core_view.specs.Views.{view_of, work_of}
 use Rattle.erm_core_steps.specs.Settles.{HasPassed}
 
--- what becomes of a transaction by the Serial Safety Net: it commits where its exclusion window is open
+-- what becomes of a mark: it is marked with its begin stamp; and of a transaction by the Serial Safety Net: it commits where its exclusion
+-- window is open
 abbrev pub outcome_of : Attempt → Outcome
 outcome_of t =
-    if nat_lt t.pred t.succ
+    if t.is_mark then Marked t.stamp t.begin
+    else if nat_lt t.pred t.succ
     then Committed (record { number = t.number; stamp = t.stamp; end = t.stamp + t.size; succ = t.succ; pred = t.pred })
     else Excluded t.stamp t.succ t.pred
 

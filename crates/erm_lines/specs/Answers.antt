@@ -20,7 +20,7 @@ use Rattle.erm_world.specs.declared.stops.SaveStop.TheVariants as save
 use Rattle.erm_world.specs.declared.stops.Wait.TheVariants as wait
 use Rattle.erm_world.specs.Calls.{DidAbort, DidBegin, DidNotSettle, DidSeal, DidSettle, MayNotBegin}
 use Rattle.erm_world.specs.Going.{Extends}
-use Rattle.erm_world.specs.Safe.{DidBeginSafe, DidNotSafe, DidSafe}
+use Rattle.erm_world.specs.Safe.{DidBeginSafe, DidMark, DidNotSafe, DidSafe}
 use Rattle.erm_world.specs.Saves.{DidNotSave, DidSave, HasNoSave, WentBack}
 use Rattle.erm_world.specs.World.{Fate, Finished, IsSession, View, phase_at, size_of, work_at}
 use Rattle.erm_world.specs.World as world
@@ -64,11 +64,12 @@ DidAskBack v seat n (answer.Back m) t = (m ≡ n) × WentBack v seat n t × Exte
 DidAskBack v seat n (answer.NoSave held) t = HasNoSave v seat n held t
 DidAskBack v seat n a t = ⊥
 
--- a sealed transaction was decided, or waits
+-- a sealed transaction was decided, or a mark was marked, or it waits
 abbrev pub DidDecide : View → ℕ → Answer → View → Type 0
 DidDecide v seat (answer.Committed stamp succ pred) t =
     (r : Receipt) × (r.stamp ≡ stamp) × (r.succ ≡ succ) × (r.pred ≡ pred) × DidSettle v seat (outcome.Committed r) t
 DidDecide v seat (answer.Excluded stamp succ pred) t = DidSettle v seat (outcome.Excluded stamp succ pred) t
+DidDecide v seat (answer.Marked safe stamp) t = DidSettle v seat (outcome.Marked stamp safe) t
 DidDecide v seat (answer.WaitSeat other seen) t = DidNotSettle v seat (wait.Seat other seen) t
 DidDecide v seat (answer.WaitRing flushed) t = DidNotSettle v seat (wait.Ring flushed) t
 DidDecide v seat a t = ⊥
@@ -78,6 +79,13 @@ pub record DidCommit (v : View) (seat : ℕ) (a : Answer) (t : View) : Type 0 wh
   pub stamp : ℕ
   pub between : View
   pub sealed : DidSeal v seat stamp between
+  pub decided : DidDecide between seat a t
+
+-- a safe snapshot was sealed, and its mark then marked, or it waits
+pub record DidAskMark (v : View) (seat : ℕ) (a : Answer) (t : View) : Type 0 where
+  pub stamp : ℕ
+  pub between : View
+  pub sealed : DidMark v seat stamp between
   pub decided : DidDecide between seat a t
 
 -- it committed
@@ -161,6 +169,7 @@ DidOfSnapshot v seat (command.Get table key) (answer.Replied r) t = DidLook v se
 DidOfSnapshot v seat (command.Next table from) (answer.Replied r) t = DidLook v seat (command.Next table from) r t
 DidOfSnapshot v seat (command.Scan table low high) (answer.Replied r) t = DidLook v seat (command.Scan table low high) r t
 DidOfSnapshot v seat command.Commit answer.Ended t = DidAbort v seat t
+DidOfSnapshot v seat command.Mark a t = DidAskMark v seat a t
 DidOfSnapshot v seat command.Abort answer.Aborted t = DidAbort v seat t
 DidOfSnapshot v seat command.Durable a t = DidAskDurable v seat a t
 DidOfSnapshot v seat c a t = ⊥

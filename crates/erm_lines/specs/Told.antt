@@ -1,5 +1,5 @@
 -- What the lines of a script tell of the sessions of a world, and how sessions go on.
-use Rattle.std.specs.Prelude.{◌≡◌, ℕ, ◌⊎◌, false, is_some, List, [], ◌∷◌, ◌++◌, Option, Some, None, IfSome}
+use Rattle.std.specs.Prelude.{◌≡◌, ℕ, ◌⊎◌, true, false, is_some, List, [], ◌∷◌, ◌++◌, Option, Some, None, IfSome}
 use Rattle.erm_model.specs.History.{HasNewestRows}
 use Rattle.erm_model.specs.Rows.{Rows}
 use Rattle.erm_model.specs.Run.{RunsOne, Step}
@@ -25,6 +25,7 @@ abbrev pub RanAs : Fate → Work → List Step → Type 0
 RanAs (world.commits s u p) w steps = WasRun w steps
 RanAs (world.excluded s u p) w steps = WasRun w steps
 RanAs world.aborts w steps = IsAnswered w steps
+RanAs (world.marked stamp safe) w steps = ⊥
 
 -- a transaction is told with its name and begin stamp
 pub record TellsWork (seat : ℕ) (t : Transaction) (w : Work) : Type 0 where
@@ -44,11 +45,16 @@ pub record TellsSnapshot (s : Snapshot) (number begin : ℕ) : Type 0 where
   pub number_is : s.number ≡ number
   pub begin_is : IfSome s.begin (λ stamp. stamp ≡ begin)
 
--- one that is over: in the world it is a transaction that has done nothing, and was aborted
+-- how it ended in the world: aborted, or with the mark that is told
+abbrev pub fate_told : Option (ℕ × ℕ) → Fate
+fate_told None = world.aborts
+fate_told (Some mark) = world.marked mark.1 mark.0
+
+-- one that is over: in the world it is a transaction that has done nothing, and was aborted, or a mark
 pub record TellsEnded (s : Snapshot) (f : Finished) : Type 0 where
   pub snapshot : TellsSnapshot s f.work.number f.work.begin
-  pub bare : f.work ≡ world.begun f.work.number f.work.begin
-  pub aborted : f.fate ≡ world.aborts
+  pub bare : f.work ≡ record (world.begun f.work.number f.work.begin) { is_mark = is_some s.mark }
+  pub ended : f.fate ≡ fate_told s.mark
 
 -- What is over in the world is told, in turn, as the next transaction or as the next snapshot.
 abbrev pub TellsOver : ℕ → List Transaction → List Snapshot → List Finished → Type 0
@@ -66,8 +72,9 @@ pub record TellsCurrent (seat : ℕ) (t : Transaction) (w : Work) : Type 0 where
 abbrev pub TellsNow : ℕ → Option Transaction → Stand → Type 0
 TellsNow seat None world.idle = Unit {0}
 TellsNow seat None (world.snapshot x) = Unit {0}
+TellsNow seat None (world.sealed w stamp) = w.is_mark ≡ true
 TellsNow seat (Some t) (world.active w) = TellsCurrent seat t w × (t.sealed ≡ None)
-TellsNow seat (Some t) (world.sealed w stamp) = TellsCurrent seat t w × ((t.sealed ≡ None) ⊎ (t.sealed ≡ Some stamp))
+TellsNow seat (Some t) (world.sealed w stamp) = TellsCurrent seat t w × (w.is_mark ≡ false) × ((t.sealed ≡ None) ⊎ (t.sealed ≡ Some stamp))
 TellsNow seat current stand = ⊥
 
 -- a snapshot that isn't over: its begin stamp is told where it is known to be safe
@@ -76,9 +83,18 @@ pub record TellsWatch (s : Snapshot) (x : world.Snapshot) : Type 0 where
   pub safe : is_some s.begin ≡ x.is_safe
   pub unfinished : s.placed ≡ false
 
+-- one whose mark is sealed, and waits: its begin stamp is told
+pub record TellsMark (s : Snapshot) (w : Work) : Type 0 where
+  pub mark : w.is_mark ≡ true
+  pub snapshot : TellsSnapshot s w.number w.begin
+  pub safe : is_some s.begin ≡ true
+  pub unfinished : s.placed ≡ false
+
 abbrev pub TellsWatched : Option Snapshot → Stand → Type 0
 TellsWatched (Some s) (world.snapshot x) = TellsWatch s x
+TellsWatched (Some s) (world.sealed w stamp) = TellsMark s w
 TellsWatched None (world.snapshot x) = ⊥
+TellsWatched None (world.sealed w stamp) = w.is_mark ≡ false
 TellsWatched (Some s) stand = ⊥
 TellsWatched None stand = Unit {0}
 

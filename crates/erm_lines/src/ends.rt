@@ -84,6 +84,7 @@ fn decide<W: RowWorld>(
             })
         }
         Outcome::Excluded { stamp, succ, pred } => Ok(Answer::Excluded { stamp, succ, pred }),
+        Outcome::Marked { stamp, safe } => Ok(Answer::Marked { safe, stamp }),
     }
 }
 

@@ -1,7 +1,7 @@
 //! Begin, look and end of a session's snapshot.
 ghost use Rattle.std.specs.Prelude.{◌≡◌, ◌<◌, IfOk, IfSome, IsSome, None};
 ghost use Rattle.erm_model.specs.declared.limits.TheConstants.{TABLES};
-ghost use Rattle.erm_model.specs.declared.outcome.Phase.TheVariants.{Idle, Pending};
+ghost use Rattle.erm_model.specs.declared.outcome.Phase.TheVariants.{Idle, Pending, Safe};
 ghost use Rattle.erm_model.specs.RowTransaction.{SameLaw};
 ghost use Rattle.erm_node.specs.Sound.{sound_law};
 ghost use Rattle.erm_good_report.specs.Phases.{need_of, refusal_of};
@@ -11,10 +11,10 @@ ghost use Rattle.erm_world.specs.World.{IsSession, phase_at};
 ghost use Rattle.erm_lines.specs.Whole.{WasAnswered, WasWatched};
 
 use crate::looks::look;
-use erm_model::Seat;
+use erm_model::{Outcome, Seat};
 use erm_report::Answer;
 use erm_script::Command;
-use erm_world::{BeginStop, SafeStop, SafeWorld};
+use erm_world::{BeginStop, SafeStop, SafeWorld, Wait};
 use std::alloc::{AllocError, Global};
 
 // Asks whether the session's snapshot is safe.
@@ -61,6 +61,24 @@ fn end<W: SafeWorld>(world: &mut W, seat: Seat) -> Answer
     Answer::Ended
 }
 
+// Marks the begin stamp of the session's snapshot, which is safe, in the log, or says that the ring has no room for the mark.
+fn mark<W: SafeWorld>(world: &mut W, seat: Seat) -> Answer
+    requires stands { W.stands world.old }
+    requires session { IsSession (W.view world.old) seat }
+    requires safe { phase_at (W.view world.old) seat ≡ Safe }
+    ensures stands { W.stands world.new }
+    ensures answered { WasWatched (W.view world.old) seat Command.Mark result (W.view world.new) }
+{
+    world.mark(seat);
+    match world.settle(seat) {
+        Ok(Outcome::Marked { stamp, safe }) => Answer::Marked { safe, stamp },
+        Err(Wait::Ring { flushed }) => Answer::WaitRing { flushed },
+        Ok(Outcome::Committed(_) | Outcome::Excluded { .. }) | Err(Wait::Seat { .. }) => {
+            unreachable!()
+        }
+    }
+}
+
 // Gives the session's snapshot up.
 fn give_up<W: SafeWorld>(world: &mut W, seat: Seat) -> Answer
     requires stands { W.stands world.old }
@@ -95,6 +113,7 @@ pub fn watch<W: SafeWorld>(
         Command::Safe => Ok(ask(world, seat)),
         Command::Commit => Ok(end(world, seat)),
         Command::Abort => Ok(give_up(world, seat)),
+        Command::Mark => Ok(mark(world, seat)),
         _ => look(alloc, world, seat, command),
     }
 }

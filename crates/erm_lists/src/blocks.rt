@@ -28,7 +28,7 @@ fn add_entries(claims: &[Claim], entries: &mut ArrayVec<(Oid, Row), BLOCK_ROWS>)
     }
 }
 
-// The block of a transaction, as its exclusion window decides it.
+// The block of a transaction, as its exclusion window decides it, or of a mark.
 #[inline(always)]
 fn block_of(seat: Seat, run: u64, number: u32, t: &AttemptState) -> Block
     requires number { number ≡ (attempt_of t.now).number }
@@ -51,9 +51,16 @@ fn block_of(seat: Seat, run: u64, number: u32, t: &AttemptState) -> Block
         size: t.size as u16,
         rows: ArrayVec::new(),
     };
-    if let Decision::Commit = t.decision() {
-        block.kind = BlockKind::Commit;
-        add_entries(&t.writes, &mut block.rows);
+    match t.decision() {
+        Decision::Commit => {
+            block.kind = BlockKind::Commit;
+            add_entries(&t.writes, &mut block.rows);
+        }
+        Decision::Mark => {
+            block.kind = BlockKind::Mark;
+            block.succ = t.begin;
+        }
+        Decision::Undecided | Decision::Skip | Decision::Abort => {}
     }
     block
 }

@@ -1,6 +1,6 @@
-//! The seal of a transaction.
+//! The seal of a transaction, and of a safe snapshot.
 ghost use Rattle.std.specs.Prelude.{◌≡◌, ◌+◌, ◌*◌, ◌≤◌, length, map, true};
-ghost use Rattle.erm_model.specs.declared.outcome.Phase.TheVariants.{Active};
+ghost use Rattle.erm_model.specs.declared.outcome.Phase.TheVariants.{Active, Safe};
 ghost use Rattle.erm_machine.specs.declared.limits.TheConstants.{LEAST_BLOCK, WRITE_LIMIT};
 ghost use Rattle.erm_machine.specs.Words.{is_session};
 ghost use Rattle.erm_core.specs.Cores.{core_of};
@@ -8,6 +8,7 @@ ghost use Rattle.erm_record.specs.Stored.{block_words};
 ghost use Rattle.erm_lists.specs.Stands.{Stands, lists_view};
 ghost use Rattle.erm_world.specs.Calls.{DidSeal};
 ghost use Rattle.erm_world.specs.Laws.{IsLawfulWork};
+ghost use Rattle.erm_world.specs.Safe.{DidMark};
 ghost use Rattle.erm_world.specs.World.{IsSession, phase_at, work_at};
 
 use crate::Lists;
@@ -56,6 +57,21 @@ impl<L: RowLaw> Lists<L> {
         let size = self.size(seat);
         self.go(seat, Kind::StoreState { value: 1 });
         let stamp = found(self.take(seat, Kind::AddTail { size }));
+        self.go(seat, Kind::StoreState { value: stamp });
+        stamp
+    }
+
+    /// Seals a safe snapshot: its mark gets the end of the log for its place.
+    pub fn mark(&mut self, seat: Seat) -> Stamp
+        requires stands { Stands L.law self.old }
+        requires session { IsSession (lists_view self.old) seat }
+        requires safe { phase_at (lists_view self.old) seat ≡ Safe }
+        ensures stands { Stands L.law self.new }
+        ensures sealed { DidMark (lists_view self.old) seat result (lists_view self.new) }
+    {
+        erm_core::rooms_serve();
+        self.go(seat, Kind::StoreState { value: 1 });
+        let stamp = found(self.take(seat, Kind::AddTail { size: LEAST_BLOCK }));
         self.go(seat, Kind::StoreState { value: stamp });
         stamp
     }

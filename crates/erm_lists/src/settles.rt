@@ -17,11 +17,17 @@ use erm_machine::Kind;
 use erm_model::{Outcome, Receipt, RowLaw, Seat, Stamp};
 use erm_world::Wait;
 
-// What becomes of a transaction by the Serial Safety Net: it commits where its exclusion window is open.
+// What becomes of a mark, and of a transaction by the Serial Safety Net: it commits where its exclusion window is open.
 fn outcome(t: &AttemptState) -> Outcome
     requires end { (attempt_of t.now).stamp + (attempt_of t.now).size < 2 ^ 64 }
     ensures { result ≡ outcome_of (attempt_of t.now) }
 {
+    if t.is_mark {
+        return Outcome::Marked {
+            stamp: t.stamp,
+            safe: t.begin,
+        };
+    }
     if t.pred < t.succ {
         return Outcome::Committed(Receipt {
             number: t.number,
@@ -56,7 +62,7 @@ impl<L: RowLaw> Lists<L> {
         outcome(&self.state.seat(seat).current)
     }
 
-    /// Decides a sealed transaction by the Serial Safety Net. It commits where its predecessor stamp lies below its successor
+    /// Decides a sealed transaction by the Serial Safety Net, or a mark, which has no versions to pass. It commits where its predecessor stamp lies below its successor
     /// stamp, and else is excluded, and leaves nothing. Or it waits, and stays sealed: for room in the ring, or for the first
     /// other session that may count and isn't decided.
     pub fn settle(&mut self, seat: Seat) -> Result<Outcome, Wait>

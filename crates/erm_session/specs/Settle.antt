@@ -11,14 +11,14 @@ use Rattle.erm_ends.specs.Ends.{DidSkip}
 use Rattle.erm_machine.specs.declared.attempt.Attempt.{Attempt}
 use Rattle.erm_machine.specs.declared.attempt.Claim.{Claim}
 use Rattle.erm_machine.specs.declared.attempt.Decision.{Decision}
-use Rattle.erm_machine.specs.declared.attempt.Decision.TheVariants.{Commit, Skip}
+use Rattle.erm_machine.specs.declared.attempt.Decision.TheVariants.{Commit, Skip, Mark}
 use Rattle.erm_machine.specs.declared.part.Part.{Part}
 use Rattle.erm_machine.specs.declared.task.Task.TheVariants as task
 use Rattle.erm_machine.specs.Seat.{is_decided, is_sealed}
 use Rattle.erm_machine.specs.Words.{is_session}
 use Rattle.erm_model.specs.declared.limits.TheConstants.{LAST_RUN}
 use Rattle.erm_model.specs.declared.outcome.Outcome.{Outcome}
-use Rattle.erm_model.specs.declared.outcome.Outcome.TheVariants.{Committed, Excluded}
+use Rattle.erm_model.specs.declared.outcome.Outcome.TheVariants.{Committed, Excluded, Marked}
 use Rattle.erm_precommit.specs.declared.pre.KeptClaim.{KeptClaim}
 use Rattle.erm_precommit.specs.declared.pre.Pre.{Pre}
 use Rattle.erm_precommit.specs.Pre.{IsPre}
@@ -29,10 +29,12 @@ use Rattle.erm_rule.specs.declared.view.View.{View}
 use Rattle.erm_rule.specs.Hands.{IsKnown}
 use Rattle.erm_rule.specs.Views.{part_of}
 
--- what becomes of a transaction by the Serial Safety Net: it commits where its exclusion window is open
+-- what becomes of a mark: it is marked with its begin stamp; and of a transaction by the Serial Safety Net: it commits where its exclusion
+-- window is open
 abbrev pub outcome_of : Attempt → Outcome
 outcome_of t =
-    if nat_lt t.pred t.succ
+    if t.is_mark then Marked t.stamp t.begin
+    else if nat_lt t.pred t.succ
     then Committed (record { number = t.number; stamp = t.stamp; end = t.stamp + t.size; succ = t.succ; pred = t.pred })
     else Excluded t.stamp t.succ t.pred
 
@@ -40,6 +42,7 @@ outcome_of t =
 abbrev pub EndsAs : Decision → View → ℕ → View → Type 0
 EndsAs Commit v who w = DidCommit v who w
 EndsAs Skip v who w = DidSkip v who w
+EndsAs Mark v who w = DidSkip v who w
 EndsAs d v who w = ⊥
 
 -- The words of its block were stored, then its header, which decides it, and then it came to its end. The words are the spelling of its
