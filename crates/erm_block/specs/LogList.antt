@@ -1,10 +1,10 @@
 -- The log list: the longest chain of blocks from a place on. Which rows are sound is a parameter: those that meet a law.
-use Rattle.std.specs.Prelude.{ℕ, ◌+◌, ◌≤◌, List, [], ◌∷◌, length, drop}
+use Rattle.std.specs.Prelude.{ℕ, ◌+◌, ◌≤◌, List, [], ◌∷◌, length, drop, Option, Some, None}
 use Rattle.erm_model.specs.Rows.{Rows, set_row}
 use Rattle.erm_block.specs.declared.block.Block.{Block}
 use Rattle.erm_block.specs.declared.block.Kind.{Kind}
 use Rattle.erm_block.specs.declared.block.Kind.TheVariants.{OldCommit, OldSkip, Open, Commit, Skip, Mark}
-use Rattle.erm_block.specs.Block.{Entry}
+use Rattle.erm_block.specs.Block.{Entry, safe_of}
 use Rattle.erm_block.specs.Spelling.{StandsAt}
 
 -- the rows after the rows of these entries were set
@@ -24,6 +24,15 @@ rows_after_kind Mark block rows = rows
 -- the rows after a block
 abbrev pub rows_after_block : Block → Rows → Rows
 rows_after_block block rows = rows_after_kind block.kind block rows
+
+-- the stamp that a block of this kind names as safe: where a run opens, its place; and a mark's
+abbrev pub safe_in_kind : Kind → Block → Option ℕ
+safe_in_kind OldCommit block = None
+safe_in_kind OldSkip block = None
+safe_in_kind Open block = Some block.stamp
+safe_in_kind Commit block = None
+safe_in_kind Skip block = None
+safe_in_kind Mark block = Some (safe_of block)
 
 -- where a chain of blocks ends: the words from there on, the place, the run of its last block, and the rows after it
 pub record End : Type 0 where

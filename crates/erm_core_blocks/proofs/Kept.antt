@@ -56,12 +56,12 @@ module _ (run seat : ℕ) where
   s_store_begin value x (Decided tail stamp) y old e = when_then (AllSpelled run seat) _ _ y e (λ _. spelled_stay run seat x _ refl refl old)
   s_store_begin value x _ y old e = absurd (cc)
 
-  s_store_state : (value : ℕ) (x : Part) (pl : Place) (y : Part) → AllSpelled run seat x → store_state seat value x pl ≡ Some y → AllSpelled run seat y
-  s_store_state value x (Active tail) y old e = when_then (AllSpelled run seat) _ _ y e (λ _. spelled_stay run seat x _ refl refl old)
-  s_store_state value x (Drawn tail stamp) y old e = when_then (AllSpelled run seat) _ _ y e (λ _. spelled_stay run seat x _ refl refl old)
-  s_store_state value x (Leaving stamp) y old e =
+  s_store_state : (value : ℕ) (x : Part) (pl : Place) (y : Part) → IsCurrent pl x.current → AllSpelled run seat x → store_state seat value x pl ≡ Some y → AllSpelled run seat y
+  s_store_state value x (Active tail) y cur old e = when_then (AllSpelled run seat) _ _ y e (λ _. spelled_none run seat x _ refl cur.decision old)
+  s_store_state value x (Drawn tail stamp) y cur old e = when_then (AllSpelled run seat) _ _ y e (λ _. spelled_stay run seat x _ refl refl old)
+  s_store_state value x (Leaving stamp) y cur old e =
       when_then (AllSpelled run seat) _ _ y e (λ _. spelled_over run seat x.current.decision x x.task (old.each x.current (∈-last x.over x.current)) old)
-  s_store_state value x _ y old e = absurd (cc)
+  s_store_state value x _ y cur old e = absurd (cc)
 
   s_load_begin : (other found : ℕ) (x : Part) (t : Task) (y : Part) → AllSpelled run seat x → load_begin seat other found x t ≡ Some y → AllSpelled run seat y
   s_load_begin other found x (task.Horizon version least next) y old e = when_then (AllSpelled run seat) _ _ y e (λ _. spelled_stay run seat x _ refl refl old)
@@ -138,7 +138,7 @@ kept c p (kind.StoreBegin value) d sound old spelled e =
     kept_moved c p (kind.StoreBegin value) d old m (s_store_begin c.shared.run p value (c.seats p) (c.seats p).place m.part (spelled_before c p old) m.after)
 kept c p (kind.StoreState value) d sound old spelled e =
     let m = moves c p (kind.StoreState value) d tt e in
-    kept_moved c p (kind.StoreState value) d old m (s_store_state c.shared.run p value (c.seats p) (c.seats p).place m.part (spelled_before c p old) m.after)
+    kept_moved c p (kind.StoreState value) d old m (s_store_state c.shared.run p value (c.seats p) (c.seats p).place m.part (sound.own p).ranges.current (spelled_before c p old) m.after)
 kept c p (kind.LoadBegin other) d sound old spelled e =
     let m = moves c p (kind.LoadBegin other) d tt e in
     kept_moved c p (kind.LoadBegin other) d old m

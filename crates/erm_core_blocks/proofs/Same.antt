@@ -7,7 +7,7 @@ use Rattle.erm_model.specs.Rows.{Rows}
 use Rattle.erm_model.proofs.Members.{none_in_nil, ∈-push}
 use Rattle.erm_machine.specs.declared.attempt.Attempt.{Attempt}
 use Rattle.erm_machine.specs.declared.attempt.Decision.{Decision}
-use Rattle.erm_machine.specs.declared.attempt.Decision.TheVariants.{Commit, Undecided}
+use Rattle.erm_machine.specs.declared.attempt.Decision.TheVariants.{Abort, Commit, Mark, Skip, Undecided}
 use Rattle.erm_machine.specs.declared.part.Part.{Part}
 use Rattle.erm_machine.specs.declared.place.Place.{Place}
 use Rattle.erm_machine.specs.declared.place.Place.TheVariants.{Idle, Active, Sealed}
@@ -23,11 +23,18 @@ use Rattle.erm_block.specs.declared.block.Block.{Block}
 use Rattle.erm_block.specs.declared.block.Form.TheVariants.{Stored}
 use Rattle.erm_block.specs.Block.{IsBlock, size_with}
 use Rattle.erm_block.specs.Spelling.{spelling}
-use Rattle.erm_core_blocks.specs.Spelled.{AreSpelled, HasBlock, IsBlockOf, IsSpelled, SameBlock, entries_of, kind_of}
+use Rattle.erm_core_blocks.specs.Spelled.{AreSpelled, HasBlock, IsBlockOf, IsSpelled, SameBlock, entries_of, kind_of, turn_of}
 
 count_same : (t u : Attempt) → SameBlock t u → length t.writes ≡ length u.writes
 count_same t u same =
     sym (length-map t.writes written_of) ∙ ap (λ (ws : List VersionWritten). length ws) (sym same.writes) ∙ length-map u.writes written_of
+
+turn_same : (d : Decision) (t u : Attempt) → u.begin ≡ t.begin → u.succ ≡ t.succ → turn_of d t ≡ turn_of d u
+turn_same Undecided t u begin succ = sym succ
+turn_same Commit t u begin succ = sym succ
+turn_same Skip t u begin succ = sym succ
+turn_same Abort t u begin succ = sym succ
+turn_same Mark t u begin succ = sym begin
 
 -- the block that a transaction has is that of each one with the same block
 pub block_same : (run seat : ℕ) (t u : Attempt) (b : Block) → SameBlock t u → IsBlockOf run seat t b → IsBlockOf run seat u b
@@ -35,7 +42,7 @@ block_same run seat t u b same is = record {
   kind_is = is.kind_is ∙ ap kind_of (sym same.decision);
   run_is = is.run_is;
   stamp = is.stamp ∙ sym same.stamp;
-  succ = is.succ ∙ sym same.succ;
+  succ = is.succ ∙ turn_same t.decision t u same.begin same.succ ∙ ap (λ (d : Decision). turn_of d u) (sym same.decision);
   of_seat = is.of_seat;
   number = is.number ∙ sym same.number;
   count = is.count ∙ count_same t u same;
@@ -117,6 +124,7 @@ steady_block x y cur steady lasting =
     joined : SameWords x.current y.current → SameRecord x.current y.current → SameBlock x.current y.current
     joined words same = record {
       number = steady.number;
+      begin = steady.begin;
       stamp = steady.stamp;
       size = steady.size;
       decision = steady.decision;

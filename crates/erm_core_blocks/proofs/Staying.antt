@@ -22,6 +22,7 @@ use Rattle.erm_core_blocks.proofs.Same.{steady_block}
 pub one_block : (t u : Attempt) → u ≡ t → SameBlock t u
 one_block t u e = record {
   number = ap (λ (a : Attempt). a.number) e;
+  begin = ap (λ (a : Attempt). a.begin) e;
   stamp = ap (λ (a : Attempt). a.stamp) e;
   size = ap (λ (a : Attempt). a.size) e;
   decision = ap (λ (a : Attempt). a.decision) e;
@@ -59,6 +60,7 @@ stay_over d x t decided = record {
       (λ (same : u ≡ x.current).
       let block : SameBlock x.current ended = record {
         number = refl;
+        begin = refl;
         stamp = refl;
         size = refl;
         decision = decided (subst (λ (a : Attempt). HasBlock a.decision) same has);

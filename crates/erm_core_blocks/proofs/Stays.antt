@@ -62,11 +62,11 @@ y_store_begin seat value x (Active tail) y cur e =
 y_store_begin seat value x (Decided tail stamp) y cur e = when_then (AllStay x) _ _ y e (λ _. same x _ refl refl)
 y_store_begin seat value x _ y cur e = absurd (cc)
 
-y_store_state : (seat value : ℕ) (x : Part) (pl : Place) (y : Part) → store_state seat value x pl ≡ Some y → AllStay x y
-y_store_state seat value x (Active tail) y e = when_then (AllStay x) _ _ y e (λ _. same x _ refl refl)
-y_store_state seat value x (Drawn tail stamp) y e = when_then (AllStay x) _ _ y e (λ _. same x _ refl refl)
-y_store_state seat value x (Leaving stamp) y e = when_then (AllStay x) _ _ y e (λ _. stay_over x.current.decision x x.task (λ _. refl))
-y_store_state seat value x _ y e = absurd (cc)
+y_store_state : (seat value : ℕ) (x : Part) (pl : Place) (y : Part) → IsCurrent pl x.current → store_state seat value x pl ≡ Some y → AllStay x y
+y_store_state seat value x (Active tail) y cur e = when_then (AllStay x) _ _ y e (λ _. fresh x _ refl cur.decision)
+y_store_state seat value x (Drawn tail stamp) y cur e = when_then (AllStay x) _ _ y e (λ _. same x _ refl refl)
+y_store_state seat value x (Leaving stamp) y cur e = when_then (AllStay x) _ _ y e (λ _. stay_over x.current.decision x x.task (λ _. refl))
+y_store_state seat value x _ y cur e = absurd (cc)
 
 y_load_begin : (seat other found : ℕ) (x : Part) (t : Task) (y : Part) → load_begin seat other found x t ≡ Some y → AllStay x y
 y_load_begin seat other found x (task.Horizon version least next) y e = when_then (AllStay x) _ _ y e (λ _. same x _ refl refl)
@@ -140,7 +140,7 @@ stays c p (kind.StoreBegin value) d sound e =
     stays_moved c p (kind.StoreBegin value) d m (y_store_begin p value (c.seats p) (c.seats p).place m.part (sound.own p).ranges.current m.after)
 stays c p (kind.StoreState value) d sound e =
     let m = moves c p (kind.StoreState value) d tt e in
-    stays_moved c p (kind.StoreState value) d m (y_store_state p value (c.seats p) (c.seats p).place m.part m.after)
+    stays_moved c p (kind.StoreState value) d m (y_store_state p value (c.seats p) (c.seats p).place m.part (sound.own p).ranges.current m.after)
 stays c p (kind.LoadBegin other) d sound e =
     let m = moves c p (kind.LoadBegin other) d tt e in
     stays_moved c p (kind.LoadBegin other) d m (y_load_begin p other (word_at c (spot_of p (kind.LoadBegin other))) (c.seats p) (c.seats p).task m.part m.after)

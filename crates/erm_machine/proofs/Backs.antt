@@ -1,5 +1,5 @@
 -- Tests of snapshots, of commits that go back, and of a row that is undone; what they say, and how steps with them are read.
-use Rattle.std.proofs.Common.{◌≡◌, ℕ, ◌+◌, ◌<◌, ◌≤◌, Bool, true, false, not, ◌&&◌, ◌||◌, List, length, eqb-true, Option, Some, None, refl, ap, arith}
+use Rattle.std.proofs.Common.{◌≡◌, ℕ, ◌+◌, ◌<◌, ◌≤◌, Bool, true, false, not, ◌&&◌, ◌||◌, List, length, eqb-true, Option, Some, None, refl, sym, ap, subst, arith}
 use Rattle.std.proofs.lemmas.Bool.{and_parts, ltb-true}
 use Rattle.std.proofs.lemmas.Bool.Decides.{Decides-eqb, nat_tests}
 use Rattle.std.proofs.lemmas.Slice.Eq.{slice_eq-Decides}
@@ -11,14 +11,14 @@ use Rattle.erm_machine.specs.declared.attempt.Decision.{Decision}
 use Rattle.erm_machine.specs.declared.attempt.Decision.TheVariants.{Commit}
 use Rattle.erm_machine.specs.declared.attempt.OwnCell.{OwnCell}
 use Rattle.erm_machine.specs.declared.part.Part.{Part}
-use Rattle.erm_machine.specs.declared.place.Place.TheVariants.{Idle, Active, Decided, Leaving}
+use Rattle.erm_machine.specs.declared.place.Place.TheVariants.{Idle, Active, Sealing, Decided, Leaving}
 use Rattle.erm_machine.specs.declared.task.Task.{Task}
 use Rattle.erm_machine.specs.declared.task.Task.TheVariants as task
 use Rattle.erm_machine.specs.Back.{GoesBack, goes_back, passed_to}
 use Rattle.erm_machine.specs.Core.{Object}
-use Rattle.erm_machine.specs.Life.{aborted, has_ended, store_begin}
+use Rattle.erm_machine.specs.Life.{aborted, has_ended, store_begin, store_state}
 use Rattle.erm_machine.specs.Reading.{entered, has_base, head_version, load_safe_entry}
-use Rattle.erm_machine.specs.Seat.{end_of, is_active, is_commit, is_new, is_rest, is_safe, is_snapshot, may_start, when, with_task}
+use Rattle.erm_machine.specs.Seat.{end_of, is_active, is_commit, is_new, is_rest, is_safe, is_snapshot, may_seal, may_start, when, with_mark, with_task}
 use Rattle.erm_machine.specs.Words.{is_session}
 use Rattle.erm_machine.proofs.Guards.{if_then, when_then}
 
@@ -100,6 +100,41 @@ active_begin_then P seat value tail x y e over raised =
     let two = and_parts _ _ three.0 in
     let one = and_parts _ _ two.0 in
     raised one.0 (eqb-true _ _ one.1) two.1 (rest_is x.task three.1)))
+
+-- a task at which a call may start is that of no safe snapshot
+start_unsafe : (t : Task) → may_start t ≡ true → is_safe t ≡ false
+start_unsafe task.Rest start = refl
+start_unsafe (task.Owned oid owner) start = refl
+start_unsafe (task.Cleared oid) start = refl
+start_unsafe (task.Walks version head) start = refl
+start_unsafe (task.Passed version) start = refl
+start_unsafe (task.Found version stamp head) start = refl
+start_unsafe (task.Registered version) start = refl
+start_unsafe (task.Overtaken version overwriter) start = refl
+start_unsafe (task.Rated version) start = refl
+start_unsafe task.Numbers start = refl
+start_unsafe _ start = absurd (cc)
+
+-- What holds of a transaction that seals, as it is, and of a safe snapshot that becomes a mark, holds after the store of an active seat's state word.
+pub active_seal_then : (P : Part → Type 0) (seat value tail : ℕ) (x y : Part) → store_state seat value x (Active tail) ≡ Some y
+    → (value ≡ 1 → is_session seat ≡ true → may_start x.task ≡ true → P (record x { place = Sealing tail; task = task.Rest }))
+    → (value ≡ 1 → is_session seat ≡ true → is_safe x.task ≡ true → P (record x { place = Sealing tail; task = task.Rest; current = with_mark true x.current }))
+    → P y
+active_seal_then P seat value tail x y e seals marks =
+    when_then P _ _ y e (λ g.
+    let two = and_parts _ _ g in
+    let one = and_parts _ _ two.0 in
+    by_start (may_start x.task) refl (eqb-true _ _ one.0) one.1 two.1)
+  where
+    -- it is sealed with this bit
+    sealed : Bool → Part
+    sealed safe = record x { place = Sealing tail; task = task.Rest; current = with_mark safe x.current }
+
+    by_start : (b : Bool) → may_start x.task ≡ b → value ≡ 1 → is_session seat ≡ true → may_seal x.task ≡ true → P (sealed (is_safe x.task))
+    by_start true start one session may = subst (λ (b : Bool). P (sealed b)) (sym (start_unsafe x.task start)) (seals one session start)
+    by_start false start one session may =
+        let safe : is_safe x.task ≡ true = cc in
+        subst (λ (b : Bool). P (sealed b)) (sym safe) (marks one session safe)
 
 -- the same of a decided transaction: where it goes back its stamp stands in the back word
 pub decided_begin_then : (P : Part → Type 0) (seat value tail stamp : ℕ) (x y : Part) → store_begin seat value x (Decided tail stamp) ≡ Some y

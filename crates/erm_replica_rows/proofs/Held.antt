@@ -11,6 +11,7 @@ use Rattle.erm_block.specs.declared.block.Block.{Block}
 use Rattle.erm_block.specs.declared.block.Kind.{Kind}
 use Rattle.erm_block.specs.declared.block.Kind.TheVariants as kind
 use Rattle.erm_block.specs.Block.{KeepsRulesOf}
+use Rattle.erm_block.specs.LogList.{safe_in_kind}
 use Rattle.erm_ckpt.specs.Checkpoint.{Checkpoint, zero_rows}
 use Rattle.erm_node.specs.Sound.{IsSound}
 use Rattle.erm_replica.specs.declared.item.Item.{Item}
@@ -25,7 +26,7 @@ use Rattle.erm_replica_rows.specs.declared.snapshot.Snapshot.{Snapshot}
 use Rattle.erm_replica_rows.specs.Keeping.{Holds, Kept, kept_of}
 use Rattle.erm_replica_rows.specs.Moving.{Hears, HearsSafe, IsAbove, IsFrom, IsPassed, Rises}
 use Rattle.erm_replica_rows.specs.Reading.{Advances, HasLawful, StaysPut, seen}
-use Rattle.erm_replica_rows.specs.Replica.{AreSound, IsSafeOf, Names, is_below, rows_after, rows_behind, safe_in, safe_in_kind}
+use Rattle.erm_replica_rows.specs.Replica.{AreSound, IsSafeOf, Names, is_below, rows_after, rows_behind, safe_in}
 use Rattle.erm_replica_rows.proofs.Rows.{after_part, after_parts, all_below_greater, behind_push, if_some, in_turn_append, same_trans, sound_push}
 use Rattle.erm_replica_rows.proofs.Safe.{base_first, base_more, in_front, safe_base, safe_rises, safe_stays}
 

@@ -12,7 +12,8 @@ use Rattle.erm_replica.specs.Stream.{Part, Streamed}
 use Rattle.erm_replica_rows.specs.declared.reader.Reader.{Reader}
 use Rattle.erm_replica_rows.specs.declared.snapshot.Snapshot.{Snapshot}
 use Rattle.erm_replica_rows.specs.Reading.{seen}
-use Rattle.erm_replica_rows.specs.Replica.{is_below, rows_after, safe_in_kind}
+use Rattle.erm_block.specs.LogList.{safe_in_kind}
+use Rattle.erm_replica_rows.specs.Replica.{is_below, rows_after}
 
 -- the log goes on at this stamp or behind it: what comes isn't below it
 abbrev pub IsFrom : ℕ → Option LogPlace → Type 0

@@ -5,10 +5,7 @@ use Rattle.erm_model.specs.Member.{◌∈◌}
 use Rattle.erm_model.specs.Rows.{Rows}
 use Rattle.erm_model.specs.RowTransaction.{SameRows}
 use Rattle.erm_block.specs.declared.block.Block.{Block}
-use Rattle.erm_block.specs.declared.block.Kind.{Kind}
-use Rattle.erm_block.specs.declared.block.Kind.TheVariants as kind
-use Rattle.erm_block.specs.Block.{safe_of}
-use Rattle.erm_block.specs.LogList.{rows_after_block}
+use Rattle.erm_block.specs.LogList.{rows_after_block, safe_in_kind}
 use Rattle.erm_ckpt.specs.Checkpoint.{Checkpoint, rows_of_checkpoint, zero_rows}
 use Rattle.erm_node.specs.Sound.{IsSound}
 use Rattle.erm_replica.specs.Cuts.{Reads}
@@ -42,15 +39,6 @@ abbrev pub rows_at : ℕ → List Part → Rows
 rows_at stamp parts = rows_behind (filter (is_below stamp) parts)
 
 -- ---- safe stamps
-
--- the safe stamp that a block of this kind names: where a run opens, its place; and a mark's
-abbrev pub safe_in_kind : Kind → Block → Option ℕ
-safe_in_kind kind.OldCommit b = None
-safe_in_kind kind.OldSkip b = None
-safe_in_kind kind.Open b = Some b.stamp
-safe_in_kind kind.Commit b = None
-safe_in_kind kind.Skip b = None
-safe_in_kind kind.Mark b = Some (safe_of b)
 
 -- the safe stamp that a part names
 abbrev pub safe_in : Part → Option ℕ

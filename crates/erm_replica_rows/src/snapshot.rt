@@ -5,7 +5,7 @@ ghost use Rattle.erm_replica.specs.Stream.{IsShort};
 ghost use Rattle.erm_replica_rows.specs.Keeping.{GoesOn, kept_of};
 ghost use Rattle.erm_replica_rows.specs.Moving.{Hears, HearsSafe, IsAbove, IsPassed};
 ghost use Rattle.erm_replica_rows.specs.Reading.{CanRead, HasLawful, IsStuck};
-ghost use Rattle.erm_replica_rows.specs.Replica.{safe_in_kind};
+ghost use Rattle.erm_block.specs.LogList.{safe_in_kind};
 
 use crate::reader::{Reader, advance, take_below};
 use erm_block::{Block, Kind, spelling_size};

@@ -3,7 +3,7 @@ use Rattle.std.specs.Prelude.{◌≡◌, ◌⊎◌, ◌<◌, ◌≤◌, List}
 use Rattle.erm_model.specs.Committed.{Committed}
 use Rattle.erm_model.specs.Member.{◌∈◌}
 use Rattle.erm_block.specs.declared.block.Block.{Block}
-use Rattle.erm_block.specs.declared.block.Kind.TheVariants.{Commit, Skip}
+use Rattle.erm_block.specs.declared.block.Kind.TheVariants.{Commit, Mark, Skip}
 use Rattle.erm_node.specs.Sound.{sound_law}
 use Rattle.erm_report.specs.declared.answer.Answer.{Answer}
 use Rattle.erm_script.specs.declared.script.ScriptLine.{ScriptLine}
@@ -25,10 +25,10 @@ pub record IsLogged (block : Block) (c : Committed) : Type 0 where
   pub stamp : block.stamp ≡ c.stamp
   pub succ : block.succ ≡ c.succ
 
--- A log has these commits: each block gathered is that of one of them, or of a transaction that was excluded; each that is below the place
+-- A log has these commits: each block gathered is that of one of them, of a transaction that was excluded, or of a mark; each that is below the place
 -- behind the blocks has its block; and all lie between the log's start and its end.
 pub record HasCommits (log : Log) (commits : List Committed) : Type 0 where
-  pub each : (block : Block) → block ∈ log.gathered → (block.kind ≡ Skip) ⊎ ((c : Committed) × (c ∈ commits) × IsLogged block c)
+  pub each : (block : Block) → block ∈ log.gathered → (block.kind ≡ Skip) ⊎ (block.kind ≡ Mark) ⊎ ((c : Committed) × (c ∈ commits) × IsLogged block c)
   pub all : (c : Committed) → c ∈ commits → c.stamp < gathered_to log → (block : Block) × (block ∈ log.gathered) × IsLogged block c
   pub within : (c : Committed) → c ∈ commits → (log.opened.at ≤ c.stamp) × (c.stamp < log.tail)
 
