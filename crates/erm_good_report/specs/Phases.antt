@@ -144,6 +144,17 @@ IsOutcome (answer.WaitSeat seat seen) = Unit {0}
 IsOutcome (answer.WaitRing flushed) = Unit {0}
 IsOutcome a = ⊥
 
+-- and to what is sealed, a transaction or the mark of a safe snapshot
+abbrev pub IsSettled : Answer → Type 0
+IsSettled (answer.Marked safe stamp) = Unit {0}
+IsSettled a = IsOutcome a
+
+-- the answers to a mark
+abbrev pub IsMarkedOrWaits : Answer → Type 0
+IsMarkedOrWaits (answer.Marked safe stamp) = Unit {0}
+IsMarkedOrWaits (answer.WaitRing flushed) = Unit {0}
+IsMarkedOrWaits a = ⊥
+
 -- the answers that a command may have besides the refusals by a phase
 abbrev pub IsAnswerTo : Command → Answer → Type 0
 IsAnswerTo command.Begin (answer.Began begin) = Unit {0}
@@ -172,13 +183,11 @@ IsAnswerTo command.Save answer.SavesFull = Unit {0}
 IsAnswerTo (command.Back n) (answer.Back told) = told ≡ n
 IsAnswerTo (command.Back n) (answer.NoSave held) = Unit {0}
 IsAnswerTo command.Seal (answer.Sealed stamp) = Unit {0}
-IsAnswerTo command.Settle (answer.Marked safe stamp) = Unit {0}
-IsAnswerTo command.Settle a = IsOutcome a
+IsAnswerTo command.Settle a = IsSettled a
 IsAnswerTo command.Commit answer.Ended = Unit {0}
 IsAnswerTo command.Commit a = IsOutcome a
 IsAnswerTo command.Abort answer.Aborted = Unit {0}
-IsAnswerTo command.Mark (answer.Marked safe stamp) = Unit {0}
-IsAnswerTo command.Mark (answer.WaitRing flushed) = Unit {0}
+IsAnswerTo command.Mark a = IsMarkedOrWaits a
 IsAnswerTo command.Durable (answer.Durable stamp) = Unit {0}
 IsAnswerTo command.Durable (answer.NotFlushed flushed) = Unit {0}
 IsAnswerTo command.Durable answer.NoReceipt = Unit {0}

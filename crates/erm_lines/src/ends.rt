@@ -1,13 +1,13 @@
 //! Begin and end of a session's transaction.
-ghost use Rattle.std.specs.Prelude.{◌≡◌, ℕ, List, IfOk, IfErr};
+ghost use Rattle.std.specs.Prelude.{◌≡◌, ℕ, List, IfOk, IfErr, false};
 ghost use Rattle.erm_model.specs.declared.outcome.Phase.TheVariants.{Active, Idle, Sealed};
 ghost use Rattle.erm_model.specs.RowTransaction.{SameLaw};
 ghost use Rattle.erm_model.specs.Run.{Step};
 ghost use Rattle.erm_node.specs.Sound.{sound_law};
 ghost use Rattle.erm_maps.specs.Runs.{IsRunOf, kept_at};
-ghost use Rattle.erm_good_report.specs.Phases.{Closes, IsOutcome};
+ghost use Rattle.erm_good_report.specs.Phases.{Closes, IsOutcome, IsSettled};
 ghost use Rattle.erm_world.specs.Calls.{DidNotSettle};
-ghost use Rattle.erm_world.specs.World.{IsSession, phase_at};
+ghost use Rattle.erm_world.specs.World.{IsSession, phase_at, work_at};
 ghost use Rattle.erm_lines.specs.Answers.{DidCommit, DidDecide, KeepsReceipt};
 ghost use Rattle.erm_lines.specs.Executions.{DidEnd};
 ghost use Rattle.erm_lines.specs.Whole.{WasAnswered};
@@ -94,7 +94,8 @@ fn outcome<W: RowWorld>(world: &mut W, seat: Seat, receipt: &mut Option<Receipt>
     requires session { IsSession (W.view world.old) seat }
     requires sealed { phase_at (W.view world.old) seat ≡ Sealed }
     ensures stands { W.stands world.new }
-    ensures outcome { IsOutcome result }
+    ensures outcome { IsSettled result }
+    ensures transaction { (work_at (W.view world.old) seat).is_mark ≡ false → IsOutcome result }
     ensures decided { DidDecide (W.view world.old) seat result (W.view world.new) }
     ensures kept { KeepsReceipt (W.view world.old) seat receipt.old (W.view world.new) receipt.new }
 {
