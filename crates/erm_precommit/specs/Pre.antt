@@ -1,6 +1,7 @@
 -- A sealed transaction as its session keeps it, and as the machine has it.
-use Rattle.std.specs.Prelude.{◌≡◌, ℕ, ◌-◌, ◌<◌, true, Bool, ◌&&◌, nat_le, length, slice_index_or}
+use Rattle.std.specs.Prelude.{◌≡◌, ℕ, ◌-◌, ◌<◌, true, Bool, ◌&&◌, nat_le, if◌then◌else◌, length, slice_index_or, Option, Some, None}
 use Rattle.erm_machine.specs.declared.limits.TheConstants.{RING_WORDS}
+use Rattle.erm_machine.specs.declared.attempt.Attempt.{Attempt}
 use Rattle.erm_machine.specs.declared.attempt.Claim.{Claim}
 use Rattle.erm_machine.specs.declared.attempt.Read.{Read}
 use Rattle.erm_machine.specs.declared.part.Part.{Part}
@@ -39,8 +40,12 @@ pub record IsClaimKept (kept : KeptClaim) (w : Claim) : Type 0 where
   pub overwritten : kept.overwritten ≡ w.version.cell
   pub own : is_own kept.own w.own ≡ true
 
--- What the session keeps is the seat's current transaction: its stamp, its size, what it has read and claimed in order, and its
--- running numbers.
+-- the begin stamp of a transaction that is a mark
+abbrev pub mark_of : Attempt → Option ℕ
+mark_of t = if t.is_mark then Some t.begin else None
+
+-- What the session keeps is the seat's current transaction: its stamp, its size, what it has read and claimed in order, its running
+-- numbers, and its begin stamp where it is a mark.
 pub record IsPre (t : Pre) (x : Part) : Type 0 where
   pub stamp : t.stamp ≡ x.current.stamp
   pub size : t.size ≡ x.current.size
@@ -50,3 +55,4 @@ pub record IsPre (t : Pre) (x : Part) : Type 0 where
   pub claims : (k : ℕ) → k < length x.current.writes → IsClaimKept (claim_kept t k) (claim_at x.current k)
   pub succ : t.succ ≡ x.current.succ
   pub pred : t.pred ≡ x.current.pred
+  pub mark : t.mark ≡ mark_of x.current

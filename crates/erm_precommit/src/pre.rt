@@ -42,6 +42,8 @@ pub struct Pre {
     pub succ: Stamp,
     /// The greatest of the predecessors' stamps found so far, or 0.
     pub pred: Stamp,
+    /// The begin stamp, where it is the mark of a safe snapshot.
+    pub mark: Option<Stamp>,
 }
 
 impl Pre {

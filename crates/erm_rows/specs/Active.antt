@@ -1,5 +1,5 @@
 -- An active transaction as its session keeps it, and as the machine has it.
-use Rattle.std.specs.Prelude.{◌≡◌, ℕ, ◌<◌, ◌&&◌, ◌||◌, ◌==◌, nat_le, nat_lt, if◌then◌else◌, max, [], ◌∷◌, ◌++◌, length, slice_index_or, Option, Some, None}
+use Rattle.std.specs.Prelude.{◌≡◌, ℕ, ◌<◌, ◌&&◌, ◌||◌, ◌==◌, nat_le, nat_lt, if◌then◌else◌, max, [], ◌∷◌, ◌++◌, length, slice_index_or, false, Option, Some, None}
 use Rattle.erm_machine.specs.declared.part.Part.{Part}
 use Rattle.erm_machine.specs.Core.{claim_at}
 use Rattle.erm_machine.specs.Seat.{read_at}
@@ -9,7 +9,7 @@ use Rattle.erm_precommit.specs.Pre.{IsClaimKept, IsReadKept, no_claim_kept, no_r
 use Rattle.erm_rows.specs.declared.active.Active.{Active}
 
 -- What the session keeps is the seat's current transaction: its begin stamp and number, what it has read and claimed in order, and
--- its running numbers.
+-- its running numbers. It is no mark.
 pub record IsActive (t : Active) (x : Part) : Type 0 where
   pub begin : t.begin ≡ x.current.begin
   pub number : t.number ≡ x.current.number
@@ -19,6 +19,7 @@ pub record IsActive (t : Active) (x : Part) : Type 0 where
   pub claims : (k : ℕ) → k < length x.current.writes → IsClaimKept (slice_index_or t.claims.value.items k no_claim_kept) (claim_at x.current k)
   pub succ : t.succ ≡ x.current.succ
   pub pred : t.pred ≡ x.current.pred
+  pub unmarked : x.current.is_mark ≡ false
 
 -- the least successor stamp found so far, 0 for none, with one more found if there is one
 abbrev pub least_with : Option ℕ → ℕ → ℕ

@@ -49,6 +49,7 @@ impl Active {
             claims: self.claims,
             succ,
             pred: self.pred,
+            mark: None,
         }
     }
 

@@ -8,7 +8,7 @@ use Rattle.erm_machine.specs.declared.place.Place.TheVariants.{Active, Sealed}
 use Rattle.erm_machine.specs.declared.task.Task.TheVariants.{Rest}
 use Rattle.erm_machine.specs.Core.{Core, begun}
 use Rattle.erm_machine.specs.Life.{next_number, after_clear, noted}
-use Rattle.erm_machine.specs.Seat.{saw, with_range}
+use Rattle.erm_machine.specs.Seat.{is_safe, saw, with_mark, with_range}
 use Rattle.erm_machine.specs.Sound.{Sound}
 use Rattle.erm_machine.specs.Words.{begin_of, state_of, is_clear, is_flusher, refuses}
 use Rattle.erm_rule.specs.declared.view.Book.{Book}
@@ -31,9 +31,9 @@ begun_part who tail begin x = record x {
   current = begun (next_number who x.number) begin;
 }
 
--- the part of a seat that has sealed, with a range of this size that begins at its commit stamp
+-- the part of a seat that has sealed, with a range of this size that begins at its commit stamp; that of a safe snapshot is a mark
 abbrev pub sealed_part : ℕ → ℕ → Part → Part
-sealed_part size stamp x = record x { place = Sealed (begin_of x.place) stamp; task = Rest; seen = stamp; current = with_range stamp size x.current }
+sealed_part size stamp x = record x { place = Sealed (begin_of x.place) stamp; task = Rest; seen = stamp; current = with_range stamp size (with_mark (is_safe x.task) x.current) }
 
 -- the part of a seat that has found another clear for a bound
 abbrev pub clear_part : ℕ → ℕ → Part → Part

@@ -2,7 +2,7 @@
 ghost use Rattle.std.specs.Prelude.{◌≡◌, ◌≤◌, true, IfOk, IfErr};
 ghost use Rattle.erm_machine.specs.declared.place.Place.TheVariants.{Idle};
 ghost use Rattle.erm_machine.specs.Decided.{record_of};
-ghost use Rattle.erm_machine.specs.Seat.{has_number, is_active, may_start};
+ghost use Rattle.erm_machine.specs.Seat.{has_number, is_active, may_seal};
 ghost use Rattle.erm_machine.specs.Words.{is_seat, is_session, refuses};
 ghost use Rattle.erm_model.specs.Lawful.{IsLawfulRecord};
 ghost use Rattle.erm_rule.specs.Steps.{Fits};
@@ -50,7 +50,7 @@ pub fn seal_steps<L: RowLaw>(t: &Table<L>, p: &mut Pass, who: Seat, size: u64) -
     requires session { is_session who ≡ true }
     requires active { is_active (part_of (view p.old) who).place ≡ true }
     requires lawful { IsLawfulRecord L.law (record_of who (part_of (view p.old) who).current) }
-    requires rests { may_start (part_of (view p.old) who).task ≡ true }
+    requires rests { may_seal (part_of (view p.old) who).task ≡ true }
     requires least { LEAST_BLOCK ≤ size }
     requires greatest { size ≤ GREATEST_BLOCK }
     ensures fits { Fits t.now.words.shared.table_id p.new }

@@ -1,10 +1,10 @@
 //! The room that a session hands on from one transaction to the next.
-ghost use Rattle.std.specs.Prelude.{◌≡◌, []};
+ghost use Rattle.std.specs.Prelude.{◌≡◌, [], Some};
 
 use arrayvec::ArrayVec;
 use erm_block::{Block, Kind};
 use erm_model::Stamp;
-use erm_precommit::{KeptClaims, KeptReads};
+use erm_precommit::{KeptClaims, KeptReads, Pre};
 use erm_rows::Active;
 use std::alloc::{AllocError, Global};
 
@@ -41,6 +41,31 @@ impl Room {
             claims: self.claims,
             succ: 0,
             pred: 0,
+        }
+    }
+}
+
+impl Room {
+    /// The mark of a safe snapshot with this begin stamp, which is sealed with a range of this size, in this room.
+    pub fn mark(mut self, begin: Stamp, stamp: Stamp, size: u64) -> Pre
+        ensures stamp { result.stamp ≡ stamp }
+        ensures size { result.size ≡ size }
+        ensures reads { result.reads.value.items ≡ [] }
+        ensures claims { result.claims.value.items ≡ [] }
+        ensures succ { result.succ ≡ stamp }
+        ensures pred { result.pred ≡ 0 }
+        ensures mark { result.mark ≡ Some begin }
+    {
+        self.reads.clear();
+        self.claims.clear();
+        Pre {
+            stamp,
+            size,
+            reads: self.reads,
+            claims: self.claims,
+            succ: stamp,
+            pred: 0,
+            mark: Some(begin),
         }
     }
 }

@@ -1,8 +1,8 @@
-//! A session's seal.
+//! A session's seal: of its transaction, and of its safe snapshot.
 ghost use Rattle.std.specs.Prelude.{◌≡◌, ◌≤◌, length, map};
 ghost use Rattle.erm_machine.specs.declared.limits.TheConstants.{GREATEST_BLOCK, LEAST_BLOCK, WRITE_LIMIT};
 ghost use Rattle.erm_machine.specs.Decided.{record_of};
-ghost use Rattle.erm_model.specs.declared.outcome.Phase.TheVariants.{Active, Sealed};
+ghost use Rattle.erm_model.specs.declared.outcome.Phase.TheVariants.{Active, Safe, Sealed};
 ghost use Rattle.erm_model.specs.Lawful.{IsLawfulRecord};
 ghost use Rattle.erm_record.specs.Stored.{block_words};
 ghost use Rattle.erm_rule.specs.Hands.{IsKnown};
@@ -69,6 +69,31 @@ impl Session {
         let size = block_size(self.rows_claimed.as_slice());
         let stamp = seal_steps(t, p, self.seat, size);
         self.stage = Stage::Sealed(txn.seal(stamp, size));
+        stamp
+    }
+
+    /// Seals the safe snapshot, whose mark then waits for room in the ring alone: the place of the log, in words, where its block begins.
+    pub fn mark<L: RowLaw>(&mut self, t: &Table<L>, p: &mut Pass) -> Stamp
+        requires fits { Fits t.now.words.shared.table_id p.old }
+        requires known { IsKnown (view p.old) }
+        requires stands { IsSession self.old (part_of (view p.old) self.old.seat) }
+        requires safe { phase_of self.old.stage ≡ Safe }
+        requires lawful { IsLawfulRecord L.law (record_of self.old.seat (part_of (view p.old) self.old.seat).current) }
+        ensures fits { Fits t.now.words.shared.table_id p.new }
+        ensures seat { self.new.seat ≡ self.old.seat }
+        ensures stands { IsSession self.new (part_of (view p.new) self.old.seat) }
+        ensures sealed { SealsRows (view p.old) self.old.seat result (view p.new) }
+        ensures phase { phase_of self.new.stage ≡ Sealed }
+        ensures took { TookSeal L.law self.old.seat LEAST_BLOCK result (book p.old) (book p.new) }
+    {
+        let Stage::Safe { begin } = mem::replace(&mut self.stage, Stage::Idle) else {
+            unreachable!()
+        };
+        let Some(room) = self.room.take() else {
+            unreachable!()
+        };
+        let stamp = seal_steps(t, p, self.seat, LEAST_BLOCK);
+        self.stage = Stage::Sealed(room.mark(begin, stamp, LEAST_BLOCK));
         stamp
     }
 }
