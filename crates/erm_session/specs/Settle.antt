@@ -1,11 +1,11 @@
 -- The end of a settle: the block that is written, the decision, and the end of the transaction.
-use Rattle.std.specs.Prelude.{◌≡◌, ℕ, ◌+◌, ◌≤◌, Bool, true, if◌then◌else◌, nat_lt, List, [], length, map}
+use Rattle.std.specs.Prelude.{◌≡◌, ℕ, ◌+◌, ◌≤◌, true, if◌then◌else◌, nat_lt, List, [], length, map}
 use Rattle.std.specs.List.{zip}
+use Rattle.std.specs.Option.{option_map_or}
 use Rattle.erm_block.specs.declared.block.Block.{Block}
-use Rattle.erm_block.specs.declared.block.Kind.TheVariants as block_kind
 use Rattle.erm_block.specs.Block.{Entry}
 use Rattle.erm_cells.specs.Spare.{SpareIs}
-use Rattle.erm_core_blocks.specs.Spelled.{IsSpelled}
+use Rattle.erm_core_blocks.specs.Spelled.{HasBlock, IsSpelled, kind_of}
 use Rattle.erm_ends.specs.Commits.{DidCommit}
 use Rattle.erm_ends.specs.Ends.{DidSkip}
 use Rattle.erm_machine.specs.declared.attempt.Attempt.{Attempt}
@@ -14,7 +14,7 @@ use Rattle.erm_machine.specs.declared.attempt.Decision.{Decision}
 use Rattle.erm_machine.specs.declared.attempt.Decision.TheVariants.{Commit, Skip, Mark}
 use Rattle.erm_machine.specs.declared.part.Part.{Part}
 use Rattle.erm_machine.specs.declared.task.Task.TheVariants as task
-use Rattle.erm_machine.specs.Seat.{is_decided, is_sealed}
+use Rattle.erm_machine.specs.Seat.{decision_of, is_commit, is_decided, is_sealed}
 use Rattle.erm_machine.specs.Words.{is_session}
 use Rattle.erm_model.specs.declared.limits.TheConstants.{LAST_RUN}
 use Rattle.erm_model.specs.declared.outcome.Outcome.{Outcome}
@@ -73,22 +73,22 @@ abbrev pub entries_kept : List KeptClaim → List (List ℕ) → List Entry
 entries_kept claims rows = zip (map (λ (claim : KeptClaim). claim.oid) claims) rows
 
 -- the block of a transaction that is kept so, with the rows of its claims, as it is decided
-abbrev pub own_block : (seat run number : ℕ) → Pre → List (List ℕ) → Bool → Block
-own_block seat run number t rows commits = record {
-  kind = if commits then block_kind.Commit else block_kind.Skip;
+abbrev pub own_block : (seat run number : ℕ) → Pre → List (List ℕ) → Decision → Block
+own_block seat run number t rows decision = record {
+  kind = kind_of decision;
   run = run;
   stamp = t.stamp;
-  succ = t.succ;
+  succ = option_map_or (λ begin. begin) t.mark t.succ;
   seat = seat;
   number = number;
   n = length t.claims.value.items;
   size = t.size;
-  rows = record { items = if commits then entries_kept t.claims.value.items rows else [] };
+  rows = record { items = if is_commit decision then entries_kept t.claims.value.items rows else [] };
 }
 
--- What a session keeps is its seat's sealed transaction, with the rows of its claims. Its settle has passed all versions, and it commits
--- where its exclusion window is open.
-pub record MayBeDecided (seat run number : ℕ) (t : Pre) (rows : List (List ℕ)) (commits : Bool) (x : Part) : Type 0 where
+-- What a session keeps is its seat's sealed transaction, with the rows of its claims, or its mark. Its settle has passed all versions, and it
+-- is decided so: it commits where its exclusion window is open, and a mark is marked.
+pub record MayBeDecided (seat run number : ℕ) (t : Pre) (rows : List (List ℕ)) (decision : Decision) (x : Part) : Type 0 where
   pub session : is_session seat ≡ true
   pub run_is : run ≡ x.run
   pub low : run ≤ LAST_RUN
@@ -98,7 +98,7 @@ pub record MayBeDecided (seat run number : ℕ) (t : Pre) (rows : List (List ℕ
   pub kept : IsPre t x
   pub rows_are : rows ≡ map (λ (w : Claim). w.row) x.current.writes
   pub sized : x.current.size ≡ block_words (map (λ (w : Claim). w.row) x.current.writes)
-  pub commits_is : commits ≡ nat_lt x.current.pred x.current.succ
+  pub decision_is : decision ≡ decision_of x.current
 
 -- The words of the transaction's block were stored, which are its spelling, and then its header, which decides it.
 pub record StoresBlock (v : View) (who : ℕ) (w : View) : Type 0 where
@@ -110,10 +110,11 @@ pub record StoresBlock (v : View) (who : ℕ) (w : View) : Type 0 where
   pub spelled : IsSpelled (part_of v who).run who (part_of w who).current
 
 -- What a session keeps is its seat's decided transaction, whose end may begin, with its spare cells.
-pub record MayEnd (seat : ℕ) (t : Pre) (spare : List ℕ) (commits : Bool) (x : Part) : Type 0 where
+pub record MayEnd (seat : ℕ) (t : Pre) (spare : List ℕ) (decision : Decision) (x : Part) : Type 0 where
   pub session : is_session seat ≡ true
   pub decided : is_decided x.place ≡ true
-  pub decision : x.current.decision ≡ (if commits then Commit else Skip)
+  pub decision_is : x.current.decision ≡ decision
+  pub has_block : HasBlock decision
   pub ends : x.task ≡ task.Ends 0 0 0 0
   pub kept : IsPre t x
   pub spare_is : SpareIs spare x

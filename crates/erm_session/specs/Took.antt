@@ -8,7 +8,7 @@ use Rattle.erm_machine.specs.declared.task.Task.TheVariants.{Settles}
 use Rattle.erm_ends.specs.Ends.{DidAbort}
 use Rattle.erm_ends.specs.Took.{TookAbort, TookCommit, TookSkip}
 use Rattle.erm_machine.specs.declared.attempt.Decision.{Decision}
-use Rattle.erm_machine.specs.declared.attempt.Decision.TheVariants.{Commit, Skip}
+use Rattle.erm_machine.specs.declared.attempt.Decision.TheVariants.{Commit, Skip, Mark}
 use Rattle.erm_model.specs.declared.outcome.Outcome.{Outcome}
 use Rattle.erm_model.specs.declared.row_stop.RowStop.{RowStop}
 use Rattle.erm_model.specs.declared.row_stop.RowStop.TheVariants as stop
@@ -95,6 +95,7 @@ TookNoObject law who why b e = ⊥
 abbrev pub TookDecided : Decision → Law → ℕ → Book → Book → Type 0
 TookDecided Commit law who b e = TookCommit law who b e
 TookDecided Skip law who b e = TookSkip law who b e
+TookDecided Mark law who b e = TookSkip law who b e
 TookDecided d law who b e = ⊥
 
 -- SETTLE. The words of the block were stored, then its header, which decides the transaction, and then it was ended.

@@ -1,10 +1,11 @@
 //! The end of a sealed transaction whose settle has passed all versions: its block, the decision, and what follows from it.
-ghost use Rattle.std.specs.Prelude.{◌≡◌, ◌≤◌, ◌<◌, ◌+◌, ◌^◌, ℕ, [], length, if◌then◌else◌, vec_capacity};
+ghost use Rattle.std.specs.Prelude.{◌≡◌, ◌≤◌, ◌<◌, ◌+◌, ◌^◌, ℕ, [], length, if◌then◌else◌, is_some, nat_lt, Some, None, vec_capacity};
 ghost use Rattle.erm_block.specs.declared.block.TheConstants.{BLOCK_WORDS};
 ghost use Rattle.erm_cells.specs.Spare.{SpareIs};
-ghost use Rattle.erm_machine.specs.declared.attempt.Decision.TheVariants.{Commit, Skip};
+ghost use Rattle.erm_core_blocks.specs.Spelled.{kind_of};
+ghost use Rattle.erm_machine.specs.declared.attempt.Decision.TheVariants.{Commit, Mark, Skip};
 ghost use Rattle.erm_machine.specs.declared.limits.TheConstants.{GREATEST_BLOCK, WRITE_LIMIT};
-ghost use Rattle.erm_model.specs.declared.outcome.Outcome.TheVariants.{Committed, Excluded};
+ghost use Rattle.erm_model.specs.declared.outcome.Outcome.TheVariants.{Committed, Excluded, Marked};
 ghost use Rattle.erm_model.specs.declared.outcome.Phase.TheVariants.{Idle, Sealed};
 ghost use Rattle.erm_precommit.specs.Settle.{IsReady};
 ghost use Rattle.erm_rule.specs.Hands.{IsKnown};
@@ -25,6 +26,7 @@ use crate::session::{Session, Stage};
 use arrayvec::ArrayVec;
 use erm_block::{BLOCK_ROWS, Block, Kind, encode_into};
 use erm_ends::{commit_end, skip_end};
+use erm_machine::Decision;
 use erm_model::{Oid, Outcome, Receipt, Row, RowLaw, Seat, Stamp};
 use erm_precommit::{KeptClaim, Pre};
 use erm_ring::{decide, fill};
@@ -43,6 +45,30 @@ fn add_entries(claims: &[KeptClaim], rows: &[Row], entries: &mut ArrayVec<(Oid, 
     }
 }
 
+// The kind of the block of a transaction that is decided so.
+fn kind_of(decision: Decision) -> Kind
+    ensures { result ≡ kind_of decision }
+{
+    match decision {
+        Decision::Commit => Kind::Commit,
+        Decision::Mark => Kind::Mark,
+        Decision::Undecided | Decision::Skip | Decision::Abort => Kind::Skip,
+    }
+}
+
+// How a sealed transaction with these ends of its exclusion window is decided: a mark is marked.
+fn decision_of(pre: &Pre, succ: Stamp, pred: Stamp) -> Decision
+    ensures { result ≡ (if is_some pre.now.mark then Mark else if nat_lt pred succ then Commit else Skip) }
+{
+    if pre.mark.is_some() {
+        Decision::Mark
+    } else if pred < succ {
+        Decision::Commit
+    } else {
+        Decision::Skip
+    }
+}
+
 // Makes the block that of the transaction, as it is decided.
 fn set_block(
     block: &mut Block,
@@ -51,36 +77,44 @@ fn set_block(
     number: u32,
     pre: &Pre,
     rows: &[Row],
-    commits: bool,
+    decision: Decision,
 )
     requires size { pre.now.size ≤ GREATEST_BLOCK }
     requires few { length pre.now.claims.value.items ≤ WRITE_LIMIT }
     requires each { length rows.now ≡ length pre.now.claims.value.items }
-    ensures is { block.new ≡ own_block seat run number pre.now rows.now commits }
+    ensures is { block.new ≡ own_block seat run number pre.now rows.now decision }
     ensures number { block.new.number < 2 ^ 32 }
 {
-    block.kind = if commits { Kind::Commit } else { Kind::Skip };
+    block.kind = kind_of(decision);
     block.run = run;
     block.stamp = pre.stamp;
-    block.succ = pre.succ;
+    block.succ = pre.mark.unwrap_or(pre.succ);
     block.seat = seat;
     block.number = number;
     block.n = pre.claims.len() as u16;
     block.size = pre.size as u16;
     block.rows.clear();
-    if commits {
+    if let Decision::Commit = decision {
         add_entries(pre.claims.as_slice(), rows, &mut block.rows);
     }
 }
 
-// What becomes of the transaction.
-fn outcome_of(number: u32, pre: &Pre, commits: bool) -> Outcome
+// What becomes of the transaction, or of the mark.
+fn outcome_of(number: u32, pre: &Pre, succ: Stamp, pred: Stamp) -> Outcome
     requires end { pre.now.stamp + pre.now.size < 2 ^ 64 }
-    ensures { result ≡ (if commits
+    requires ends { (pre.now.succ ≡ succ) × (pre.now.pred ≡ pred) }
+    ensures marked { (begin : ℕ) → pre.now.mark ≡ Some begin → result ≡ Marked pre.now.stamp begin }
+    ensures decided { pre.now.mark ≡ None → result ≡ (if nat_lt pred succ
         then Committed (record { number = number; stamp = pre.now.stamp; end = pre.now.stamp + pre.now.size; succ = pre.now.succ; pred = pre.now.pred })
         else Excluded pre.now.stamp pre.now.succ pre.now.pred) }
 {
-    if commits {
+    if let Some(safe) = pre.mark {
+        return Outcome::Marked {
+            stamp: pre.stamp,
+            safe,
+        };
+    }
+    if pred < succ {
         Outcome::Committed(Receipt {
             number,
             stamp: pre.stamp,
@@ -122,10 +156,10 @@ impl Session {
         let Stage::Sealed(pre) = mem::replace(&mut self.stage, Stage::Idle) else {
             unreachable!()
         };
-        let commits = pred < succ;
-        self.store_block(t, p, &pre, commits);
-        self.leave(t, p, &pre, commits);
-        let outcome = outcome_of(self.number, &pre, commits);
+        let decision = decision_of(&pre, succ, pred);
+        self.store_block(t, p, &pre, decision);
+        self.leave(t, p, &pre, decision);
+        let outcome = outcome_of(self.number, &pre, succ, pred);
         self.room = Some(Room {
             reads: pre.reads,
             claims: pre.claims,
@@ -134,10 +168,10 @@ impl Session {
     }
 
     // Stores the words of the transaction's block, and then its header, which decides it.
-    fn store_block<L: RowLaw>(&mut self, t: &Table<L>, p: &mut Pass, pre: &Pre, commits: bool)
+    fn store_block<L: RowLaw>(&mut self, t: &Table<L>, p: &mut Pass, pre: &Pre, decision: Decision)
         requires fits { Fits t.now.words.shared.table_id p.old }
         requires known { IsKnown (view p.old) }
-        requires may { MayBeDecided self.old.seat self.old.run self.old.number pre.now self.old.rows_claimed.items commits
+        requires may { MayBeDecided self.old.seat self.old.run self.old.number pre.now self.old.rows_claimed.items decision
             (part_of (view p.old) self.old.seat) }
         requires room { length self.old.block.items ≡ BLOCK_WORDS }
         ensures fits { Fits t.now.words.shared.table_id p.new }
@@ -155,7 +189,7 @@ impl Session {
             self.number,
             pre,
             rows,
-            commits,
+            decision,
         );
         let size = encode_into(&mut self.block, decided);
         let words = self.block.as_slice();
@@ -164,12 +198,12 @@ impl Session {
     }
 
     // Ends the transaction as it was decided.
-    fn leave<L: RowLaw>(&mut self, t: &Table<L>, p: &mut Pass, pre: &Pre, commits: bool)
+    fn leave<L: RowLaw>(&mut self, t: &Table<L>, p: &mut Pass, pre: &Pre, decision: Decision)
         requires fits { Fits t.now.words.shared.table_id p.old }
         requires known { IsKnown (view p.old) }
-        requires may { MayEnd self.old.seat pre.now self.old.spare commits (part_of (view p.old) self.old.seat) }
+        requires may { MayEnd self.old.seat pre.now self.old.spare decision (part_of (view p.old) self.old.seat) }
         ensures fits { Fits t.now.words.shared.table_id p.new }
-        ensures ends { EndsAs (if commits then Commit else Skip) (view p.old) self.old.seat (view p.new) }
+        ensures ends { EndsAs decision (view p.old) self.old.seat (view p.new) }
         ensures same { self.new ≡ record self.old {
           spare = self.new.spare;
           rows_read = self.new.rows_read;
@@ -181,11 +215,11 @@ impl Session {
         ensures room_read { vec_capacity self.new.rows_read ≡ vec_capacity self.old.rows_read }
         ensures room_claimed { vec_capacity self.new.rows_claimed ≡ vec_capacity self.old.rows_claimed }
         ensures ended { Went L.law self.old.seat IsEndStep (book p.old) (book p.new) }
-        ensures took { TookDecided (if commits then Commit else Skip) L.law self.old.seat (book p.old) (book p.new) }
+        ensures took { TookDecided decision L.law self.old.seat (book p.old) (book p.new) }
     {
         self.rows_read.clear();
         self.rows_claimed.clear();
-        if commits {
+        if let Decision::Commit = decision {
             commit_end(pre, t, p, self.seat);
         } else {
             skip_end(pre, t, p, self.seat, &mut self.spare);

@@ -43,6 +43,7 @@ fn bare(stamp: Stamp, room: Room) -> Pre
         claims,
         succ: stamp,
         pred: 0,
+        mark: None,
     }
 }
 
