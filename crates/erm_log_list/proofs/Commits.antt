@@ -18,7 +18,7 @@ use Rattle.erm_block.specs.declared.block.Block.{Block}
 use Rattle.erm_block.specs.declared.block.Kind.TheVariants as block_kind
 use Rattle.erm_block.specs.Block.{IsBlock}
 use Rattle.erm_block.specs.Spelling.{spelling}
-use Rattle.erm_core_blocks.specs.Spelled.{HasBlock, IsBlockOf, entries_of, kind_of}
+use Rattle.erm_core_blocks.specs.Spelled.{HasBlock, IsBlockOf, entries_of, kind_of, turn_of}
 use Rattle.erm_sound.specs.Kept.{SoundUnder}
 use Rattle.erm_log_list.specs.LogOf.{AreBlocksIn, IsBlockIn, IsCommitOf, IsDecidedUpTo, IsLogUpTo, ranges_below}
 use Rattle.erm_log_list.proofs.Chain.{Laws, Stands, blocks_from, one_commit}
@@ -32,7 +32,7 @@ commit_of run seat t b commit is = record {
   of_seat = is.of_seat;
   number = is.number;
   stamp = is.stamp;
-  succ = is.succ;
+  succ = is.succ ∙ ap (λ (d : Decision). turn_of d t) commit;
   rows = is.rows ∙ ap (λ (d : Decision). entries_of d (map written_of t.writes)) commit;
 }
 
