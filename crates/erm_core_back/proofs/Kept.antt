@@ -23,6 +23,8 @@ use Rattle.erm_core_back.proofs.Gazes.{IsCommon, IsRunning, watches}
 use Rattle.erm_core_back.proofs.Goes.{Alike, goes_steady, lasts_on}
 use Rattle.erm_core_back.proofs.Owning.{passed_on}
 use Rattle.erm_core_back.proofs.Turns.{Turns, turns_add_tail, turns_decide, turns_from, turns_join, turns_load_back, turns_load_begin, turns_load_state, turns_load_tail, turns_split, turns_store_back, turns_store_begin, turns_store_state}
+use Rattle.erm_core_back.proofs.Marks.{fits_before, fits_steady}
+use Rattle.erm_core_lives.proofs.Lasting.{lasting_kind}
 
 -- what the law says of a state
 pub record Kept (d : Core) : Type 0 where
@@ -60,7 +62,8 @@ common_kept c p k d common quiet one sound e =
     let w = watches p k found c.shared (c.seats p) m.part common m.after in
     kept_moves c p k d sound m
     (turns_from c p sound m.part (goes_steady c.shared.tail (c.seats p) m.part steady.place steady.over steady.begin steady.same) w.back
-    (lasts_on (c.seats p) m.part steady.over (alike_steady (c.seats p) m.part (sound.own p).ranges.current steady w.succ)) w.gaze)
+    (lasts_on (c.seats p) m.part steady.over (alike_steady (c.seats p) m.part (sound.own p).ranges.current steady w.succ))
+    (fits_steady (c.seats p) m.part (fits_before p (c.seats p) (sound.own p).back) steady (lasting_kind p k found c.shared (c.seats p) m.part quiet m.after)) w.gaze)
 
 split_kept : (c : Core) (p other : ℕ) (d : Core) → Sound c → after_event c p (kind.Split other) ≡ Some d → Kept d
 split_kept c p other d sound e = by_test _ e

@@ -16,6 +16,7 @@ use Rattle.erm_core_si.proofs.SnapshotSafe.{not_seat}
 use Rattle.erm_core_si.proofs.SnapshotSteps.{current_stands}
 use Rattle.erm_core_back.proofs.Gazes.{Blind, Faces, Gazes}
 use Rattle.erm_core_back.proofs.Goes.{Goes, Lasts}
+use Rattle.erm_core_back.proofs.Marks.{MarksFit}
 
 pinned_stays : (p : Place) → IsPin p → IsLeaving p → ⊥
 pinned_stays (Leaving stamp) pin leaving = pin
@@ -37,8 +38,8 @@ module _ (c : Core) (p : ℕ) (sound : Sound c) where
       by_flusher false flusher = subst IsLeaving ((sound.own p).ranges.seat_of (not_seat p session flusher)) leaving
 
   -- the own back word after a step that leaves it
-  pub own_on : (y : Part) → Goes c.shared.tail x y → y.back ≡ x.back → Lasts x y → (0 < passed_to y.task → is_new y.current ≡ true) → OwnBack p y
-  own_on y goes back lasts new = record {
+  pub own_on : (y : Part) → Goes c.shared.tail x y → y.back ≡ x.back → Lasts x y → MarksFit y → (0 < passed_to y.task → is_new y.current ≡ true) → OwnBack p y
+  own_on y goes back lasts marks new = record {
     over = λ t m g.
         ⊎_elim (λ (before : t ∈ x.over). let h = own.over t before g in omega (arith, h, back))
         (λ (left : IsLeaving x.place × (t ≡ x.current)).
@@ -60,6 +61,8 @@ module _ (c : Core) (p : ℕ) (sound : Sound c) where
         inr (u.0, u.1, u.2, u.3 ∙ of.3 ∙ sym back))
         own.of;
     snapshot = new;
+    unmarked = marks.unmarked;
+    marks = marks.marks;
     only = λ session t m commit.
         ⊎_elim (λ (before : t ∈ x.over). own.only session t before commit) (λ (left : IsLeaving x.place × (t ≡ x.current)). stays_on session left.0) (goes.over t m commit);
   }

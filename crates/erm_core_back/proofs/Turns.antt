@@ -13,22 +13,23 @@ use Rattle.erm_machine.specs.declared.place.Place.{Place}
 use Rattle.erm_machine.specs.declared.place.Place.TheVariants.{Idle, Begun, Announced, Active, Sealing, Drawn, Sealed, Decided, Leaving}
 use Rattle.erm_machine.specs.declared.task.Task.{Task}
 use Rattle.erm_machine.specs.declared.task.Task.TheVariants as task
-use Rattle.erm_machine.specs.Back.{IsLeaving, IsSafeCommit, IsBehind, OwnBack, Back, passed_to}
+use Rattle.erm_machine.specs.Back.{IsLeaving, IsSafeCommit, IsBehind, OwnBack, Back, passed_to, MarkFits}
 use Rattle.erm_machine.specs.Begins.{BeginsAt}
 use Rattle.erm_machine.specs.Bounds.{IsBounded}
-use Rattle.erm_machine.specs.Core.{Core}
+use Rattle.erm_machine.specs.Core.{Core, blank}
 use Rattle.erm_machine.specs.Facts.{HasBegun, IsCurrent}
 use Rattle.erm_machine.specs.Life.{load_tail, load_tail_to_begin, load_tail_for_horizon, add_tail, store_begin, store_state, after_passed, load_begin, load_back, store_back, load_state, split, join, decide}
-use Rattle.erm_machine.specs.Seat.{is_new}
+use Rattle.erm_machine.specs.Seat.{is_new, is_active, is_safe}
 use Rattle.erm_machine.specs.Sound.{Sound}
 use Rattle.erm_machine.specs.Tasks.{TaskFits}
 use Rattle.erm_machine.specs.Words.{begin_of, is_clear, is_flusher, is_session, refuses}
-use Rattle.erm_machine.proofs.Backs.{active_begin_then, decided_begin_then, goes_back_is, session_within}
+use Rattle.erm_machine.proofs.Backs.{active_begin_then, decided_begin_then, goes_back_is, session_within, safe_passed}
 use Rattle.erm_machine.proofs.Guards.{either_way, when_then}
 use Rattle.erm_core_si.proofs.SnapshotSteps.{current_stands}
 use Rattle.erm_core_back.proofs.Gazes.{Blind, Faces, Gazes, blind_from, blind_if, faces_same, look_gazes}
 use Rattle.erm_core_back.proofs.Goes.{Goes, Lasts, goes_aborted, goes_cleared, goes_early, goes_left, goes_new, goes_onward, goes_same, lasts_on, lasts_over, lasts_same}
 use Rattle.erm_core_back.proofs.Owning.{eyes_gaze, new_gaze, own_on, seen}
+use Rattle.erm_core_back.proofs.Marks.{MarksFit, decided_mark, fits_before, fits_on, fits_over, fits_same, fits_seal, mark_as, no_mark}
 
 -- a seat's part after a step
 pub record Turns (c : Core) (p : ℕ) (y : Part) : Type 0 where
@@ -36,13 +37,18 @@ pub record Turns (c : Core) (p : ℕ) (y : Part) : Type 0 where
   pub own : OwnBack p y
   pub eyes : (q : ℕ) → q ≢ p → Back y q (c.seats q)
 
-pub turns_from : (c : Core) (p : ℕ) → Sound c → (y : Part) → Goes c.shared.tail (c.seats p) y → y.back ≡ (c.seats p).back → Lasts (c.seats p) y →
+pub turns_from : (c : Core) (p : ℕ) → Sound c → (y : Part) → Goes c.shared.tail (c.seats p) y → y.back ≡ (c.seats p).back → Lasts (c.seats p) y → MarksFit y →
     Gazes (c.seats p) (c.seats p).task y → Turns c p y
-turns_from c p sound y goes back lasts gaze = record { goes = goes; own = own_on c p sound y goes back lasts (new_gaze c p sound y gaze); eyes = eyes_gaze c p sound y gaze }
+turns_from c p sound y goes back lasts marks gaze =
+    record { goes = goes; own = own_on c p sound y goes back lasts marks (new_gaze c p sound y gaze); eyes = eyes_gaze c p sound y gaze }
 
 not_yet : (b : Bool) (tail : ℕ) → (HasBegun (if b then Idle else Begun tail) → ⊥) × (IsLeaving (if b then Idle else Begun tail) → ⊥)
 not_yet true tail = (λ h. h, λ h. h)
 not_yet false tail = (λ h. h, λ h. h)
+
+not_active : (b : Bool) (tail : ℕ) → is_active (if b then Idle else Begun tail) ≡ true → ⊥
+not_active true tail e = cc
+not_active false tail e = cc
 
 -- all below a number are passed, and no back word is to be loaded
 record Passing (u : Task) (n : ℕ) : Type 0 where
@@ -89,6 +95,14 @@ module _ (c : Core) (p : ℕ) (sound : Sound c) where
   begun_at : (pl : Place) → (c.seats p).place ≡ pl → HasBegun pl → HasBegun (c.seats p).place
   begun_at pl at begun = subst HasBegun (sym at) begun
 
+  -- the marks before
+  abbrev old : MarksFit (c.seats p)
+  old = fits_before p (c.seats p) (sound.own p).back
+
+  -- the current transaction, as a mark
+  current_fits : MarkFits (c.seats p).current
+  current_fits = (sound.own p).back.marks (c.seats p).current (current_stands (c.seats p))
+
   rest_blind : (u : Task) → u ≡ task.Rest → Blind u
   rest_blind u e = subst Blind (sym e) (blind_from task.Rest tt)
 
@@ -99,27 +113,31 @@ module _ (c : Core) (p : ℕ) (sound : Sound c) where
   pub turns_same : (y : Part) → y.place ≡ (c.seats p).place → y.over ≡ (c.seats p).over → y.current ≡ (c.seats p).current → y.back ≡ (c.seats p).back →
       Gazes (c.seats p) (c.seats p).task y → Turns c p y
   turns_same y place over current back gaze =
-      turns_from c p sound y (goes_same c.shared.tail (c.seats p) y place over current) back (lasts_same (c.seats p) y over current) gaze
+      turns_from c p sound y (goes_same c.shared.tail (c.seats p) y place over current) back (lasts_same (c.seats p) y over current)
+      (fits_same (c.seats p) y old over current (λ active. subst (λ (pl : Place). is_active pl ≡ true) place active)) gaze
 
   -- nor does the task
   turns_still : (y : Part) → y.place ≡ (c.seats p).place → y.over ≡ (c.seats p).over → y.current ≡ (c.seats p).current → y.back ≡ (c.seats p).back →
       y.task ≡ (c.seats p).task → Turns c p y
   turns_still y place over current back task = turns_same y place over current back (same_gaze y task current)
 
-  -- the task and the transaction stay
-  turns_faced : (y : Part) → Goes c.shared.tail (c.seats p) y → y.back ≡ (c.seats p).back → Lasts (c.seats p) y → y.task ≡ (c.seats p).task →
-      y.current ≡ (c.seats p).current → Turns c p y
-  turns_faced y goes back lasts task current = turns_from c p sound y goes back lasts (same_gaze y task current)
+  -- the task and the transaction stay, of a seat that isn't active
+  turns_faced : (y : Part) → Goes c.shared.tail (c.seats p) y → y.back ≡ (c.seats p).back → y.over ≡ (c.seats p).over → y.task ≡ (c.seats p).task →
+      y.current ≡ (c.seats p).current → (is_active y.place ≡ true → ⊥) → Turns c p y
+  turns_faced y goes back over task current inactive =
+      turns_from c p sound y goes back (lasts_same (c.seats p) y over current) (fits_same (c.seats p) y old over current (λ active. absurd (inactive active)))
+      (same_gaze y task current)
 
   turns_begin : (pl : Place) (y : Part) → (c.seats p).place ≡ pl → load_tail_to_begin p c.shared.tail (c.seats p) pl ≡ Some y → Turns c p y
   turns_begin Idle y at e =
       when_then (Turns c p) _ _ y e (λ _.
       let no = not_yet (refuses p c.shared.tail) c.shared.tail in
-      turns_faced _ (goes_early c.shared.tail (c.seats p) _ refl no.0 no.1) refl (lasts_same (c.seats p) _ refl refl) refl refl)
+      turns_faced _ (goes_early c.shared.tail (c.seats p) _ refl no.0 no.1) refl refl refl refl (not_active (refuses p c.shared.tail) c.shared.tail))
   turns_begin (Announced tail) y at e =
       when_then (Turns c p) _ _ y e (λ _.
       turns_from c p sound _ (goes_new c.shared.tail (c.seats p) _ refl (omega arith) (λ h. h)) refl
-      (lasts_on (c.seats p) _ refl (inl (ap (λ (t : Attempt). t.decision) (at_current (Announced tail) at)))) (inl (blind_from task.Rest tt)))
+      (lasts_on (c.seats p) _ refl (inl (ap (λ (t : Attempt). t.decision) (at_current (Announced tail) at))))
+      (fits_on (c.seats p) _ old refl (λ _. refl) (no_mark _ refl refl)) (inl (blind_from task.Rest tt)))
   turns_begin _ y at e = absurd (cc)
 
   turns_horizon : (t : Task) (y : Part) → load_tail_for_horizon c.shared.tail (c.seats p) t ≡ Some y → Turns c p y
@@ -135,7 +153,9 @@ module _ (c : Core) (p : ℕ) (sound : Sound c) where
   turns_add_tail size (Sealing tail) y at e =
       when_then (Turns c p) _ _ y e (λ _.
       turns_from c p sound _ (goes_onward c.shared.tail (c.seats p) _ refl (begun_at (Sealing tail) at tt) refl (λ h. h)) refl
-      (lasts_on (c.seats p) _ refl (inl (at_current (Sealing tail) at).decision)) (inl (rest_blind _ (at_task (Sealing tail) at))))
+      (lasts_on (c.seats p) _ refl (inl (at_current (Sealing tail) at).decision))
+      (fits_on (c.seats p) _ old refl (λ active. absurd (cc)) (mark_as (c.seats p).current _ refl refl (λ _ new. new) current_fits))
+      (inl (rest_blind _ (at_task (Sealing tail) at))))
   turns_add_tail size _ y at e = absurd (cc)
 
   -- the begin word is raised to the begin stamp: nobody is passed yet
@@ -145,7 +165,7 @@ module _ (c : Core) (p : ℕ) (sound : Sound c) where
       let goes : Goes c.shared.tail (c.seats p) y = goes_onward c.shared.tail (c.seats p) y refl (begun_at (Active tail) at tt) refl (λ h. h) in
       record {
         goes = goes;
-        own = own_on c p sound y goes refl (lasts_same (c.seats p) y refl refl) (λ _. new);
+        own = own_on c p sound y goes refl (lasts_same (c.seats p) y refl refl) (fits_same (c.seats p) y old refl refl (λ _. ap is_active at)) (λ _. new);
         eyes = λ q ne. record {
           late = λ passed session begun.
               ⊎_elim (λ (below : q < 1). absurd (no_session q below session)) (λ (behind : ⊥). absurd behind) passed;
@@ -160,34 +180,39 @@ module _ (c : Core) (p : ℕ) (sound : Sound c) where
   pub turns_store_begin : (value : ℕ) (pl : Place) (y : Part) → (c.seats p).place ≡ pl → store_begin p value (c.seats p) pl ≡ Some y → Turns c p y
   turns_store_begin value (Begun tail) y at e =
       when_then (Turns c p) _ _ y e (λ _.
-      turns_faced _ (goes_early c.shared.tail (c.seats p) _ refl (λ h. h) (λ h. h)) refl (lasts_same (c.seats p) _ refl refl) refl refl)
+      turns_faced _ (goes_early c.shared.tail (c.seats p) _ refl (λ h. h) (λ h. h)) refl refl refl refl (λ active. absurd (cc)))
   turns_store_begin value (Active tail) y at e =
       let none = (at_current (Active tail) at).decision in
       active_begin_then (Turns c p) p value tail (c.seats p) y e
       (λ _ _. either_way (Turns c p) (is_flusher p) _ _
-      (λ _. turns_from c p sound _ (goes_early c.shared.tail (c.seats p) _ refl (λ h. h) (λ h. h)) refl (lasts_on (c.seats p) _ refl (inl none)) (inl (blind_from task.Rest tt)))
-      (λ _. turns_from c p sound _ (goes_aborted c.shared.tail (c.seats p) _ refl (λ h. h) (λ h. h)) refl (lasts_over Abort (c.seats p) _ refl (inl none)) (inl (blind_from task.Rest tt))))
+      (λ _. turns_from c p sound _ (goes_early c.shared.tail (c.seats p) _ refl (λ h. h) (λ h. h)) refl (lasts_on (c.seats p) _ refl (inl none))
+      (fits_on (c.seats p) _ old refl (λ active. absurd (cc)) (no_mark blank refl refl)) (inl (blind_from task.Rest tt)))
+      (λ _. turns_from c p sound _ (goes_aborted c.shared.tail (c.seats p) _ refl (λ h. h) (λ h. h)) refl (lasts_over Abort (c.seats p) _ refl (inl none))
+      (fits_over Abort (c.seats p) _ old refl refl (λ mark. absurd (cc))) (inl (blind_from task.Rest tt))))
       (λ _ _ new _. turns_raised tail value at new)
   turns_store_begin value (Decided tail stamp) y at e =
       decided_begin_then (Turns c p) p value tail stamp (c.seats p) y e (λ _ _ marked.
       turns_from c p sound _
       (goes_cleared c.shared.tail (c.seats p) _ refl refl (begun_at (Decided tail stamp) at tt) (λ goes. let is = marked goes in omega (arith, is)) (λ h. h)) refl
-      (lasts_same (c.seats p) _ refl refl) (inl (blind_from task.Rest tt)))
+      (lasts_same (c.seats p) _ refl refl) (fits_same (c.seats p) _ old refl refl (λ active. absurd (cc))) (inl (blind_from task.Rest tt)))
   turns_store_begin value _ y at e = absurd (cc)
 
   pub turns_store_state : (value : ℕ) (pl : Place) (y : Part) → (c.seats p).place ≡ pl → store_state p value (c.seats p) pl ≡ Some y → Turns c p y
   turns_store_state value (Active tail) y at e =
+      let none = (at_current (Active tail) at).decision in
       when_then (Turns c p) _ _ y e (λ _.
-      turns_from c p sound _ (goes_onward c.shared.tail (c.seats p) _ refl (begun_at (Active tail) at tt) refl (λ h. h)) refl (lasts_same (c.seats p) _ refl refl)
+      turns_from c p sound _ (goes_onward c.shared.tail (c.seats p) _ refl (begun_at (Active tail) at tt) refl (λ h. h)) refl (lasts_on (c.seats p) _ refl (inl none))
+      (fits_seal (is_safe (c.seats p).task) (c.seats p) _ old refl refl (ap is_active at) (λ active. absurd (cc)) none
+      (λ safe. let some = safe_passed (c.seats p).task safe in (sound.own p).back.snapshot (omega (arith, some))))
       (inl (blind_from task.Rest tt)))
   turns_store_state value (Drawn tail stamp) y at e =
       when_then (Turns c p) _ _ y e (λ _.
-      turns_faced _ (goes_onward c.shared.tail (c.seats p) _ refl (begun_at (Drawn tail stamp) at tt) refl (λ h. h)) refl (lasts_same (c.seats p) _ refl refl)
-      refl refl)
+      turns_faced _ (goes_onward c.shared.tail (c.seats p) _ refl (begun_at (Drawn tail stamp) at tt) refl (λ h. h)) refl refl refl refl (λ active. absurd (cc)))
   turns_store_state value (Leaving stamp) y at e =
       when_then (Turns c p) _ _ y e (λ _.
       turns_from c p sound _ (goes_left c.shared.tail (c.seats p) _ refl (subst IsLeaving (sym at) tt) (λ h. h) (λ h. h)) refl
-      (lasts_over (c.seats p).current.decision (c.seats p) _ refl (inr refl)) (inl (rest_blind _ (at_task (Leaving stamp) at))))
+      (lasts_over (c.seats p).current.decision (c.seats p) _ refl (inr refl))
+      (fits_over (c.seats p).current.decision (c.seats p) _ old refl refl current_fits.marked) (inl (rest_blind _ (at_task (Leaving stamp) at))))
   turns_store_state value _ y at e = absurd (cc)
 
   pub turns_load_state : (other bound found : ℕ) (y : Part) → load_state p other bound found (c.seats p) ≡ Some y → Turns c p y
@@ -197,7 +222,7 @@ module _ (c : Core) (p : ℕ) (sound : Sound c) where
   pub turns_split : (by y : Part) → split by (c.seats p) ≡ Some y → Turns c p y
   turns_split by y e =
       when_then (Turns c p) _ _ y e (λ _.
-      turns_faced _ (goes_early c.shared.tail (c.seats p) _ refl (λ h. h) (λ h. h)) refl (lasts_same (c.seats p) _ refl refl) refl refl)
+      turns_faced _ (goes_early c.shared.tail (c.seats p) _ refl (λ h. h) (λ h. h)) refl refl refl refl (λ active. absurd (cc)))
 
   pub turns_join : (other y : Part) → join (c.seats p) other ≡ Some y → Turns c p y
   turns_join other y e = when_then (Turns c p) _ _ y e (λ _. turns_still _ refl refl refl refl refl)
@@ -206,7 +231,9 @@ module _ (c : Core) (p : ℕ) (sound : Sound c) where
   turns_decide stamp_at header (Sealed tail stamp) (task.Fills words) y at e =
       when_then (Turns c p) _ _ y e (λ _.
       turns_from c p sound _ (goes_onward c.shared.tail (c.seats p) _ refl (begun_at (Sealed tail stamp) at tt) refl (λ h. h)) refl
-      (lasts_on (c.seats p) _ refl (inl (at_current (Sealed tail stamp) at).decision)) (inl (blind_from (task.Ends 0 0 0 0) tt)))
+      (lasts_on (c.seats p) _ refl (inl (at_current (Sealed tail stamp) at).decision))
+      (fits_on (c.seats p) _ old refl (λ active. absurd (cc)) (record { new = current_fits.new; marked = decided_mark (c.seats p).current }))
+      (inl (blind_from (task.Ends 0 0 0 0) tt)))
   turns_decide stamp_at header _ _ y at e = absurd (cc)
 
   -- a commit that goes back stores its stamp: those before have lower ones
@@ -218,15 +245,17 @@ module _ (c : Core) (p : ℕ) (sound : Sound c) where
       let stands = current_stands (c.seats p) in
       let own = (sound.own p).decided in
       let positive = own.positive (c.seats p).current stands goes.commit in
-      let old = (sound.own p).back in
+      let back = (sound.own p).back in
       record {
         goes = goes_same c.shared.tail (c.seats p) (record (c.seats p) { back = value }) refl refl refl;
         own = record {
           over = λ t m _. let low = own.earlier t m positive in omega (arith, low, is);
           leaving = λ leaves _. absurd (subst IsLeaving at leaves);
           of = inr ((c.seats p).current, stands, goes, sym is);
-          snapshot = old.snapshot;
-          only = old.only;
+          snapshot = back.snapshot;
+          unmarked = back.unmarked;
+          marks = back.marks;
+          only = back.only;
         };
         eyes = eyes_gaze c p sound (record (c.seats p) { back = value }) (same_gaze (record (c.seats p) { back = value }) refl refl);
       })
@@ -240,7 +269,7 @@ module _ (c : Core) (p : ℕ) (sound : Sound c) where
   turns_task u some eyes =
       let y : Part = record (c.seats p) { task = u } in
       let goes : Goes c.shared.tail (c.seats p) y = goes_same c.shared.tail (c.seats p) y refl refl refl in
-      record { goes = goes; own = own_on c p sound y goes refl (lasts_same (c.seats p) y refl refl) (λ _. (sound.own p).back.snapshot some); eyes = eyes }
+      record { goes = goes; own = own_on c p sound y goes refl (lasts_same (c.seats p) y refl refl) (fits_same (c.seats p) y old refl refl (λ active. active)) (λ _. (sound.own p).back.snapshot some); eyes = eyes }
 
   -- one more is passed
   eyes_passing : (u : Task) (next : ℕ) → Passing u (next + 1) → passed_to (c.seats p).task ≡ next → (q : ℕ) → q ≢ p → (q ≡ next → is_session q ≡ true → IsPassed begin (c.seats q)) →

@@ -2,11 +2,13 @@
 use Rattle.std.proofs.Common.{◌≡◌, ◌≢◌, ℕ, ◌+◌, ◌-◌, ◌*◌, ◌/◌, ◌%◌, ◌<◌, ◌≤◌, ◌⊎◌, ⊎_elim, true, false, eqb, length, Some, None, refl, ap, ◌∙◌, subst, inl, inr, arith}
 use Rattle.std.specs.Prelude.{if◌then◌else◌, nat_lt}
 use Rattle.std.specs.Int.{w64, bit_at, trailing_zeros}
-use Rattle.std.proofs.lemmas.Bool.{and_from, cases_Bool, eq-eqb, lt-ltb, le-leb, cond-true, cond_both}
+use Rattle.std.proofs.lemmas.Bool.{and_from, cases_Bool, eq-eqb, lt-ltb, le-leb, cond-true}
 use Rattle.erm_model.proofs.Members.{∈-at}
-use Rattle.erm_model.specs.declared.header.TheConstants.{COMMIT_KIND, RUN_UNIT, SIZE_UNIT, SKIP_KIND}
+use Rattle.erm_model.specs.declared.header.TheConstants.{RUN_UNIT, SIZE_UNIT}
 use Rattle.erm_machine.specs.declared.limits.TheConstants.{ANNOUNCERS, OBJECT_LIMIT, LEAST_BLOCK, GREATEST_BLOCK}
 use Rattle.erm_machine.specs.declared.attempt.Attempt.{Attempt}
+use Rattle.erm_machine.specs.declared.attempt.Decision.{Decision}
+use Rattle.erm_machine.specs.declared.attempt.Decision.TheVariants.{Commit, Mark}
 use Rattle.erm_machine.specs.declared.event.Kind.TheVariants as kind
 use Rattle.erm_machine.specs.declared.place.Place.TheVariants.{Sealed}
 use Rattle.erm_machine.specs.declared.task.Task.{Task}
@@ -15,7 +17,7 @@ use Rattle.erm_machine.specs.declared.version.CellWord.TheVariants as word
 use Rattle.erm_machine.specs.Core.{Core, version_at, claim_at}
 use Rattle.erm_machine.specs.Facts.{IsCurrent}
 use Rattle.erm_machine.specs.Life.{is_header, decide}
-use Rattle.erm_machine.specs.Seat.{decision_of, is_active, is_commit, is_sealed, is_vacant, read_at, no_read}
+use Rattle.erm_machine.specs.Seat.{decision_of, header_kind, is_active, is_sealed, is_vacant, read_at, no_read}
 use Rattle.erm_machine.specs.Settling.{filled, load_read_entry, load_readers, load_settled_stamp, store_ring}
 use Rattle.erm_machine.specs.Sound.{Sound}
 use Rattle.erm_machine.specs.Words.{is_clear, state_of, without_bit}
@@ -27,7 +29,12 @@ use Rattle.erm_core_calls.proofs.Seats.{seat_low, last_member, range_size}
 
 -- A header of this kind, size and run, and that it is one.
 abbrev pub header_for : Attempt → ℕ → ℕ
-header_for t run = (if is_commit (decision_of t) then COMMIT_KIND else SKIP_KIND) + t.size * SIZE_UNIT + run * RUN_UNIT
+header_for t run = header_kind (decision_of t) + t.size * SIZE_UNIT + run * RUN_UNIT
+
+low_kind : (d : Decision) → header_kind d < SIZE_UNIT
+low_kind Commit = omega arith
+low_kind Mark = omega arith
+low_kind d = omega arith
 
 parts_of : (which size run : ℕ) → which < SIZE_UNIT → size ≤ GREATEST_BLOCK →
     ((which + size * SIZE_UNIT + run * RUN_UNIT) % SIZE_UNIT ≡ which) × ((which + size * SIZE_UNIT + run * RUN_UNIT) / SIZE_UNIT % (RUN_UNIT / SIZE_UNIT) ≡ size) × ((which + size * SIZE_UNIT + run * RUN_UNIT) / RUN_UNIT ≡ run)
@@ -35,9 +42,7 @@ parts_of which size run low few = (omega (arith, low, few), omega (arith, low, f
 
 pub header_fits : (t : Attempt) (run : ℕ) → t.size ≤ GREATEST_BLOCK → is_header t run (header_for t run) ≡ true
 header_fits t run few =
-    let which : ℕ = if is_commit (decision_of t) then COMMIT_KIND else SKIP_KIND in
-    let low : which < SIZE_UNIT = cond_both (is_commit (decision_of t)) COMMIT_KIND SKIP_KIND (λ n. n < SIZE_UNIT) (λ _. omega arith) (λ _. omega arith) in
-    let parts = parts_of which t.size run low few in
+    let parts = parts_of (header_kind (decision_of t)) t.size run (low_kind (decision_of t)) few in
     and_from _ _ (and_from _ _ (eq-eqb _ _ parts.0) (eq-eqb _ _ parts.1)) (eq-eqb _ _ parts.2)
 
 -- a bit that is cleared was set

@@ -18,7 +18,7 @@ use Rattle.erm_machine.specs.Cells.{MayWant, WantsCell}
 use Rattle.erm_machine.specs.Core.{Object, claim_at, no_claim}
 use Rattle.erm_machine.specs.Flushing.{load_flushed}
 use Rattle.erm_machine.specs.Reading.{entered, after_cut, detached, older, new_claim, load_entry, claim, set_reader, load_walked_stamp, load_walked_link, load_cell, load_detached, load_active_stamp, with_spare, rated_claim, with_own_word, stored_own, stored_row, start_row, store_row_word, without_row, unset}
-use Rattle.erm_machine.specs.Seat.{end_of, is_active, is_safe, is_sealed, is_own, last_claim, may_start}
+use Rattle.erm_machine.specs.Seat.{end_of, is_active, is_safe, is_sealed, is_own, last_claim, may_seal, may_start}
 use Rattle.erm_machine.specs.Words.{blank_cell}
 use Rattle.erm_machine.specs.Settling.{filled, may_settle, load_flushed_to_settle, load_read_entry, load_readers, load_settled_stamp, load_stamp, store_ring, raise_reader, store_head_word, store_active_word, store_cell, mark_overwritten, store_succ, store_overwriter, clear_reader}
 use Rattle.erm_machine.proofs.Backs.{entry_then, rest_is}
@@ -48,6 +48,19 @@ starts_bare task.Draws e h = absurd (cc)
 starts_bare task.Pool e h = absurd (cc)
 starts_bare task.Refused e h = absurd (cc)
 starts_bare _ e h = h
+
+-- nor may it where a transaction is sealed, or a safe snapshot
+pub seals_bare : (t : Task) → may_seal t ≡ true → MayWant t → ⊥
+seals_bare (task.Claimed version) e h = absurd (cc)
+seals_bare (task.Horizon version least next) e h = absurd (cc)
+seals_bare (task.CutWalks version horizon) e h = absurd (cc)
+seals_bare (task.CutPassed version horizon) e h = absurd (cc)
+seals_bare (task.CutFound version horizon) e h = absurd (cc)
+seals_bare (task.Detaches version) e h = absurd (cc)
+seals_bare task.Draws e h = absurd (cc)
+seals_bare task.Pool e h = absurd (cc)
+seals_bare task.Refused e h = absurd (cc)
+seals_bare _ e h = h
 
 -- nor does a safe snapshot
 safe_bare : (t : Task) → is_safe t ≡ true → MayWant t → ⊥

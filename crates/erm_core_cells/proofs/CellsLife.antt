@@ -22,7 +22,7 @@ use Rattle.erm_machine.specs.Tasks.{TaskFits}
 use Rattle.erm_machine.specs.Words.{is_flusher}
 use Rattle.erm_machine.proofs.Backs.{active_begin_then}
 use Rattle.erm_machine.proofs.Guards.{when_then, either_way}
-use Rattle.erm_core_cells.proofs.CellsCalls.{EndIs, ends_bare, starts_bare}
+use Rattle.erm_core_cells.proofs.CellsCalls.{EndIs, ends_bare, seals_bare}
 use Rattle.erm_core_cells.proofs.CellsLeaves.{times_in, Leaves, Plain, plain_from, plain_if, KeepsTask, keeps_plain, keeps_want, keeps_same, keeps_if, leaves_task, leaves_plain, leaves_want, leaves_aside, leaves_over, leaves_dropped}
 
 -- a begin: there was no transaction
@@ -99,7 +99,7 @@ pub store_state_leaves : (seat value : ℕ) (x : Part) (pl : Place) (y : Part) �
     → ((k : ℕ) → k < length x.current.writes → k < over_of pl x.task (length x.current.writes) → (claim_at x.current k).own ≡ None)
     → store_state seat value x pl ≡ Some y → Leaves x x.task y
 store_state_leaves seat value x (Active tail) y at fits none e =
-    when_then (Leaves x x.task) _ _ y e (λ g. leaves_task x x.task _ refl refl refl (keeps_plain x x.task task.Rest (plain_from task.Rest tt) (starts_bare x.task (and_parts _ _ g).1)))
+    when_then (Leaves x x.task) _ _ y e (λ g. leaves_task x x.task _ refl refl refl (keeps_plain x x.task task.Rest (plain_from task.Rest tt) (seals_bare x.task (and_parts _ _ g).1)))
 store_state_leaves seat value x (Drawn tail stamp) y at fits none e = when_then (Leaves x x.task) _ _ y e (λ _. leaves_aside x _ refl refl refl refl)
 store_state_leaves seat value x (Leaving stamp) y at fits none e =
     when_then (Leaves x x.task) _ _ y e (λ _.

@@ -1,22 +1,27 @@
 -- Headers in the ring: one is 0 exactly before the decision, and what a gather finds.
 use Rattle.std.proofs.Common.{◌≡◌, ◌≢◌, ℕ, ◌+◌, ◌%◌, ◌<◌, ◌≤◌, ⊎_elim, sym, ap, ◌∙◌, subst, arith}
-use Rattle.std.specs.Prelude.{if◌then◌else◌}
 use Rattle.std.proofs.lemmas.Bool.{cases_lt}
-use Rattle.erm_model.specs.declared.header.TheConstants.{COMMIT_KIND, SIZE_UNIT, SKIP_KIND}
+use Rattle.erm_model.specs.declared.header.TheConstants.{SIZE_UNIT}
 use Rattle.erm_model.specs.Member.{◌∈◌}
 use Rattle.erm_model.proofs.Members.{∈-push}
 use Rattle.erm_machine.specs.declared.attempt.Attempt.{Attempt}
-use Rattle.erm_machine.specs.declared.attempt.Decision.TheVariants.{Undecided}
+use Rattle.erm_machine.specs.declared.attempt.Decision.{Decision}
+use Rattle.erm_machine.specs.declared.attempt.Decision.TheVariants.{Undecided, Commit, Mark}
 use Rattle.erm_machine.specs.declared.limits.TheConstants.{FLUSH_SEAT}
 use Rattle.erm_machine.specs.declared.version.Span.{Span}
 use Rattle.erm_machine.specs.Core.{Core}
 use Rattle.erm_machine.specs.Facts.{all_of}
 use Rattle.erm_machine.specs.Flushing.{size_of}
 use Rattle.erm_machine.specs.Log.{DecidedBelow, InRing, IsEnd, IsRange, cleared_to, ring_at}
-use Rattle.erm_machine.specs.Seat.{is_commit}
+use Rattle.erm_machine.specs.Seat.{header_kind}
 use Rattle.erm_machine.specs.Sound.{Sound}
-use Rattle.erm_machine.proofs.Guards.{either_way}
 use Rattle.erm_core_ring.proofs.Spans.{HasRange, end_apart, range_held, range_in, span_from, span_of, span_once}
+
+-- no kind of a block is 0
+some_kind : (d : Decision) → 0 < header_kind d
+some_kind Commit = omega arith
+some_kind Mark = omega arith
+some_kind d = omega arith
 
 module _ (c : Core) (sound : Sound c) where
   -- a header isn't 0 exactly from the decision on
@@ -32,7 +37,7 @@ module _ (c : Core) (sound : Sound c) where
   pub decided_header : (q : ℕ) (t : Attempt) → t ∈ all_of (c.seats q) → 0 < t.stamp → t.decision ≢ Undecided → t.header ≢ 0
   decided_header q t m drawn decided none =
       let is = ((sound.own q).log.headers t m drawn decided).kind_is in
-      let some : 0 < (if is_commit t.decision then COMMIT_KIND else SKIP_KIND) = either_way (λ n. 0 < n) (is_commit t.decision) COMMIT_KIND SKIP_KIND (λ _. omega arith) (λ _. omega arith) in
+      let some = some_kind t.decision in
       let zero : t.header % SIZE_UNIT ≡ 0 = ap (λ n. n % SIZE_UNIT) none in
       omega (arith, is, some, zero)
 

@@ -133,7 +133,10 @@ module _ (c : Core) (sound : Sound c) (p : ℕ) where
   announces value _ y at e = absurd (cc)
 
   pub seals : (value : ℕ) (pl : Place) (y : Part) → (c.seats p).place ≡ pl → store_state p value (c.seats p) pl ≡ Some y → Leaves c p y
-  seals value (Active tail) y at e = when_then (Leaves c p) _ _ y e (λ _. placed _ refl refl (λ h. absurd h) refl refl (λ _. not_vacant _ refl))
+  seals value (Active tail) y at e =
+      when_then (Leaves c p) _ _ y e (λ _.
+      moves_on _ refl (λ _. record { stamp = refl; size = refl; decision = refl; header = refl; block = refl }) (λ none. (sound.own p).log.undecided none) (λ h. absurd h) refl refl
+      (λ _. not_vacant _ refl))
   seals value (Drawn tail stamp) y at e =
       when_then (Leaves c p) _ _ y e (λ _.
       let rest : (c.seats p).task ≡ task.Rest = subst (λ q. TaskFits q (c.seats p).current (c.seats p).task) at (sound.own p).task.fits in

@@ -1,7 +1,6 @@
 -- What of the log stays where what is shared and what the seats keep go on: a range stays one, and a decision is never undone.
 use Rattle.std.proofs.Common.{◌≡◌, ◌≢◌, ℕ, ◌+◌, ◌/◌, ◌%◌, ◌<◌, ◌≤◌, ◌⊎◌, ⊎_elim, ◌∷◌, sym, ap, ◌∙◌, subst, inl, inr, arith, get_or}
-use Rattle.std.specs.Prelude.{if◌then◌else◌}
-use Rattle.erm_model.specs.declared.header.TheConstants.{COMMIT_KIND, RUN_UNIT, SIZE_UNIT, SKIP_KIND}
+use Rattle.erm_model.specs.declared.header.TheConstants.{RUN_UNIT, SIZE_UNIT}
 use Rattle.erm_model.specs.Member.{◌∈◌}
 use Rattle.erm_machine.specs.declared.attempt.Attempt.{Attempt}
 use Rattle.erm_machine.specs.declared.attempt.Decision.TheVariants.{Undecided}
@@ -13,7 +12,7 @@ use Rattle.erm_machine.specs.declared.version.Span.{Span}
 use Rattle.erm_machine.specs.Core.{Shared}
 use Rattle.erm_machine.specs.Facts.{all_of}
 use Rattle.erm_machine.specs.Flushing.{size_of}
-use Rattle.erm_machine.specs.Seat.{is_commit}
+use Rattle.erm_machine.specs.Seat.{header_kind}
 use Rattle.erm_machine.specs.Log.{DecidedBelow, Gathered, HeaderFits, IsEnd, IsFlushing, IsOldTail, IsRange, RingFits, block_word}
 use Rattle.erm_machine.specs.Ranges.{Ranges}
 use Rattle.erm_core_ring.proofs.Spans.{span_within}
@@ -134,7 +133,7 @@ ring_from s f g cleared from old = record {
 -- a header fits where it is the same, of a block of the same kind and size
 pub header_from : (run : ℕ) (t u : Attempt) → SameBlock t u → HeaderFits run t → HeaderFits run u
 header_from run t u b h = record {
-  kind_is = ap (λ n. n % SIZE_UNIT) b.header ∙ h.kind_is ∙ ap (λ d. if is_commit d then COMMIT_KIND else SKIP_KIND) (sym b.decision);
+  kind_is = ap (λ n. n % SIZE_UNIT) b.header ∙ h.kind_is ∙ ap header_kind (sym b.decision);
   size_is = ap size_of b.header ∙ h.size_is ∙ sym b.size;
   run_is = ap (λ n. n / RUN_UNIT) b.header ∙ h.run_is;
 }

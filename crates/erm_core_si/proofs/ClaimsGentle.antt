@@ -23,7 +23,7 @@ use Rattle.erm_machine.specs.Facts.{over_of}
 use Rattle.erm_machine.specs.Flushing.{load_flushed, gathered_word, load_ring, clear_ring, store_flushed}
 use Rattle.erm_machine.specs.Life.{load_tail_for_horizon, load_tail_to_gather, after_passed, load_begin, load_back, store_back, after_clear, load_state}
 use Rattle.erm_machine.specs.Reading.{entered, lost, after_cut, detached, load_entry, set_reader, load_walked_stamp, load_walked_link, load_cell, swap_link, load_detached, load_counter}
-use Rattle.erm_machine.specs.Seat.{end_of, is_active, is_safe, is_snapshot, may_start}
+use Rattle.erm_machine.specs.Seat.{end_of, is_active, is_safe, is_snapshot, may_seal, may_start}
 use Rattle.erm_machine.specs.Settling.{may_settle, load_flushed_to_settle, load_read_entry, load_readers, load_settled_stamp, store_ring, filled, raise_reader, clear_reader}
 use Rattle.erm_machine.proofs.Backs.{entry_then}
 use Rattle.erm_machine.proofs.Guards.{when_then, some_then, if_then, either_way}
@@ -54,6 +54,11 @@ no_end_if b t u f g = either_way NoEnd b t u (λ _. f) (λ _. g)
 pub start_no_end : (t : Task) → may_start t ≡ true → NoEnd t
 start_no_end (task.Ends raised ended step cleared) e = absurd (cc)
 start_no_end _ e = record { ended = refl; step = λ k. refl }
+
+-- nor where a transaction is sealed, or a safe snapshot
+pub seal_no_end : (t : Task) → may_seal t ≡ true → NoEnd t
+seal_no_end (task.Ends raised ended step cleared) e = absurd (cc)
+seal_no_end _ e = record { ended = refl; step = λ k. refl }
 
 -- nor in a safe snapshot
 safe_no_end : (t : Task) → is_safe t ≡ true → NoEnd t

@@ -18,7 +18,7 @@ use Rattle.erm_machine.proofs.Backs.{active_begin_then, decided_begin_then}
 use Rattle.erm_machine.proofs.Guards.{when_then, either_way}
 use Rattle.erm_core_si.proofs.ClaimsObjects.{Alike}
 use Rattle.erm_core_si.proofs.ClaimsOwn.{held_at, Stands, stands_own, none_own}
-use Rattle.erm_core_si.proofs.ClaimsGentle.{ended_of, start_no_end, NotLeaving, over_known, EndsAt, ends_at, zero_step, gentle_stands, same_end}
+use Rattle.erm_core_si.proofs.ClaimsGentle.{ended_of, seal_no_end, NotLeaving, over_known, EndsAt, ends_at, zero_step, gentle_stands, same_end}
 
 -- a seat that keeps its claims at another place, with no install in progress
 stands_on : (x y : Part) → y.current.writes ≡ x.current.writes → y.current.number ≡ x.current.number → y.current.begin ≡ x.current.begin
@@ -123,7 +123,7 @@ module _ (s r : Shared) (seat : ℕ) (x : Part) (alike : (oid : ℕ) → Alike (
   pub seals_own : (p value : ℕ) (pl : Place) (y : Part) → x.place ≡ pl → store_state p value x pl ≡ Some y → OwnClaims r seat y
   seals_own p value (Active tail) y at e =
       when_then (OwnClaims r seat) _ _ y e (λ g.
-      let none = start_no_end x.task (and_parts _ _ g).1 in
+      let none = seal_no_end x.task (and_parts _ _ g).1 in
       stays _ (stands_on x _ refl refl refl (stays_at (Active tail) at tt) tt (sym none.ended) none.step (λ k. refl)))
   seals_own p value (Drawn tail stamp) y at e =
       let rest : x.task ≡ task.Rest = task_at (Drawn tail stamp) at in

@@ -23,8 +23,8 @@ use Rattle.erm_machine.proofs.Guards.{when_then, either_way}
 use Rattle.erm_core_si.proofs.SnapshotLists.{∈-last, ∈-front}
 use Rattle.erm_core_si.proofs.SnapshotSteps.{Covers, Claiming}
 use Rattle.erm_core_si.proofs.SnapshotClaims.{claimed_same, claiming_known, claiming_begun, claiming_over}
-use Rattle.erm_core_si.proofs.SnapshotSame.{Free, free_from, free_hand, unsettled, covers_none, Remembered, Fresh, remembers, recalls_from}
-use Rattle.erm_core_si.proofs.SnapshotCalm.{calm_to, calm_stay, calm_horizon, calm_gather}
+use Rattle.erm_core_si.proofs.SnapshotSame.{Free, free_from, free_hand, unsettled, covers_none, Remembered, Fresh, remembers, recalls_from, keeps_same}
+use Rattle.erm_core_si.proofs.SnapshotCalm.{calm_current, calm_to, calm_stay, calm_horizon, calm_gather}
 use Rattle.erm_core_si.proofs.SnapshotLeft.{Left, left_calm}
 
 rest_free : (u : Task) → u ≡ task.Rest → Free u
@@ -158,7 +158,9 @@ module _ (c : Core) (p : ℕ) (sound : Sound c) where
   store_begin_left value _ y at e = absurd (cc)
 
   pub store_state_left : (value : ℕ) (pl : Place) (y : Part) → (c.seats p).place ≡ pl → store_state p value (c.seats p) pl ≡ Some y → Left c p y
-  store_state_left value (Active tail) y at e = when_then (Left c p) _ _ y e (λ _. left_calm c p _ sound (calm_to (c.seats p) (c.seats p).task _ refl refl (free_from task.Rest tt tt)))
+  store_state_left value (Active tail) y at e =
+      when_then (Left c p) _ _ y e (λ _.
+      left_calm c p _ sound (calm_current (c.seats p) (c.seats p).task _ refl refl refl refl (keeps_same (c.seats p) _ refl) (free_from task.Rest tt tt)))
   store_state_left value (Drawn tail stamp) y at e = when_then (Left c p) _ _ y e (λ _. left_calm c p _ sound (calm_stay (c.seats p) (c.seats p).task _ refl refl refl))
   store_state_left value (Leaving stamp) y at e =
       when_then (Left c p) _ _ y e (λ _. over_left _ (c.seats p).current.decision refl refl (rest_free (c.seats p).task (at_rest (Leaving stamp) at)))

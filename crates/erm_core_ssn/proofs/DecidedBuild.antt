@@ -15,7 +15,7 @@ use Rattle.erm_machine.specs.Core.{Core, Shared, claim_at}
 use Rattle.erm_machine.specs.Decided.{bare, history_of, reads_rated, writes_rated, RunningFits, MarkInHand, Reading, NoneReadsLeft, writes_passed, MayCommit}
 use Rattle.erm_machine.specs.Facts.{IsCurrent}
 use Rattle.erm_machine.specs.Readers.{cleared_of, cleared}
-use Rattle.erm_machine.specs.Seat.{is_active, is_decided, is_safe, may_start}
+use Rattle.erm_machine.specs.Seat.{is_active, is_decided, is_safe, may_seal, may_start, with_mark}
 use Rattle.erm_machine.specs.Sound.{Sound}
 use Rattle.erm_machine.proofs.Guards.{either_way}
 use Rattle.erm_core_ssn.proofs.DecidedFrames.{shape}
@@ -30,6 +30,10 @@ NotEnds _ = Unit {0}
 pub starts_not_ends : (t : Task) → may_start t ≡ true → NotEnds t
 starts_not_ends (task.Ends raised ended step cleared) e = absurd (cc)
 starts_not_ends _ e = tt
+
+pub seals_not_ends : (t : Task) → may_seal t ≡ true → NotEnds t
+seals_not_ends (task.Ends raised ended step cleared) e = absurd (cc)
+seals_not_ends _ e = tt
 
 pub safe_not_ends : (t : Task) → is_safe t ≡ true → NotEnds t
 safe_not_ends (task.Ends raised ended step cleared) e = absurd (cc)
@@ -94,6 +98,18 @@ running_task h now q x u reads writes f = record {
   pred_readers = λ v m low has. f.pred_readers v m low (has.0, (let a = has.1 in omega (arith, a, writes)), has.2, has.3);
   pred_reads = f.pred_reads;
   pred_writes = λ k low within. f.pred_writes k (omega (arith, low, writes)) within;
+  pred_attained = f.pred_attained;
+}
+
+-- that a transaction is marked counts for none of them
+pub running_mark : (h : History) (now q : ℕ) (b : Bool) (x : Part) → RunningFits h now q x → RunningFits h now q (record x { current = with_mark b x.current })
+running_mark h now q b x f = record {
+  succ_least = f.succ_least;
+  succ_own = f.succ_own;
+  succ_attained = f.succ_attained;
+  pred_readers = f.pred_readers;
+  pred_reads = f.pred_reads;
+  pred_writes = f.pred_writes;
   pred_attained = f.pred_attained;
 }
 

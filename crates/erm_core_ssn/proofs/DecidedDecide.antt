@@ -1,5 +1,5 @@
 -- The step that decides: its transaction joins the history where it commits.
-use Rattle.std.proofs.Common.{◌≡◌, ℕ, ◌<◌, ◌⊎◌, ◌↔◌, ⊎_elim, Bool, true, false, cond, not, is_none, ltb, filter, refl, ap, subst, inl, inr, arith}
+use Rattle.std.proofs.Common.{◌≡◌, ◌≢◌, ℕ, ◌<◌, ◌⊎◌, ◌↔◌, ⊎_elim, Bool, true, false, cond, not, is_none, ltb, filter, refl, ap, subst, inl, inr, arith}
 use Rattle.std.proofs.lemmas.Bool.{lt-ltb, ltb-true}
 use Rattle.erm_model.specs.declared.history.TransactionRecord.{TransactionRecord}
 use Rattle.erm_model.specs.History.{History, OverwritesReadOf, ReadsFrom, OverwritesFrom}
@@ -7,7 +7,7 @@ use Rattle.erm_model.specs.Member.{◌∈◌}
 use Rattle.erm_machine.specs.declared.limits.TheConstants.{ANNOUNCERS}
 use Rattle.erm_machine.specs.declared.attempt.Attempt.{Attempt}
 use Rattle.erm_machine.specs.declared.attempt.Claim.{Claim}
-use Rattle.erm_machine.specs.declared.attempt.Decision.TheVariants.{Undecided, Commit, Skip}
+use Rattle.erm_machine.specs.declared.attempt.Decision.TheVariants.{Undecided, Commit, Skip, Mark}
 use Rattle.erm_machine.specs.declared.place.Place.TheVariants.{Vacant}
 use Rattle.erm_machine.specs.declared.task.Task.{Task}
 use Rattle.erm_machine.specs.declared.task.Task.TheVariants as task
@@ -75,20 +75,26 @@ all_counted t positive = ap (λ b. record t { writes = cond b t.writes (filter (
 pub bound_own : (now : ℕ) (t : Attempt) → 0 < t.stamp → bound_of now t ≡ t.stamp
 bound_own now t positive = ap (λ b. cond b t.stamp now) (lt-ltb 0 t.stamp positive)
 
--- the decision is a commit just where the window is open
-pub decides : (t : Attempt) → (decision_of t ≡ Commit) ↔ (t.pred < t.succ)
-decides t = (λ e. ltb-true t.pred t.succ (from (ltb t.pred t.succ) e), λ low. ap (λ b. cond b Commit Skip) (lt-ltb t.pred t.succ low))
+-- the decision is a commit just where the window is open, but for a mark
+pub decides : (t : Attempt) → decision_of t ≢ Mark → (decision_of t ≡ Commit) ↔ (t.pred < t.succ)
+decides t other = by_mark t.is_mark other
   where
     from : (b : Bool) → cond b Commit Skip ≡ Commit → b ≡ true
     from true e = refl
     from false e = absurd (cc)
 
+    by_mark : (b : Bool) → cond b Mark (cond (ltb t.pred t.succ) Commit Skip) ≢ Mark
+        → (cond b Mark (cond (ltb t.pred t.succ) Commit Skip) ≡ Commit) ↔ (t.pred < t.succ)
+    by_mark true other = absurd (other refl)
+    by_mark false other = (λ e. ltb-true t.pred t.succ (from (ltb t.pred t.succ) e), λ low. ap (λ b. cond b Commit Skip) (lt-ltb t.pred t.succ low))
+
 pub decides_not : (t : Attempt) → decision_of t ≡ Undecided → ⊥
-decides_not t e = by_test (ltb t.pred t.succ) e
+decides_not t e = by_tests t.is_mark (ltb t.pred t.succ) e
   where
-    by_test : (b : Bool) → cond b Commit Skip ≡ Undecided → ⊥
-    by_test true e = cc
-    by_test false e = cc
+    by_tests : (mark opened : Bool) → cond mark Mark (cond opened Commit Skip) ≡ Undecided → ⊥
+    by_tests true opened e = cc
+    by_tests false true e = cc
+    by_tests false false e = cc
 
 -- a seat with words lies below their number
 pub seat_low : (p : ℕ) → is_seat p ≡ true → p < ANNOUNCERS

@@ -1,11 +1,11 @@
 -- What a step that decides nothing leaves of the history, of what is decided and of what runs.
-use Rattle.std.proofs.Common.{◌≡◌, ◌≢◌, ℕ, ◌<◌, ◌≤◌, ◌⊎◌, ◌↔◌, ⊎_elim, Bool, true, false, cond, ltb, [], subst, inl, inr, arith}
+use Rattle.std.proofs.Common.{◌≡◌, ◌≢◌, ℕ, ◌<◌, ◌≤◌, ◌⊎◌, ◌↔◌, ⊎_elim, Bool, true, false, cond, ltb, [], sym, ◌∙◌, subst, inl, inr, arith}
 use Rattle.erm_model.specs.declared.history.TransactionRecord.{TransactionRecord}
 use Rattle.erm_model.specs.History.{History, IsSuccessorStamp, IsPredecessorStamp}
 use Rattle.erm_model.specs.Member.{◌∈◌}
 use Rattle.erm_machine.specs.declared.attempt.Attempt.{Attempt}
 use Rattle.erm_machine.specs.declared.attempt.Decision.{Decision}
-use Rattle.erm_machine.specs.declared.attempt.Decision.TheVariants.{Undecided, Commit}
+use Rattle.erm_machine.specs.declared.attempt.Decision.TheVariants.{Undecided, Commit, Mark}
 use Rattle.erm_machine.specs.declared.part.Part.{Part}
 use Rattle.erm_machine.specs.Core.{Core}
 use Rattle.erm_machine.specs.Decided.{bare, bound_of, DecisionFits, RunningFits, Decided, OwnDecided, DecidedApart}
@@ -58,9 +58,13 @@ pub fits_moves : (h : History) (q : ℕ) (v u : Attempt) → v.decision ≡ u.de
 fits_moves h q v u decision whole f = record {
   succ = subst (λ (r : TransactionRecord). IsSuccessorStamp h (λ w. w.succ) (record r { seat = q })) whole f.succ;
   pred = subst (λ (r : TransactionRecord). IsPredecessorStamp h r.pred (record r { seat = q })) whole f.pred;
-  window = subst (λ (r : TransactionRecord). (u.decision ≡ Commit) ↔ (r.pred < r.succ)) whole
-      (subst (λ (d : Decision). (d ≡ Commit) ↔ (v.pred < v.succ)) decision f.window);
+  window = λ other. subst (λ (r : TransactionRecord). (u.decision ≡ Commit) ↔ (r.pred < r.succ)) whole
+      (subst (λ (d : Decision). (d ≡ Commit) ↔ (v.pred < v.succ)) decision (f.window (λ mark. other (sym decision ∙ mark))));
 }
+
+-- a commit is no mark
+pub commit_unmarked : (t : Attempt) → t.decision ≡ Commit → t.decision ≢ Mark
+commit_unmarked t commit mark = cc
 
 -- a bound is no smaller later
 pub bound_later : (now then : ℕ) (t : Attempt) (stamp : ℕ) → now ≤ then → stamp < bound_of now t → stamp < bound_of then t

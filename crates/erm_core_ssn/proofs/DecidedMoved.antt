@@ -19,7 +19,7 @@ use Rattle.erm_machine.specs.Decided.{bare, history_of, writes_rated, IsOpen, Ru
 use Rattle.erm_machine.specs.Facts.{all_of, IsCurrent}
 use Rattle.erm_machine.specs.Life.{load_tail, load_tail_to_begin, store_begin, store_state, has_ended, split, join}
 use Rattle.erm_machine.specs.Readers.{cleared_of, cleared}
-use Rattle.erm_machine.specs.Seat.{end_of, is_vacant}
+use Rattle.erm_machine.specs.Seat.{end_of, is_vacant, is_safe, with_mark}
 use Rattle.erm_machine.specs.Sound.{Sound}
 use Rattle.erm_machine.specs.Tasks.{TaskFits}
 use Rattle.erm_machine.specs.Words.{is_flusher}
@@ -31,7 +31,7 @@ use Rattle.erm_core_ssn.proofs.DecidedFrames.{Old, Comes, shape}
 use Rattle.erm_core_ssn.proofs.DecidedOpen.{none_over}
 use Rattle.erm_core_ssn.proofs.DecidedSteady.{Leaves, steady_leaves}
 use Rattle.erm_core_ssn.proofs.DecidedActive.{ActiveFits, active_to}
-use Rattle.erm_core_ssn.proofs.DecidedBuild.{NotEnds, starts_not_ends, Passing, none_passing, Plain, running_part, running_task, runs_now, stays}
+use Rattle.erm_core_ssn.proofs.DecidedBuild.{NotEnds, Passing, none_passing, Plain, running_part, running_task, runs_now, stays, seals_not_ends, running_mark}
 use Rattle.erm_core_ssn.proofs.DecidedCalm.{horizon_leaves, gather_leaves, plain_of}
 
 rest_on : (u : Task) → u ≡ task.Rest → NotEnds u
@@ -66,10 +66,10 @@ module _ (c : Core) (p : ℕ) (sound : Sound c) where
   at_current : (pl : Place) → (c.seats p).place ≡ pl → IsCurrent pl (c.seats p).current
   at_current pl at = subst (λ l. IsCurrent l (c.seats p).current) at (sound.own p).ranges.current
 
-  -- the place changes, and the task is one with nothing in hand
-  moves_to : (y : Part) (u : Task) → y.over ≡ (c.seats p).over → y.current ≡ (c.seats p).current → y.task ≡ u → Plain u → (0 < (c.seats p).current.stamp → cleared (c.seats p) ≤ cleared y) →
+  -- the place changes, and the task is one with nothing in hand; the transaction may be marked
+  moves_marked : (b : Bool) (y : Part) (u : Task) → y.over ≡ (c.seats p).over → y.current ≡ with_mark b (c.seats p).current → y.task ≡ u → Plain u → (0 < (c.seats p).current.stamp → cleared (c.seats p) ≤ cleared y) →
       ((c.seats p).current.decision ≡ Undecided → NotEnds (c.seats p).task) → Leaves c p y
-  moves_to y u over current now plain more on =
+  moves_marked b y u over current now plain more on =
       steady_leaves c p y sound (record {
         over = over;
         decision = ap (λ (t : Attempt). t.decision) current;
@@ -88,7 +88,13 @@ module _ (c : Core) (p : ℕ) (sound : Sound c) where
       (let before = sym (ap (λ (t : Attempt). t.decision) current) ∙ un in
       let reads = plain.reads (length (c.seats p).current.reads) in
       let writes = plain.writes (length (c.seats p).current.writes) in
-      running_task (history_of c.seats) c.shared.tail p (c.seats p) u (omega (arith, reads)) (omega (arith, writes)) (runs_now c p sound before (on before))))))
+      running_mark (history_of c.seats) c.shared.tail p b (record (c.seats p) { task = u })
+      (running_task (history_of c.seats) c.shared.tail p (c.seats p) u (omega (arith, reads)) (omega (arith, writes)) (runs_now c p sound before (on before)))))))
+
+  -- the same, and the transaction stays
+  moves_to : (y : Part) (u : Task) → y.over ≡ (c.seats p).over → y.current ≡ (c.seats p).current → y.task ≡ u → Plain u → (0 < (c.seats p).current.stamp → cleared (c.seats p) ≤ cleared y) →
+      ((c.seats p).current.decision ≡ Undecided → NotEnds (c.seats p).task) → Leaves c p y
+  moves_to y u over current now plain more on = moves_marked false y u over current now plain more on
 
   moves_on : (y : Part) → y.over ≡ (c.seats p).over → y.current ≡ (c.seats p).current → y.task ≡ task.Rest → (0 < (c.seats p).current.stamp → cleared (c.seats p) ≤ cleared y) →
       ((c.seats p).current.decision ≡ Undecided → NotEnds (c.seats p).task) → Leaves c p y
@@ -251,7 +257,9 @@ module _ (c : Core) (p : ℕ) (sound : Sound c) where
 
   pub store_state_leaves : (value : ℕ) (pl : Place) (y : Part) → (c.seats p).place ≡ pl → store_state p value (c.seats p) pl ≡ Some y → Leaves c p y
   store_state_leaves value (Active tail) y at e =
-      when_then (Leaves c p) _ _ y e (λ g. moves_on _ refl refl refl (λ positive. absurd (none_yet (at_current (Active tail) at).stamp positive)) (λ _. starts_not_ends (c.seats p).task (and_parts _ _ g).1))
+      when_then (Leaves c p) _ _ y e (λ g.
+      moves_marked (is_safe (c.seats p).task) _ task.Rest refl refl refl (plain_of task.Rest tt) (λ positive. absurd (none_yet (at_current (Active tail) at).stamp positive))
+      (λ _. seals_not_ends (c.seats p).task (and_parts _ _ g).1))
   store_state_leaves value (Drawn tail stamp) y at e =
       when_then (Leaves c p) _ _ y e (λ _.
       let cur = at_current (Drawn tail stamp) at in

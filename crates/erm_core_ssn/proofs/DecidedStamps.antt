@@ -33,6 +33,7 @@ use Rattle.erm_core_ssn.proofs.DecidedReads.{overtaker}
 use Rattle.erm_core_ssn.proofs.DecidedSettled.{marks_of, read_raised, from_below}
 use Rattle.erm_core_ssn.proofs.DecidedSettles.{sealed_open, rated_at, passing_at, on_at, settles}
 use Rattle.erm_core_ssn.proofs.DecidedWitness.{same_is, picks, greater, From, IsFrom, claim_is, stamp_from, reader_from, reader_least}
+use Rattle.erm_core_ssn.proofs.DecidedFrames.{commit_unmarked}
 
 -- whose stamp a predecessor stamp is
 abbrev pub Attained : Core → ℕ → Attempt → ℕ → Type 0
@@ -51,7 +52,7 @@ module _ (c : Core) (p : ℕ) (sound : Sound c) where
       let r = history_has c.seats u m in
       let positive = (sound.own r.seat).decided.positive r.attempt r.stands r.commit in
       let fits = sound.common.decided.decided r.seat r.attempt r.stands positive (decided_by r.attempt r.commit) in
-      let open_window = fits.window.0 r.commit in
+      let open_window = (fits.window (commit_unmarked r.attempt r.commit)).0 r.commit in
       let e = ap (λ (w : TransactionRecord). w.succ) r.is in
       omega (arith, open_window, e)
     where

@@ -18,6 +18,7 @@ use Rattle.erm_machine.proofs.Listed.{∈-either, ∈-filter, ∈-head, ∈-map}
 use Rattle.erm_core_ssn.proofs.MarksAscend.{ascending}
 use Rattle.erm_core_ssn.proofs.MarksSame.{commit_is}
 use Rattle.erm_core_ssn.proofs.Members.{TellsApart, TellsApart-cons, TellsApart-head, TellsApart-tail}
+use Rattle.erm_core_ssn.proofs.DecidedFrames.{commit_unmarked}
 
 -- two lists, one behind the other, whose keys are apart
 apart_append : {X : Type 0} (key : X → ℕ) (xs ys : List X) → TellsApart key xs → TellsApart key ys → ((x y : X) → x ∈ xs → y ∈ ys → key x ≡ key y → ⊥) → TellsApart key (xs ++ ys)
@@ -89,5 +90,5 @@ module _ (c : Core) (sound : Sound c) where
     differ = history_apart ANNOUNCERS;
     succ = λ u m. let r = history_has c.seats u m in subst (λ v. IsSuccessorStamp (history_of c.seats) (λ w. w.succ) v) r.is (fits ANNOUNCERS u r).succ;
     pred = λ u m. let r = history_has c.seats u m in subst (λ (v : TransactionRecord). IsPredecessorStamp (history_of c.seats) v.pred v) r.is (fits ANNOUNCERS u r).pred;
-    window = λ u m. let r = history_has c.seats u m in subst (λ (v : TransactionRecord). v.pred < v.succ) r.is ((fits ANNOUNCERS u r).window.0 r.commit);
+    window = λ u m. let r = history_has c.seats u m in subst (λ (v : TransactionRecord). v.pred < v.succ) r.is (((fits ANNOUNCERS u r).window (commit_unmarked r.attempt r.commit)).0 r.commit);
   }

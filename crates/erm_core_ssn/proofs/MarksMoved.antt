@@ -32,7 +32,7 @@ use Rattle.erm_machine.proofs.Holders.{stands_at}
 use Rattle.erm_core_ssn.proofs.MarksLists.{∈-last, ∈-take}
 use Rattle.erm_core_ssn.proofs.MarksSteps.{ahead_current, written_stays, ok_of, own_current}
 use Rattle.erm_core_ssn.proofs.MarksSame.{Left, left_same, left_over, Same, same_open, before_set, active_open}
-use Rattle.erm_core_ssn.proofs.MarksCalm.{still, loaded, s_horizon, s_gather}
+use Rattle.erm_core_ssn.proofs.MarksCalm.{still, loaded, s_horizon, s_gather, same_work}
 
 -- a transaction that hasn't committed may gain claims and lose them
 open_left : (s : Shared) (x y : Part) → OwnMarks s x → y.over ≡ x.over → (x.current.decision ≡ Commit → ⊥) → (y.current.decision ≡ Commit → ⊥)
@@ -111,7 +111,8 @@ module _ (c : Core) (p : ℕ) (sound : Sound c) where
   store_begin_left value _ y at e = absurd (cc)
 
   pub store_state_left : (value : ℕ) (pl : Place) (y : Part) → (c.seats p).place ≡ pl → store_state p value (c.seats p) pl ≡ Some y → Left c.shared (c.seats p) y
-  store_state_left value (Active tail) y at e = when_then (Left c.shared (c.seats p)) _ _ y e (λ _. left_calm _ (still (c.seats p) _ refl refl))
+  store_state_left value (Active tail) y at e =
+      when_then (Left c.shared (c.seats p)) _ _ y e (λ _. left_calm _ (same_work (c.seats p) _ refl refl refl refl refl))
   store_state_left value (Drawn tail stamp) y at e = when_then (Left c.shared (c.seats p)) _ _ y e (λ _. left_calm _ (still (c.seats p) _ refl refl))
   store_state_left value (Leaving stamp) y at e =
       when_then (Left c.shared (c.seats p)) _ _ y e (λ _.

@@ -18,7 +18,7 @@ use Rattle.erm_machine.specs.declared.version.CellWord.{CellWord}
 use Rattle.erm_machine.specs.declared.version.CellWord.TheVariants as word
 use Rattle.erm_machine.specs.declared.version.VersionAt.{VersionAt}
 use Rattle.erm_machine.specs.Core.{Object, Shared}
-use Rattle.erm_machine.specs.Seat.{is_active, is_safe, is_sealed, is_snapshot, end_of, may_start}
+use Rattle.erm_machine.specs.Seat.{is_active, is_safe, is_sealed, is_snapshot, end_of, may_start, may_seal}
 use Rattle.erm_machine.specs.Life.{after_clear, after_passed, load_back, store_back}
 use Rattle.erm_machine.specs.Reading.{entered, after_cut, detached, load_entry, claim, load_walked_stamp, load_walked_link, load_cell, swap_link, load_detached, load_counter, add_counter, load_active_stamp, start_row, store_row_word, unset}
 use Rattle.erm_machine.specs.Settling.{has_room, may_settle, load_flushed_to_settle, load_read_entry, load_readers, load_settled_stamp, load_stamp, filled, store_ring, store_head_word, store_active_word, store_cell, mark_overwritten, install_claim, adds_version, install_new, release_old, install}
@@ -65,6 +65,11 @@ even_if t b u v f g = either_way (Even t) b u v (λ _. f) (λ _. g)
 pub start_still : (t : Task) → may_start t ≡ true → Still t
 start_still (task.Ends raised ended step cleared) e = absurd (cc)
 start_still _ e = record { cleared = refl; raised = refl }
+
+-- a call that may be followed by a seal
+pub seal_still : (t : Task) → may_seal t ≡ true → Still t
+seal_still (task.Ends raised ended step cleared) e = absurd (cc)
+seal_still _ e = record { cleared = refl; raised = refl }
 
 -- a safe snapshot
 safe_still : (t : Task) → is_safe t ≡ true → Still t

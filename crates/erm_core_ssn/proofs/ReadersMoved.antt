@@ -22,7 +22,7 @@ use Rattle.erm_machine.proofs.Backs.{active_begin_then, decided_begin_then}
 use Rattle.erm_machine.proofs.Guards.{when_then, either_way}
 use Rattle.erm_machine.proofs.Quiet.{steady_same}
 use Rattle.erm_core_ssn.proofs.ReadersSteps.{Left}
-use Rattle.erm_core_ssn.proofs.ReadersCalm.{bits_cleared, Still, still_from, still_if, even_if, even_clear, start_still, after_passed_still, ends_at, calm_to, calm_even, calm_same}
+use Rattle.erm_core_ssn.proofs.ReadersCalm.{bits_cleared, Still, still_from, still_if, even_if, even_clear, after_passed_still, ends_at, calm_to, calm_even, calm_same, seal_still}
 use Rattle.erm_core_ssn.proofs.ReadersOwn.{Raises, raises_undecided, raises_none, Holds, own_holds, own_empty, Over, Raising, over_push, recalls_from, recalls_over, not_commit, Stays, cleared_in, left_calm}
 
 -- a place before the decision
@@ -162,7 +162,7 @@ module _ (c : Core) (p : ℕ) (sound : Sound c) (t : Shared) (o : OwnReaders t p
   pub store_state_left : (value : ℕ) (pl : Place) (y : Part) → (c.seats p).place ≡ pl → store_state p value (c.seats p) pl ≡ Some y → Left c t p y
   store_state_left value (Active tail) y at e =
       when_then (Left c t p) _ _ y e (λ g.
-      moves_on _ (Active tail) at tt tt tt refl refl (sym (start_still (c.seats p).task (and_parts _ _ g).1).cleared) (same_raises _ (Active tail) at tt refl))
+      moves_on _ (Active tail) at tt tt tt refl refl (sym (seal_still (c.seats p).task (and_parts _ _ g).1).cleared) (same_raises _ (Active tail) at tt refl))
   store_state_left value (Drawn tail stamp) y at e =
       when_then (Left c t p) _ _ y e (λ _. moves_on _ (Drawn tail stamp) at tt tt tt refl refl refl (same_raises _ (Drawn tail stamp) at tt refl))
   store_state_left value (Leaving stamp) y at e =

@@ -21,7 +21,7 @@ use Rattle.erm_machine.specs.Core.{Object}
 use Rattle.erm_machine.specs.Flushing.{load_flushed, gathered_word, load_ring, clear_ring, store_flushed}
 use Rattle.erm_machine.specs.Life.{load_tail_to_gather, load_tail_for_horizon, load_begin, load_back, store_back, after_passed, after_clear, load_state, join}
 use Rattle.erm_machine.specs.Reading.{entered, lost, load_entry, set_reader, after_cut, load_walked_stamp, load_walked_link, load_cell, detached, load_detached, load_counter}
-use Rattle.erm_machine.specs.Seat.{is_active, is_decided, is_safe, may_start}
+use Rattle.erm_machine.specs.Seat.{is_active, is_decided, is_safe, may_start, may_seal}
 use Rattle.erm_machine.specs.Settling.{may_settle, load_flushed_to_settle, load_read_entry, load_readers, load_settled_stamp, filled, store_ring, raise_reader, mark_overwritten, store_succ, store_overwriter, clear_reader}
 use Rattle.erm_machine.specs.Tasks.{TaskFits}
 use Rattle.erm_machine.specs.Written.{copied, Copying}
@@ -90,6 +90,12 @@ start_full (task.Ends raised ended step cleared) e = absurd (cc)
 start_full task.Fetched e = absurd (cc)
 start_full (task.Copies w) e = absurd (cc)
 start_full t e = record { full = tt }
+
+pub seal_full : (t : Task) → may_seal t ≡ true → IsFull t
+seal_full (task.Ends raised ended step cleared) e = absurd (cc)
+seal_full task.Fetched e = absurd (cc)
+seal_full (task.Copies w) e = absurd (cc)
+seal_full t e = record { full = tt }
 
 safe_full : (t : Task) → is_safe t ≡ true → IsFull t
 safe_full (task.Ends raised ended step cleared) e = absurd (cc)

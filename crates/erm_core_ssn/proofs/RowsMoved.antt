@@ -29,7 +29,7 @@ use Rattle.erm_machine.proofs.Backs.{active_begin_then, decided_begin_then}
 use Rattle.erm_machine.proofs.Guards.{when_then, either_way}
 use Rattle.erm_core_ssn.proofs.MarksLists.{∈-last}
 use Rattle.erm_core_ssn.proofs.RowsSteps.{OverOk, ClaimOk, ok_at, over_at, own_from, Goes, goes_own, none_own}
-use Rattle.erm_core_ssn.proofs.RowsGoes.{copied_full, start_full, goes_moves, goes_horizon, goes_gather}
+use Rattle.erm_core_ssn.proofs.RowsGoes.{copied_full, goes_moves, goes_horizon, goes_gather, seal_full}
 
 -- an end of a decided transaction counts all words as copied
 pub decided_full : (p : Place) (t : Attempt) (u : Task) → is_decided p ≡ true → TaskFits p t u → copied p u ≡ 16
@@ -143,9 +143,15 @@ module _ (c : Core) (p : ℕ) (r : Shared) (sound : Sound c) where
   pub store_state_own : (value : ℕ) (pl : Place) (y : Part) → (c.seats p).place ≡ pl → store_state p value (c.seats p) pl ≡ Some y → OwnWritten r (c.seats p) → OwnWritten r y
   store_state_own value (Active tail) y at e own =
       when_then (OwnWritten r) _ _ y e (λ g.
-      goes_own r (c.seats p) _ (goes_moves (c.seats p) (c.seats p).task _ refl refl refl
-      (rest_full (c.seats p).place (Sealing tail) (c.seats p).task (copied_full (c.seats p).place (c.seats p).task (start_full (c.seats p).task (and_parts _ _ g).1).full))
-      (λ h. absurd h)) own)
+      goes_own r (c.seats p) _ (record {
+        over = refl;
+        spare = λ o m. inl m;
+        writes = refl;
+        begin = refl;
+        commits = λ commit. (commit, refl);
+        copied = rest_full (c.seats p).place (Sealing tail) (c.seats p).task (copied_full (c.seats p).place (c.seats p).task (seal_full (c.seats p).task (and_parts _ _ g).1).full);
+        copying = λ h. absurd h;
+      }) own)
   store_state_own value (Drawn tail stamp) y at e own = when_then (OwnWritten r) _ _ y e (λ _. moves_own _ refl refl refl refl (at_rest (Drawn tail stamp) at) own)
   store_state_own value (Leaving stamp) y at e own =
       when_then (OwnWritten r) _ _ y e (λ _.

@@ -32,6 +32,7 @@ pub record Steady (x y : Part) : Type 0 where
   pub stamp : y.current.stamp ≡ x.current.stamp
   pub size : y.current.size ≡ x.current.size
   pub decision : y.current.decision ≡ x.current.decision
+  pub is_mark : y.current.is_mark ≡ x.current.is_mark
   pub same : (y.current ≡ x.current) ⊎ HasBegun x.place
   pub few : length x.current.writes ≤ WRITE_LIMIT → length y.current.writes ≤ WRITE_LIMIT
   pub few_reads : length x.current.reads ≤ READ_LIMIT → length y.current.reads ≤ READ_LIMIT
@@ -53,6 +54,7 @@ steady_same x y place over current = record {
   stamp = ap (λ t. t.stamp) current;
   size = ap (λ t. t.size) current;
   decision = ap (λ t. t.decision) current;
+  is_mark = ap (λ t. t.is_mark) current;
   same = inl current;
   few = λ f. subst (λ (t : Attempt). length t.writes ≤ WRITE_LIMIT) (sym current) f;
   few_reads = λ f. subst (λ (t : Attempt). length t.reads ≤ READ_LIMIT) (sym current) f;
@@ -77,6 +79,7 @@ pub record Working (t u : Attempt) : Type 0 where
   pub stamp : u.stamp ≡ t.stamp
   pub size : u.size ≡ t.size
   pub decision : u.decision ≡ t.decision
+  pub is_mark : u.is_mark ≡ t.is_mark
   pub few : length t.writes ≤ WRITE_LIMIT → length u.writes ≤ WRITE_LIMIT
   pub few_reads : length t.reads ≤ READ_LIMIT → length u.reads ≤ READ_LIMIT
 
@@ -91,6 +94,7 @@ quiet_current x t u c spare begun h w = record {
     stamp = w.stamp;
     size = w.size;
     decision = w.decision;
+    is_mark = w.is_mark;
     same = inr begun;
     few = w.few;
     few_reads = w.few_reads;

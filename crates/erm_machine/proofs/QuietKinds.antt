@@ -104,6 +104,7 @@ working_claim b t pred w room = record {
   stamp = refl;
   size = refl;
   decision = refl;
+  is_mark = refl;
   few = λ f. either_way (λ ws. length ws ≤ WRITE_LIMIT) b (t.writes ++ w ∷ []) t.writes (λ _. omega (arith, length-append t.writes (w ∷ []))) (λ _. f);
   few_reads = λ f. f;
 }
@@ -115,6 +116,7 @@ working_read t pred r room = record {
   stamp = refl;
   size = refl;
   decision = refl;
+  is_mark = refl;
   few = λ f. f;
   few_reads = λ _. omega (arith, length-append t.reads (r ∷ []));
 }
@@ -127,6 +129,7 @@ working_set t place w = record {
   stamp = refl;
   size = refl;
   decision = refl;
+  is_mark = refl;
   few = λ f. omega (arith, length-set t.writes place w);
   few_reads = λ f. f;
 }
@@ -173,7 +176,7 @@ pub q_swap_link : (found : ℕ) (v : VersionAt) (o : Object) (x : Part) (t : Tas
 q_swap_link found v o x (task.CutFound version horizon) y e =
     when_then (Quiet x _) _ _ y e (λ g.
     quiet_current x _ _ x.current _ (begun_active x.place (first _ _ g)) (no_horizon _ _ (detached_plain found version x))
-    (record { number = refl; begin = refl; stamp = refl; size = refl; decision = refl; few = λ f. f; few_reads = λ f. f }))
+    (record { number = refl; begin = refl; stamp = refl; size = refl; decision = refl; is_mark = refl; few = λ f. f; few_reads = λ f. f }))
 q_swap_link found v o x _ y e = absurd (cc)
 
 pub q_load_detached : (found : ℕ) (v : VersionAt) (x : Part) (t : Task) (y : Part) → load_detached found v x t ≡ Some y → Quiet x t y
@@ -193,6 +196,7 @@ working_writes b t place w = record {
   stamp = refl;
   size = refl;
   decision = refl;
+  is_mark = refl;
   few = λ f. either_way (λ ws. length ws ≤ WRITE_LIMIT) b (set t.writes place w) t.writes (λ _. omega (arith, length-set t.writes place w)) (λ _. f);
   few_reads = λ f. f;
 }
@@ -200,7 +204,7 @@ working_writes b t place w = record {
 pub q_add_counter : (cells : ℕ) (seat : ℕ) (c : Counter) (found : ℕ) (x : Part) (t : Task) (y : Part) → add_counter cells seat c found x t ≡ Some y → Quiet x t y
 q_add_counter cells seat Objects found x task.Numbers y e =
     when_then (Quiet x _) _ _ y e (λ g. working x _ _ _ (begun_active x.place (first _ _ g)) (record { plain = refl })
-    (record { number = refl; begin = refl; stamp = refl; size = refl; decision = refl; few = λ f. f; few_reads = λ f. f }))
+    (record { number = refl; begin = refl; stamp = refl; size = refl; decision = refl; is_mark = refl; few = λ f. f; few_reads = λ f. f }))
 q_add_counter cells seat Cells found x task.Pool y e =
     when_then (Quiet x _) _ _ y e (λ g. working x _ _ _ (begun_active x.place g) (search (plain_if, plain_from))
     (working_writes _ x.current _ _))
@@ -212,13 +216,13 @@ q_active_stamp found v word.Overwriter x (task.Registered version) y b e =
     when_then (Quiet x _) _ _ y e (λ _. to_plain x _ _ (search (plain_if, plain_from)))
 q_active_stamp found v word.OverwriterSucc x (task.Overtaken version overwriter) y b e =
     when_then (Quiet x _) _ _ y e (λ _. working x _ _ _ b (record { plain = refl })
-    (record { number = refl; begin = refl; stamp = refl; size = refl; decision = refl; few = λ f. f; few_reads = λ f. f }))
+    (record { number = refl; begin = refl; stamp = refl; size = refl; decision = refl; is_mark = refl; few = λ f. f; few_reads = λ f. f }))
 q_active_stamp found v word.ReaderStamp x task.Draws y b e =
     when_then (Quiet x _) _ _ y e (λ _. quiet_current x _ _ _ _ b (no_horizon _ _ (record { plain = refl }))
-    (record { number = refl; begin = refl; stamp = refl; size = refl; decision = refl; few = (working_set x.current _ _).few; few_reads = λ f. f }))
+    (record { number = refl; begin = refl; stamp = refl; size = refl; decision = refl; is_mark = refl; few = (working_set x.current _ _).few; few_reads = λ f. f }))
 q_active_stamp found v word.ReaderStamp x task.Fetched y b e =
     when_then (Quiet x _) _ _ y e (λ _. working x _ _ _ b (record { plain = refl })
-    (record { number = refl; begin = refl; stamp = refl; size = refl; decision = refl; few = λ f. f; few_reads = λ f. f }))
+    (record { number = refl; begin = refl; stamp = refl; size = refl; decision = refl; is_mark = refl; few = λ f. f; few_reads = λ f. f }))
 q_active_stamp found v _ x _ y b e = absurd (cc)
 
 q_settled_stamp : (found : ℕ) (v : VersionAt) (w : CellWord) (x : Part) (t : Task) (y : Part) → HasBegun x.place → load_settled_stamp found v w x t ≡ Some y → Quiet x t y
@@ -226,13 +230,13 @@ q_settled_stamp found v word.Overwriter x (task.ReadClear read) y b e =
     when_then (Quiet x _) _ _ y e (λ _. to_plain x _ _ (search (plain_if, plain_from)))
 q_settled_stamp found v word.OverwriterSucc x (task.ReadOvertaken read overwriter) y b e =
     when_then (Quiet x _) _ _ y e (λ _. working x _ _ _ b (record { plain = refl })
-    (record { number = refl; begin = refl; stamp = refl; size = refl; decision = refl; few = λ f. f; few_reads = λ f. f }))
+    (record { number = refl; begin = refl; stamp = refl; size = refl; decision = refl; is_mark = refl; few = λ f. f; few_reads = λ f. f }))
 q_settled_stamp found v word.Stamp x (task.WriteClear write) y b e =
     when_then (Quiet x _) _ _ y e (λ _. working x _ _ _ b (record { plain = refl })
-    (record { number = refl; begin = refl; stamp = refl; size = refl; decision = refl; few = λ f. f; few_reads = λ f. f }))
+    (record { number = refl; begin = refl; stamp = refl; size = refl; decision = refl; is_mark = refl; few = λ f. f; few_reads = λ f. f }))
 q_settled_stamp found v word.ReaderStamp x (task.WriteMade write) y b e =
     when_then (Quiet x _) _ _ y e (λ _. working x _ _ _ b (record { plain = refl })
-    (record { number = refl; begin = refl; stamp = refl; size = refl; decision = refl; few = λ f. f; few_reads = λ f. f }))
+    (record { number = refl; begin = refl; stamp = refl; size = refl; decision = refl; is_mark = refl; few = λ f. f; few_reads = λ f. f }))
 q_settled_stamp found v _ x _ y b e = absurd (cc)
 
 pub q_load_stamp : (found : ℕ) (v : VersionAt) (w : CellWord) (x : Part) (y : Part) → load_stamp found v w x ≡ Some y → Quiet x x.task y
@@ -254,7 +258,7 @@ pub q_store_ring : (at value : ℕ) (x : Part) (t : Task) (o : Option ℕ) (y : 
 q_store_ring at value x t None y e = absurd (cc)
 q_store_ring at value x t (Some words) y e =
     when_then (Quiet x _) _ _ y e (λ g. working x _ _ _ (begun_sealed x.place (first _ _ (first _ _ (first _ _ (first _ _ g))))) (record { plain = refl })
-    (record { number = refl; begin = refl; stamp = refl; size = refl; decision = refl; few = λ f. f; few_reads = λ f. f }))
+    (record { number = refl; begin = refl; stamp = refl; size = refl; decision = refl; is_mark = refl; few = λ f. f; few_reads = λ f. f }))
 
 pub q_raise_reader : (v : VersionAt) (value : ℕ) (x : Part) (t : Task) (y : Part) → raise_reader v value x t ≡ Some y → Quiet x t y
 q_raise_reader v value x (task.Ends raised ended step cleared) y e = when_then (Quiet x _) _ _ y e (λ _. plain_task x _ _ refl)
@@ -298,7 +302,7 @@ q_store_cell place cell w value x y e =
 q_unclaim : (oid head : ℕ) (x : Part) (t : Task) (y : Part) → unclaim oid head x ≡ Some y → Quiet x t y
 q_unclaim oid head x t y e =
     when_then (Quiet x _) _ _ y e (λ g. working x _ _ _ (begun_active x.place (first _ _ (first _ _ (first _ _ g)))) (record { plain = refl })
-    (record { number = refl; begin = refl; stamp = refl; size = refl; decision = refl; few = λ f. omega (arith, length-take (last_claim x.current) x.current.writes); few_reads = λ f. f }))
+    (record { number = refl; begin = refl; stamp = refl; size = refl; decision = refl; is_mark = refl; few = λ f. omega (arith, length-take (last_claim x.current) x.current.writes); few_reads = λ f. f }))
 
 q_install_claim : (oid head : ℕ) (x : Part) (t : Task) (e : Option (ℕ × ℕ × ℕ × ℕ)) (y : Part) → install_claim oid head x e ≡ Some y → Quiet x t y
 q_install_claim oid head x t None y e = absurd (cc)

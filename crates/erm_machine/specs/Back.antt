@@ -45,17 +45,21 @@ abbrev pub IsBehind : Task → ℕ → Type 0
 IsBehind (task.Behind next) q = q ≡ next
 IsBehind _ q = ⊥
 
+-- A mark has read, claimed and made nothing, and just a mark is decided as one.
+pub record MarkFits (t : Attempt) : Type 0 where
+  pub new : t.is_mark ≡ true → is_new t ≡ true
+  pub marked : t.decision ≡ Mark → t.is_mark ≡ true
+
 -- From the clearing of the begin word of a commit that goes back on, its seat's back word is at least its stamp; and a back word is 0, or
--- the stamp of such a commit of its seat. A snapshot has read, claimed and made nothing, and neither has a mark, which no active transaction is:
--- just marks are decided as such. Only sessions have committed.
+-- the stamp of such a commit of its seat. A snapshot has read, claimed and made nothing. An active transaction is no mark. Only sessions have
+-- committed.
 pub record OwnBack (seat : ℕ) (x : Part) : Type 0 where
   pub over : (t : Attempt) → t ∈ x.over → GoesBack t → t.stamp ≤ x.back
   pub leaving : IsLeaving x.place → GoesBack x.current → x.current.stamp ≤ x.back
   pub of : (x.back ≡ 0) ⊎ ((t : Attempt) × (t ∈ all_of x) × GoesBack t × (t.stamp ≡ x.back))
   pub snapshot : 0 < passed_to x.task → is_new x.current ≡ true
   pub unmarked : is_active x.place ≡ true → x.current.is_mark ≡ false
-  pub marks : (t : Attempt) → t ∈ all_of x → t.is_mark ≡ true → is_new t ≡ true
-  pub marked : (t : Attempt) → t ∈ all_of x → t.decision ≡ Mark → t.is_mark ≡ true
+  pub marks : (t : Attempt) → t ∈ all_of x → MarkFits t
   pub only : is_session seat ≡ false → (t : Attempt) → t ∈ x.over → t.decision ≢ Commit
 
 -- What a snapshot has passed of another session: what this has in progress, or gets, begins at its begin stamp or later; and once its back
