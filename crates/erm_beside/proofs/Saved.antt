@@ -3,7 +3,7 @@ use Rattle.std.proofs.Common.{◌≡◌, ◌≢◌, ℕ, ◌+◌, ◌≤◌, tru
 use Rattle.erm_model.specs.declared.history.VersionWritten.{VersionWritten}
 use Rattle.erm_model.specs.declared.limits.TheConstants.{SAVES}
 use Rattle.erm_model.specs.declared.outcome.Outcome.{Outcome}
-use Rattle.erm_model.specs.declared.outcome.Outcome.TheVariants.{Committed, Excluded}
+use Rattle.erm_model.specs.declared.outcome.Outcome.TheVariants.{Committed, Excluded, Marked}
 use Rattle.erm_model.specs.declared.outcome.Phase.TheVariants.{Active}
 use Rattle.erm_model.specs.declared.row_stop.RowStop.{RowStop}
 use Rattle.erm_model.specs.declared.row_stop.RowStop.TheVariants as stop
@@ -19,7 +19,7 @@ use Rattle.erm_world.specs.World as world
 use Rattle.erm_world.proofs.WithSaves as whole
 use Rattle.erm_beside.specs.Calls.{After, DidBeginBeside, DidSettleBeside, GivesUp, MayNotBeginBeside, NotClaimedBeside, NotMadeBeside, NotReadBeside, NotSettledBeside, Passes, SettledBeside}
 use Rattle.erm_beside.specs.Laws.{IsSound, IsWithin}
-use Rattle.erm_beside.specs.Safe.{DidBeginSafeBeside, DidSafeBeside, NotSafeBeside}
+use Rattle.erm_beside.specs.Safe.{DidBeginSafeBeside, DidSafeBeside, NotSafeBeside, DidMarkBeside}
 
 -- OTHERS WENT ON
 pub passes_with : (f : ℕ → List (List VersionWritten)) (seat : ℕ) (v u : View) → Passes seat v u → Passes seat (with_saves f v) (with_saves f u)
@@ -86,8 +86,9 @@ module _ (f : ℕ → List (List VersionWritten)) where
 
   -- SETTLE
   settled : (u t : View) (seat : ℕ) (w : world.Work) (stamp : ℕ) (outcome : Outcome) → SettledBeside u seat w stamp outcome t → SettledBeside (saved u) seat w stamp outcome (saved t)
-  settled u t seat w stamp (Committed r) did = (whole.done f u t seat _ _ did.0, did.1, did.2, did.3, did.4)
-  settled u t seat w stamp (Excluded at succ pred) did = (whole.done f u t seat _ _ did.0, did.1, did.2)
+  settled u t seat w stamp (Committed r) did = (whole.done f u t seat _ _ did.0, did.1, did.2, did.3, did.4, did.5)
+  settled u t seat w stamp (Excluded at succ pred) did = (whole.done f u t seat _ _ did.0, did.1, did.2, did.3)
+  settled u t seat w stamp (Marked at named) did = (whole.done f u t seat _ _ did.0, did.1, did.2, did.3)
 
   pub did_settle : (u t : View) (seat : ℕ) (outcome : Outcome) → DidSettleBeside seat outcome u t → DidSettleBeside seat outcome (saved u) (saved t)
   did_settle u t seat outcome did = (did.0, did.1, did.2, settled u t seat did.0 did.1 outcome did.3)
@@ -101,6 +102,9 @@ module _ (f : ℕ → List (List VersionWritten)) where
 
   pub did_safe : (u t : View) (seat : ℕ) → DidSafeBeside seat u t → DidSafeBeside seat (saved u) (saved t)
   did_safe u t seat did = (did.0, did.1, whole.watched f u t seat (record did.0 { is_safe = true }) did.2)
+
+  pub did_mark : (u t : View) (seat stamp : ℕ) → DidMarkBeside seat stamp u t → DidMarkBeside seat stamp (saved u) (saved t)
+  did_mark u t seat stamp did = whole.did_mark f u t seat stamp did
 
   pub not_safe : (u t : View) (seat : ℕ) (why : SafeStop) → NotSafeBeside seat why u t → NotSafeBeside seat why (saved u) (saved t)
   not_safe u t seat (safe.NotYet other seen) did = (ap saved did.0, did.1, did.2, did.3)

@@ -6,7 +6,7 @@ use Rattle.erm_model.proofs.Members.{∈-push}
 use Rattle.erm_machine.specs.declared.attempt.Attempt.{Attempt}
 use Rattle.erm_machine.specs.declared.attempt.Claim.{Claim}
 use Rattle.erm_machine.specs.declared.attempt.Decision.{Decision}
-use Rattle.erm_machine.specs.declared.attempt.Decision.TheVariants.{Undecided, Commit, Skip, Abort}
+use Rattle.erm_machine.specs.declared.attempt.Decision.TheVariants.{Undecided, Commit, Skip, Abort, Mark}
 use Rattle.erm_machine.specs.declared.place.Place.{Place}
 use Rattle.erm_machine.specs.declared.place.Place.TheVariants.{Vacant, Idle, Begun, Announced, Active, Sealing, Drawn, Sealed, Decided, Leaving}
 use Rattle.erm_machine.specs.declared.task.Task.{Task}
@@ -60,6 +60,7 @@ may_stand Undecided may = inr refl
 may_stand Commit may = inl refl
 may_stand Skip may = absurd may
 may_stand Abort may = absurd may
+may_stand Mark may = absurd may
 
 module _ (c : Core) (p : ℕ) (sound : Sound c) (tail : ℕ) (sealing : (c.seats p).place ≡ Sealing tail) where
   abbrev own : Attempt

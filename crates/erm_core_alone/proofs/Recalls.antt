@@ -109,7 +109,7 @@ r_store_begin seat value x (Decided tail stamp) y e = when_then (Recalls x) _ _ 
 r_store_begin seat value x _ y e = absurd (cc)
 
 pub r_store_state : (seat value : ℕ) (x : Part) (pl : Place) (y : Part) → store_state seat value x pl ≡ Some y → Recalls x y
-r_store_state seat value x (Active tail) y e = when_then (Recalls x) _ _ y e (λ _. recalls_same x _ refl refl)
+r_store_state seat value x (Active tail) y e = when_then (Recalls x) _ _ y e (λ _. recalls_from x _ refl (inr (recalled_now x _ refl refl (λ may. may))))
 r_store_state seat value x (Drawn tail stamp) y e = when_then (Recalls x) _ _ y e (λ _. recalls_same x _ refl refl)
 r_store_state seat value x (Leaving stamp) y e = when_then (Recalls x) _ _ y e (λ _. recalls_over x.current.decision x x.task (λ may. may))
 r_store_state seat value x _ y e = absurd (cc)

@@ -4,7 +4,7 @@ use Rattle.erm_model.specs.History.{Makes, Overwrites}
 use Rattle.erm_model.specs.Member.{◌∈◌}
 use Rattle.erm_machine.specs.declared.attempt.Attempt.{Attempt}
 use Rattle.erm_machine.specs.declared.attempt.Decision.{Decision}
-use Rattle.erm_machine.specs.declared.attempt.Decision.TheVariants.{Undecided, Commit, Skip, Abort}
+use Rattle.erm_machine.specs.declared.attempt.Decision.TheVariants.{Undecided, Commit, Skip, Abort, Mark}
 use Rattle.erm_machine.specs.declared.part.Part.{Part}
 use Rattle.erm_machine.specs.Core.{Core}
 use Rattle.erm_machine.specs.Decided.{bare}
@@ -16,6 +16,7 @@ MayStand Undecided = Unit {0}
 MayStand Commit = Unit {0}
 MayStand Skip = ⊥
 MayStand Abort = ⊥
+MayStand Mark = ⊥
 
 -- Of an object that a transaction of the first seat has claimed, none of the second, which has committed or isn't decided, has a commit stamp
 -- between the version overwritten and the own commit stamp.

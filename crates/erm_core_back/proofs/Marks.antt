@@ -1,19 +1,19 @@
 -- What a step leaves of marks: they have read, claimed and made nothing, and they alone are decided as marks.
-use Rattle.std.proofs.Common.{◌≡◌, ◌≢◌, ℕ, ⊎_elim, Bool, true, false, ◌&&◌, ◌||◌, cond, eqb, ltb, List, [], ◌∷◌, ◌++◌, length, map, refl, sym, ap, ◌∙◌, subst}
+use Rattle.std.proofs.Common.{◌≡◌, ℕ, ⊎_elim, Bool, true, false, ◌&&◌, ◌||◌, eqb, List, [], ◌∷◌, ◌++◌, length, refl, sym, ap, ◌∙◌, subst}
 use Rattle.std.proofs.lemmas.List.{length-map}
 use Rattle.erm_model.specs.declared.history.VersionWritten.{VersionWritten}
 use Rattle.erm_model.specs.Member.{◌∈◌}
 use Rattle.erm_model.proofs.Members.{∈-push}
 use Rattle.erm_machine.specs.declared.attempt.Attempt.{Attempt}
 use Rattle.erm_machine.specs.declared.attempt.Decision.{Decision}
-use Rattle.erm_machine.specs.declared.attempt.Decision.TheVariants.{Undecided, Commit, Skip, Mark}
+use Rattle.erm_machine.specs.declared.attempt.Decision.TheVariants.{Undecided}
 use Rattle.erm_machine.specs.declared.part.Part.{Part}
 use Rattle.erm_machine.specs.declared.place.Place.{Place}
-use Rattle.erm_machine.specs.Back.{MarkFits, OwnBack}
+use Rattle.erm_machine.specs.Back.{MarkFits, OwnBack, IsMarkedAs}
 use Rattle.erm_machine.specs.Core.{blank}
 use Rattle.erm_machine.specs.Decided.{written_of}
 use Rattle.erm_machine.specs.Facts.{all_of}
-use Rattle.erm_machine.specs.Seat.{decision_of, is_active, is_new, with_mark}
+use Rattle.erm_machine.specs.Seat.{is_active, is_new, with_mark}
 use Rattle.erm_machine.proofs.Quiet.{Steady}
 use Rattle.erm_core_lives.proofs.Lasting.{Lasting, SameRecord}
 use Rattle.erm_core_si.proofs.SnapshotLists.{∈-front, ∈-last}
@@ -26,18 +26,19 @@ pub record MarksFit (y : Part) : Type 0 where
 pub fits_before : (seat : ℕ) (x : Part) → OwnBack seat x → MarksFit x
 fits_before seat x own = record { unmarked = own.unmarked; marks = own.marks }
 
-pub not_marked : Undecided ≡ Mark → ⊥
-not_marked e = cc
+-- a transaction that isn't decided may be a mark or not
+undecided_as : (d : Decision) (b : Bool) → d ≡ Undecided → IsMarkedAs d b
+undecided_as d b undecided = subst (λ (e : Decision). IsMarkedAs e b) (sym undecided) tt
 
--- a transaction that is no mark, and isn't decided as one
+-- one that is none
 pub no_mark : (t : Attempt) → t.is_mark ≡ false → t.decision ≡ Undecided → MarkFits t
-no_mark t unmarked undecided = record { new = λ mark. absurd (cc); marked = λ mark. absurd (not_marked (sym undecided ∙ mark)) }
+no_mark t unmarked undecided = record { new = λ mark. absurd (cc); decided = undecided_as t.decision t.is_mark undecided }
 
 -- one that is marked and decided as another
 pub mark_as : (t u : Attempt) → u.is_mark ≡ t.is_mark → u.decision ≡ t.decision → (t.is_mark ≡ true → is_new t ≡ true → is_new u ≡ true) → MarkFits t → MarkFits u
 mark_as t u mark decision new fits = record {
   new = λ is. let was : t.is_mark ≡ true = sym mark ∙ is in new was (fits.new was);
-  marked = λ decided. mark ∙ fits.marked (sym decision ∙ decided);
+  decided = subst (λ (d : Decision). IsMarkedAs d u.is_mark) (sym decision) (subst (IsMarkedAs t.decision) (sym mark) fits.decided);
 }
 
 -- none is over
@@ -55,7 +56,7 @@ fits_same x y old over current active =
     fits_on x y old over (λ h. ap (λ (t : Attempt). t.is_mark) current ∙ old.unmarked (active h)) (subst MarkFits (sym current) (old.marks x.current (∈-last x.over x.current)))
 
 -- the current one is over
-pub fits_over : (d : Decision) (x y : Part) → MarksFit x → y.over ≡ x.over ++ record x.current { decision = d } ∷ [] → y.current ≡ blank → (d ≡ Mark → x.current.is_mark ≡ true) → MarksFit y
+pub fits_over : (d : Decision) (x y : Part) → MarksFit x → y.over ≡ x.over ++ record x.current { decision = d } ∷ [] → y.current ≡ blank → IsMarkedAs d x.current.is_mark → MarksFit y
 fits_over d x y old over none marked = record {
   unmarked = λ _. ap (λ (t : Attempt). t.is_mark) none;
   marks = λ t m.
@@ -63,7 +64,7 @@ fits_over d x y old over none marked = record {
       (λ (before : t ∈ y.over).
       ⊎_elim (λ (there : t ∈ x.over). old.marks t (∈-front x.over x.current t there))
       (λ (is : t ≡ record x.current { decision = d }).
-      subst MarkFits (sym is) (record { new = (old.marks x.current (∈-last x.over x.current)).new; marked = marked }))
+      subst MarkFits (sym is) (record { new = (old.marks x.current (∈-last x.over x.current)).new; decided = marked }))
       (∈-push x.over (record x.current { decision = d }) t (subst (λ ts. t ∈ ts) over before)))
       (λ (is : t ≡ y.current). subst MarkFits (sym (is ∙ none)) (no_mark blank refl refl)) (∈-push y.over y.current t m);
 }
@@ -81,17 +82,8 @@ fits_seal b x y old over current active inactive undecided new =
     sealed : MarkFits (with_mark b x.current)
     sealed = record {
       new = λ mark. new (bit b x.current.is_mark (old.unmarked active) mark);
-      marked = λ mark. absurd (not_marked (sym undecided ∙ mark));
+      decided = undecided_as x.current.decision (b || x.current.is_mark) undecided;
     }
-
--- just a mark is decided as one
-pub decided_mark : (t : Attempt) → decision_of t ≡ Mark → t.is_mark ≡ true
-decided_mark t e = by_tests t.is_mark (ltb t.pred t.succ) e
-  where
-    by_tests : (mark opened : Bool) → cond mark Mark (cond opened Commit Skip) ≡ Mark → mark ≡ true
-    by_tests true opened e = refl
-    by_tests false true e = absurd (cc)
-    by_tests false false e = absurd (cc)
 
 -- two transactions that have read, claimed and made as many
 new_as : (t u : Attempt) → SameRecord t u → is_new t ≡ true → is_new u ≡ true

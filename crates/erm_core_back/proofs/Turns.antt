@@ -29,7 +29,8 @@ use Rattle.erm_core_si.proofs.SnapshotSteps.{current_stands}
 use Rattle.erm_core_back.proofs.Gazes.{Blind, Faces, Gazes, blind_from, blind_if, faces_same, look_gazes}
 use Rattle.erm_core_back.proofs.Goes.{Goes, Lasts, goes_aborted, goes_cleared, goes_early, goes_left, goes_new, goes_onward, goes_same, lasts_on, lasts_over, lasts_same}
 use Rattle.erm_core_back.proofs.Owning.{eyes_gaze, new_gaze, own_on, seen}
-use Rattle.erm_core_back.proofs.Marks.{MarksFit, decided_mark, fits_before, fits_on, fits_over, fits_same, fits_seal, mark_as, no_mark}
+use Rattle.erm_core_back.proofs.Marks.{MarksFit, fits_before, fits_on, fits_over, fits_same, fits_seal, mark_as, no_mark}
+use Rattle.erm_machine.proofs.Decisions.{decided_mark}
 
 -- a seat's part after a step
 pub record Turns (c : Core) (p : ℕ) (y : Part) : Type 0 where
@@ -188,7 +189,7 @@ module _ (c : Core) (p : ℕ) (sound : Sound c) where
       (λ _. turns_from c p sound _ (goes_early c.shared.tail (c.seats p) _ refl (λ h. h) (λ h. h)) refl (lasts_on (c.seats p) _ refl (inl none))
       (fits_on (c.seats p) _ old refl (λ active. absurd (cc)) (no_mark blank refl refl)) (inl (blind_from task.Rest tt)))
       (λ _. turns_from c p sound _ (goes_aborted c.shared.tail (c.seats p) _ refl (λ h. h) (λ h. h)) refl (lasts_over Abort (c.seats p) _ refl (inl none))
-      (fits_over Abort (c.seats p) _ old refl refl (λ mark. absurd (cc))) (inl (blind_from task.Rest tt))))
+      (fits_over Abort (c.seats p) _ old refl refl (old.unmarked (ap is_active at))) (inl (blind_from task.Rest tt))))
       (λ _ _ new _. turns_raised tail value at new)
   turns_store_begin value (Decided tail stamp) y at e =
       decided_begin_then (Turns c p) p value tail stamp (c.seats p) y e (λ _ _ marked.
@@ -212,7 +213,7 @@ module _ (c : Core) (p : ℕ) (sound : Sound c) where
       when_then (Turns c p) _ _ y e (λ _.
       turns_from c p sound _ (goes_left c.shared.tail (c.seats p) _ refl (subst IsLeaving (sym at) tt) (λ h. h) (λ h. h)) refl
       (lasts_over (c.seats p).current.decision (c.seats p) _ refl (inr refl))
-      (fits_over (c.seats p).current.decision (c.seats p) _ old refl refl current_fits.marked) (inl (rest_blind _ (at_task (Leaving stamp) at))))
+      (fits_over (c.seats p).current.decision (c.seats p) _ old refl refl current_fits.decided) (inl (rest_blind _ (at_task (Leaving stamp) at))))
   turns_store_state value _ y at e = absurd (cc)
 
   pub turns_load_state : (other bound found : ℕ) (y : Part) → load_state p other bound found (c.seats p) ≡ Some y → Turns c p y
@@ -232,7 +233,7 @@ module _ (c : Core) (p : ℕ) (sound : Sound c) where
       when_then (Turns c p) _ _ y e (λ _.
       turns_from c p sound _ (goes_onward c.shared.tail (c.seats p) _ refl (begun_at (Sealed tail stamp) at tt) refl (λ h. h)) refl
       (lasts_on (c.seats p) _ refl (inl (at_current (Sealed tail stamp) at).decision))
-      (fits_on (c.seats p) _ old refl (λ active. absurd (cc)) (record { new = current_fits.new; marked = decided_mark (c.seats p).current }))
+      (fits_on (c.seats p) _ old refl (λ active. absurd (cc)) (record { new = current_fits.new; decided = decided_mark (c.seats p).current }))
       (inl (blind_from (task.Ends 0 0 0 0) tt)))
   turns_decide stamp_at header _ _ y at e = absurd (cc)
 

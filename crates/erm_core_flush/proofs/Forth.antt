@@ -152,7 +152,9 @@ module _ (c : Core) (sound : Sound c) (p : ℕ) where
   announces value _ y at e = absurd (cc)
 
   seals : (value : ℕ) (pl : Place) (y : Part) → (c.seats p).place ≡ pl → store_state p value (c.seats p) pl ≡ Some y → KeepsDecided (c.seats p) y
-  seals value (Active tail) y at e = when_then (KeepsDecided (c.seats p)) _ _ y e (λ _. keeps_both (c.seats p) _ (same_both (c.seats p) _ refl refl))
+  seals value (Active tail) y at e =
+      when_then (KeepsDecided (c.seats p)) _ _ y e (λ _.
+      over_kept (c.seats p) _ refl (λ _ _. record { stamp = refl; size = refl; decision = refl; header = refl; block = refl }))
   seals value (Drawn tail stamp) y at e = when_then (KeepsDecided (c.seats p)) _ _ y e (λ _. keeps_both (c.seats p) _ (same_both (c.seats p) _ refl refl))
   seals value (Leaving stamp) y at e =
       when_then (KeepsDecided (c.seats p)) _ _ y e (λ _.

@@ -5,7 +5,7 @@ use Rattle.std.proofs.lemmas.Bool.{cases_eq, cases_lt, eq-eqb, le-ltb, lt-ltb, n
 use Rattle.erm_model.specs.Member.{◌∈◌}
 use Rattle.erm_machine.specs.declared.attempt.Attempt.{Attempt}
 use Rattle.erm_machine.specs.declared.attempt.Decision.{Decision}
-use Rattle.erm_machine.specs.declared.attempt.Decision.TheVariants.{Undecided, Commit, Skip, Abort}
+use Rattle.erm_machine.specs.declared.attempt.Decision.TheVariants.{Undecided, Commit, Skip, Abort, Mark}
 use Rattle.erm_machine.specs.declared.event.Kind.{Kind}
 use Rattle.erm_machine.specs.declared.event.Kind.TheVariants as kind
 use Rattle.erm_machine.specs.declared.event.TailUse.TheVariants as purpose
@@ -53,6 +53,7 @@ is_undecided Undecided n = refl
 is_undecided Commit n = absurd (n (λ (e : Commit ≡ Undecided). cc))
 is_undecided Skip n = absurd (n (λ (e : Skip ≡ Undecided). cc))
 is_undecided Abort n = absurd (n (λ (e : Abort ≡ Undecided). cc))
+is_undecided Mark n = absurd (n (λ (e : Mark ≡ Undecided). cc))
 
 -- tests that are passed
 both : (a b : Bool) → a ≡ true → b ≡ true → (a && b) ≡ true

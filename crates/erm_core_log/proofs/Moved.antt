@@ -1,5 +1,5 @@
 -- A seat's own ranges after it has moved on to another place.
-use Rattle.std.proofs.Common.{◌≡◌, ◌≢◌, ℕ, ◌+◌, ◌<◌, ◌≤◌, ⊎_elim, Bool, true, false, cond, not, eqb, ltb, leb, List, [], ◌∷◌, ◌++◌, filter, count_by, Some, refl, sym, ap, ◌∙◌, subst, arith}
+use Rattle.std.proofs.Common.{◌≡◌, ◌≢◌, ℕ, ◌+◌, ◌<◌, ◌≤◌, ⊎_elim, Bool, true, false, cond, not, eqb, leb, List, [], ◌∷◌, ◌++◌, filter, count_by, Some, refl, sym, ap, ◌∙◌, subst, arith}
 use Rattle.std.specs.Prelude.{if◌then◌else◌}
 use Rattle.std.proofs.lemmas.List.{append-nil}
 use Rattle.std.proofs.lemmas.Bool.{and_parts, and_cases, leb-false, lt-ltb, not-false}
@@ -8,7 +8,7 @@ use Rattle.erm_model.proofs.Members.{∈-push}
 use Rattle.erm_machine.specs.declared.limits.TheConstants.{STOP}
 use Rattle.erm_machine.specs.declared.attempt.Attempt.{Attempt}
 use Rattle.erm_machine.specs.declared.attempt.Decision.{Decision}
-use Rattle.erm_machine.specs.declared.attempt.Decision.TheVariants.{Undecided, Commit, Skip, Abort}
+use Rattle.erm_machine.specs.declared.attempt.Decision.TheVariants.{Undecided, Abort}
 use Rattle.erm_machine.specs.declared.part.Part.{Part}
 use Rattle.erm_machine.specs.declared.place.Place.{Place}
 use Rattle.erm_machine.specs.declared.place.Place.TheVariants.{Vacant, Idle, Begun, Announced, Active, Sealing, Drawn, Sealed, Decided, Leaving}
@@ -24,6 +24,7 @@ use Rattle.erm_machine.specs.Words.{is_flusher, is_session, is_seat, refuses}
 use Rattle.erm_machine.proofs.Backs.{active_begin_then}
 use Rattle.erm_machine.proofs.Guards.{when_then, either_way}
 use Rattle.erm_core_log.proofs.Lists.{ranges_of-push, high_count-push, filter_own, high_ranges_none, high_of-le, end_to_end_ascends}
+use Rattle.erm_machine.proofs.Decisions.{decides_some, decides_kept}
 
 -- what a session may draw adds one at most
 pub may_draw-le : (p : ℕ) (place : Place) (n : ℕ) → (is_flusher p ≡ false → n + drawing place ≤ 1) → n ≤ 1 → n + may_draw p place ≤ 1
@@ -261,8 +262,8 @@ module _ (s : Shared) (seats : ℕ → Part) (common : Ranges s seats) (p : ℕ)
         current = record {
           stamp_is = cur.stamp_is;
           positive = cur.positive;
-          decision = either_way (λ (d : Decision). d ≢ Undecided) (ltb x.current.pred x.current.succ) Commit Skip (λ _. λ (e : Commit ≡ Undecided). cc) (λ _. λ (e : Skip ≡ Undecided). cc);
-          kept = either_way (λ (d : Decision). d ≢ Abort) (ltb x.current.pred x.current.succ) Commit Skip (λ _. λ (e : Commit ≡ Abort). cc) (λ _. λ (e : Skip ≡ Abort). cc);
+          decision = decides_some x.current;
+          kept = decides_kept x.current;
         };
         decided = own.decided;
         kept = own.kept;

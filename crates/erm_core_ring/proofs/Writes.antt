@@ -1,13 +1,12 @@
 -- Steps that draw a range or store a word of the own block.
-use Rattle.std.proofs.Common.{◌≡◌, ◌≢◌, ℕ, zero, suc, ◌+◌, ◌<◌, ◌≤◌, ◌⊎◌, ⊎_elim, Bool, true, false, ltb, eqb-true, List, [], ◌∷◌, ◌++◌, length, get_or, Option, Some, None, refl, sym, ap, ◌∙◌, subst, inl, inr, arith}
+use Rattle.std.proofs.Common.{◌≡◌, ◌≢◌, ℕ, zero, suc, ◌+◌, ◌<◌, ◌≤◌, ◌⊎◌, ⊎_elim, Bool, true, false, eqb-true, List, [], ◌∷◌, ◌++◌, length, get_or, Option, Some, None, refl, sym, ap, ◌∙◌, subst, inl, inr, arith}
 use Rattle.std.specs.Prelude.{if◌then◌else◌}
 use Rattle.std.proofs.lemmas.Bool.{and_parts, cases_lt, ltb-true}
 use Rattle.std.proofs.lemmas.Option.{same_Some}
 use Rattle.erm_model.specs.Member.{◌∈◌}
 use Rattle.erm_model.proofs.Members.{∈-push}
 use Rattle.erm_machine.specs.declared.attempt.Attempt.{Attempt}
-use Rattle.erm_machine.specs.declared.attempt.Decision.{Decision}
-use Rattle.erm_machine.specs.declared.attempt.Decision.TheVariants.{Undecided, Commit, Skip}
+use Rattle.erm_machine.specs.declared.attempt.Decision.TheVariants.{Undecided}
 use Rattle.erm_machine.specs.declared.limits.TheConstants.{FLUSH_SEAT}
 use Rattle.erm_machine.specs.declared.part.Flushing.{Flushing}
 use Rattle.erm_machine.specs.declared.part.Flushing.TheVariants as flushing
@@ -28,12 +27,13 @@ use Rattle.erm_machine.specs.Step.{with_ring}
 use Rattle.erm_machine.specs.Tasks.{TaskFits}
 use Rattle.erm_machine.specs.Words.{put}
 use Rattle.erm_machine.proofs.Frames.{at_cases, each_seat}
-use Rattle.erm_machine.proofs.Guards.{either_way, when_then}
+use Rattle.erm_machine.proofs.Guards.{when_then}
 use Rattle.erm_machine.proofs.Listed.{∈-first}
 use Rattle.erm_core_ring.proofs.Aside.{Kept, before_put, flush_part, log_put}
 use Rattle.erm_core_ring.proofs.Onward.{Before, GoesOn, Onward, flushing_on, gathered_on}
 use Rattle.erm_core_ring.proofs.Own.{current_stands, other_own, over_stands}
 use Rattle.erm_core_ring.proofs.Ring.{bare_word, ring_stored, word_else, word_put}
+use Rattle.erm_machine.proofs.Decisions.{decides_some}
 
 -- a transaction goes on as it is
 on_as_is : (u : Attempt) → Onward u u
@@ -221,7 +221,7 @@ module _ (c : Core) (sound : Sound c) (p : ℕ) where
     sealed_room = subst (λ q. HasRoom q (c.seats p).task) (sym at) (subst (HasRoom (Sealed tail stamp)) (sym next) tt)
 
     is_decided : decision_of (c.seats p).current ≢ Undecided
-    is_decided = either_way (λ (d : Decision). d ≢ Undecided) (ltb (c.seats p).current.pred (c.seats p).current.succ) Commit Skip (λ _. λ (e : Commit ≡ Undecided). cc) (λ _. λ (e : Skip ≡ Undecided). cc)
+    is_decided = decides_some (c.seats p).current
 
     header_fits : HeaderFits c.shared.run (decided_part header tail stamp (c.seats p)).current
     header_fits =

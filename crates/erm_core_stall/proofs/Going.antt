@@ -28,6 +28,7 @@ use Rattle.erm_core_stall.specs.Waiting.{Actor, GoesOn, IsUnfinished, MayChoose,
 use Rattle.erm_core_stall.proofs.Looks.{call_stays, unsafe_stays, waits_for}
 use Rattle.erm_core_stall.proofs.Places.{active_place, fits_at, sealed_session, sealed_taken}
 use Rattle.erm_core_calls.proofs.GoesActive.{entered_other}
+use Rattle.erm_machine.proofs.Backs.{start_seals}
 
 -- where a transaction that isn't over stands: in a call, between calls, those of a safe snapshot too, or sealed and to settle
 data Stage (p : ℕ) (pl : Place) (u : Task) : Type 0 where
@@ -111,7 +112,7 @@ module _ (c : Core) (p : ℕ) (sound : Sound c) where
       between_calls active may (λ oid known. enters_from at.0 at.1 oid known (c.seats p).task may refl)
       (λ session.
       to_place c p (kind.StoreState 1) (Active at.0) _ _ at.1 tt refl (ap (store_state p 1 (c.seats p)) at.1)
-      (and_from _ _ (and_from _ _ refl session) (may_start_there p (c.seats p).task may)) refl)
+      (and_from _ _ (and_from _ _ refl session) (start_seals (c.seats p).task (may_start_there p (c.seats p).task may))) refl)
 
   -- a sealed one begins to settle, or waits for the ring
   settling : is_sealed (c.seats p).place ≡ true → (c.seats p).task ≡ task.Rest → GoesOn c p ⊎ ((b : Actor) × WaitsFor c (seat_of p) b)

@@ -103,12 +103,13 @@ y_store_begin seat value x (Active tail) y session cur e =
 y_store_begin seat value x (Decided tail stamp) y session cur e = when_then (AllGoOn x) _ _ y e (λ _. same x _ refl refl)
 y_store_begin seat value x _ y session cur e = absurd (cc)
 
-y_store_state : (seat value : ℕ) (x : Part) (pl : Place) (y : Part) → store_state seat value x pl ≡ Some y → AllGoOn x y
-y_store_state seat value x (Active tail) y e = when_then (AllGoOn x) _ _ y e (λ _. same x _ refl refl)
-y_store_state seat value x (Drawn tail stamp) y e = when_then (AllGoOn x) _ _ y e (λ _. same x _ refl refl)
-y_store_state seat value x (Leaving stamp) y e =
+y_store_state : (seat value : ℕ) (x : Part) (pl : Place) (y : Part) → IsCurrent pl x.current → store_state seat value x pl ≡ Some y → AllGoOn x y
+y_store_state seat value x (Active tail) y cur e =
+    when_then (AllGoOn x) _ _ y e (λ _. go_from x _ refl (λ _. opens x.current _ cur.stamp cur.decision refl refl refl refl refl refl))
+y_store_state seat value x (Drawn tail stamp) y cur e = when_then (AllGoOn x) _ _ y e (λ _. same x _ refl refl)
+y_store_state seat value x (Leaving stamp) y cur e =
     when_then (AllGoOn x) _ _ y e (λ _. go_over x _ (record x.current { decision = x.current.decision }) refl (continues_same x.current _ refl))
-y_store_state seat value x _ y e = absurd (cc)
+y_store_state seat value x _ y cur e = absurd (cc)
 
 y_load_begin : (seat other found : ℕ) (x : Part) (t : Task) (y : Part) → load_begin seat other found x t ≡ Some y → AllGoOn x y
 y_load_begin seat other found x (task.Horizon version least next) y e = when_then (AllGoOn x) _ _ y e (λ _. same x _ refl refl)
@@ -256,7 +257,7 @@ goes_on c d p (kind.StoreBegin value) sound e =
     goes_moved c p (kind.StoreBegin value) d m (λ session. y_store_begin p value (c.seats p) (c.seats p).place m.part session (sound.own p).ranges.current m.after)
 goes_on c d p (kind.StoreState value) sound e =
     let m = moves c p (kind.StoreState value) d tt e in
-    goes_moved c p (kind.StoreState value) d m (λ _. y_store_state p value (c.seats p) (c.seats p).place m.part m.after)
+    goes_moved c p (kind.StoreState value) d m (λ _. y_store_state p value (c.seats p) (c.seats p).place m.part (sound.own p).ranges.current m.after)
 goes_on c d p (kind.LoadBegin other) sound e =
     let m = moves c p (kind.LoadBegin other) d tt e in
     goes_moved c p (kind.LoadBegin other) d m (λ _. y_load_begin p other (word_at c (spot_of p (kind.LoadBegin other))) (c.seats p) (c.seats p).task m.part m.after)

@@ -5,7 +5,7 @@ use Rattle.erm_core_ring.proofs.Fits.{decided_fits}
 use Rattle.erm_core_ring.proofs.Spans.{span_from}
 use Rattle.erm_log_list.proofs.Ranges.{attempt_of}
 use Rattle.erm_machine.specs.declared.attempt.Decision.{Decision}
-use Rattle.erm_machine.specs.declared.attempt.Decision.TheVariants.{Abort, Commit, Skip, Undecided}
+use Rattle.erm_machine.specs.declared.attempt.Decision.TheVariants.{Abort, Commit, Skip, Undecided, Mark}
 use Rattle.erm_machine.specs.declared.limits.TheConstants.{RING_WORDS}
 use Rattle.erm_machine.specs.Core.{Core}
 use Rattle.erm_machine.specs.Log.{IsEnd}
@@ -16,6 +16,7 @@ is_undecided Undecided n = refl
 is_undecided Commit n = absurd (n (λ (e : Commit ≡ Undecided). cc))
 is_undecided Skip n = absurd (n (λ (e : Skip ≡ Undecided). cc))
 is_undecided Abort n = absurd (n (λ (e : Abort ≡ Undecided). cc))
+is_undecided Mark n = absurd (n (λ (e : Mark ≡ Undecided). cc))
 
 pub full_open : (c : Core) → Sound c → (to : ℕ) → IsEnd c.shared to → to < c.shared.tail → c.shared.flushed + RING_WORDS ≤ to → IsOpenAt c.seats to
 full_open c sound to ends low full =

@@ -156,7 +156,7 @@ module _ (laws : CourseLaws) (state : State) (sessions : ℕ) (v t : View) (log 
       let as_told : commits ≡ told_commits (told_by progress) (world.history_of t) =
       ap (λ (n : ℕ). history_of (transactions_of n (places_of script answers closed))) many ∙ commits_told t progress holds tells in
       let from = ∈-map (told_commit (told_by progress)) (world.history_of t) c (subst (λ (cs : List Committed). c ∈ cs) as_told m) in
-      let own : IsCommitted t from.0 = of_history t from.0 from.1 in
+      let own : IsCommitted t from.0 = of_history sound_law t holds from.0 from.1 in
       let stamp : from.0.stamp ≡ c.stamp = ap (λ (d : Committed). d.stamp) from.2 in
       let begun = holds.begins from.0.seat (work_in from.0) own.session own.over in
       let stamps = holds.stamps from.0.seat (work_in from.0) from.0.stamp own.session own.stamped in

@@ -5,12 +5,12 @@ use Rattle.std.proofs.lemmas.List.{length-append, length-map}
 use Rattle.std.proofs.lemmas.List.Sums.{sum_by-append, sum_by_push}
 use Rattle.erm_model.specs.Lawful.{times_made}
 use Rattle.erm_model.specs.RowTransaction.{Law}
-use Rattle.erm_world.specs.Calls.{Becomes, DidAbort, DidSeal, IsDone, Works}
+use Rattle.erm_world.specs.Calls.{Becomes, DidAbort, DidSeal, IsDone, Works, Seals}
 use Rattle.erm_world.specs.Face.{Goes, Grows, ends, same, works}
 use Rattle.erm_world.specs.Going.{Extends, found_by}
 use Rattle.erm_world.specs.Onward.{extends_then}
 use Rattle.erm_world.specs.Safe.{with_snapshot}
-use Rattle.erm_world.specs.World.{Fate, Finished, IsCurrent, Opening, Session, Snapshot, Stand, View, Work, begun, claims_in, claims_upto, made_in, made_upto, stamp_of, work_of}
+use Rattle.erm_world.specs.World.{Fate, Finished, IsCurrent, Opening, Session, Snapshot, Stand, View, Work, begun, claims_in, claims_upto, made_in, made_upto, stamp_of, work_of, marking}
 use Rattle.erm_world.specs.World as world
 use Rattle.erm_world.proofs.Lists.{∈-after, ∈-before}
 use Rattle.erm_safe_world.specs.Moves.{MovesOn}
@@ -213,6 +213,20 @@ world_seals v t seat stamp w stand did =
       session = one_session v t seat (subst (λ (r : Session). IsLater (v.session seat) r) (sym did.own)
           (later_on (v.session seat) s own own (extends_itself own) refl (λ x at. ap work_of stand ∙ one_active (v.session seat).stand w x stand at) refl refl refl (unsealed (v.session seat).stand w [] (world.sealed own stamp) stand))) did.others;
     }
+
+pub world_marks : (v t : View) (seat stamp : ℕ) (r : Snapshot) → (v.session seat).stand ≡ world.snapshot r → Seals v seat (marking r) stamp t → IsLaterWorld v t
+world_marks v t seat stamp r stand did =
+    let s : Session = record { over = (v.session seat).over; stand = world.sealed (marking r) stamp } in record {
+      opening = did.opening;
+      tail = omega (arith, did.tail);
+      flushed = omega (arith, did.flushed);
+      session = one_session v t seat (subst (λ (to : Session). IsLater (v.session seat) to) (sym did.own)
+          (later_on (v.session seat) s (begun r.number r.begin) (marking r) marked (ap work_of stand) (λ x at. one_snapshot (v.session seat).stand r x stand at) refl refl refl
+          (never_drawn (v.session seat).stand r [] (world.sealed (marking r) stamp) stand))) did.others;
+    }
+  where
+    marked : Extends (begun r.number r.begin) (marking r)
+    marked = record { number = refl; begin = refl; read = []; reads = refl; claimed = []; claims = refl; more = []; made = refl }
 
 -- what all may end in they might before
 pub ends_onward : (law : Law) (v t f : View) (seat : ℕ) → IsLaterWorld v t → MovesOn v f → EndsIn law t seat f → EndsIn law v seat f

@@ -2,7 +2,7 @@
 use Rattle.std.proofs.Common.{◌≡◌, ◌≢◌, ℕ, ◌≤◌, List, ap, ◌∙◌, subst, sym, Result, Ok, Err, IfOk, IfErr, OnOk}
 use Rattle.erm_model.specs.declared.history.VersionWritten.{VersionWritten}
 use Rattle.erm_model.specs.declared.outcome.Outcome.{Outcome}
-use Rattle.erm_model.specs.declared.outcome.Outcome.TheVariants.{Committed, Excluded}
+use Rattle.erm_model.specs.declared.outcome.Outcome.TheVariants.{Committed, Excluded, Marked}
 use Rattle.erm_model.specs.declared.outcome.Phase.TheVariants.{Active}
 use Rattle.erm_model.specs.declared.row_stop.RowStop.{RowStop}
 use Rattle.erm_model.specs.RowTransaction.{Asked, Event, Law}
@@ -65,6 +65,7 @@ begins_leaves (Err why) v t seat did was = not_begun_leaves v t seat why was
 settled_leaves : (v t : View) (seat : ℕ) (outcome : Outcome) → DidSettle v seat outcome t → Leaves v seat t
 settled_leaves v t seat (Committed r) (w, stamp, stand, ready, settled) = leaves_becomes v t seat _ settled.0
 settled_leaves v t seat (Excluded at succ pred) (w, stamp, stand, ready, settled) = leaves_becomes v t seat _ settled.0
+settled_leaves v t seat (Marked at named) (w, stamp, stand, ready, settled) = leaves_becomes v t seat _ settled.0
 
 pub settles_leaves : (r : Result Outcome Wait) (v t : View) (seat : ℕ) → IfOk r (λ outcome. DidSettle v seat outcome t) → IfErr r (λ why. DidNotSettle v seat why t) → Leaves v seat t
 settles_leaves (Ok outcome) v t seat did was = settled_leaves v t seat outcome did

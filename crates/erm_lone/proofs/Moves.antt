@@ -1,7 +1,7 @@
 -- A call of a world, as one of a session beside others.
 use Rattle.std.proofs.Common.{◌≡◌, ℕ, ◌<◌, ◌+◌, length, refl, sym, subst, inl, inr, arith, Result, Ok, Err, IfOk, IfErr, OnOk}
 use Rattle.erm_model.specs.declared.outcome.Outcome.{Outcome}
-use Rattle.erm_model.specs.declared.outcome.Outcome.TheVariants.{Committed, Excluded}
+use Rattle.erm_model.specs.declared.outcome.Outcome.TheVariants.{Committed, Excluded, Marked}
 use Rattle.erm_model.specs.declared.outcome.Phase.TheVariants.{Active, Idle}
 use Rattle.erm_model.specs.declared.row_stop.RowStop.{RowStop}
 use Rattle.erm_model.specs.declared.row_stop.RowStop.TheVariants as stop
@@ -149,8 +149,9 @@ module _ (law : Law) (v : View) (lawful : IsSerializable law v) where
 
 -- SETTLE
 pub settled_ok : (v t : View) (seat : ℕ) (outcome : Outcome) → DidSettle v seat outcome t → DidSettleBeside seat outcome v t
-settled_ok v t seat (Committed r) (w, stamp, stand, ready, settled) = (w, stamp, stand, (settled.0, settled.1, settled.2, settled.3, settled.6))
-settled_ok v t seat (Excluded at succ pred) (w, stamp, stand, ready, settled) = (w, stamp, stand, (settled.0, settled.1, settled.4))
+settled_ok v t seat (Committed r) (w, stamp, stand, ready, settled) = (w, stamp, stand, (settled.0, settled.1, settled.2, settled.3, settled.4, settled.7))
+settled_ok v t seat (Excluded at succ pred) (w, stamp, stand, ready, settled) = (w, stamp, stand, (settled.0, settled.1, settled.2, settled.5))
+settled_ok v t seat (Marked at named) (w, stamp, stand, ready, settled) = (w, stamp, stand, settled)
 
 ahead_below : (law : Law) (v : View) (seat : ℕ) (bound other seen : ℕ) (w : Work) → IsSerializable law v → IsSealedBelow v seat bound other seen w
     → IsAnother v seat other × (0 < seen) × (seen < bound)
@@ -168,6 +169,7 @@ settled_err law v t seat (wait.Seat other seen) lawful (is, (w, stamp, stand, wa
 settled_later : (v t : View) (seat : ℕ) (outcome : Outcome) → DidSettle v seat outcome t → IsLaterWorld v t
 settled_later v t seat (Committed r) (w, stamp, stand, ready, settled) = world_done v t seat w stamp (world.commits stamp r.succ r.pred) refl stand settled.0
 settled_later v t seat (Excluded at succ pred) (w, stamp, stand, ready, settled) = world_done v t seat w stamp (world.excluded stamp succ pred) refl stand settled.0
+settled_later v t seat (Marked at named) (w, stamp, stand, ready, settled) = world_done v t seat w stamp (world.marked stamp w.begin) refl stand settled.0
 
 pub settles_next : WorldsMoveOn → (r : Result Outcome Wait) (v t : View) (seat : ℕ) → IsSession v seat → IfOk r (λ outcome. DidSettle v seat outcome t) → IfErr r (λ why. DidNotSettle v seat why t) → IsNext v t
 settles_next moving (Ok outcome) v t seat session did was = record { later = settled_later v t seat outcome did; moves = moving.settles v t seat outcome session did }

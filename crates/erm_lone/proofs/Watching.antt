@@ -8,17 +8,17 @@ use Rattle.erm_world.specs.declared.stops.SafeStop.{SafeStop}
 use Rattle.erm_world.specs.declared.stops.SafeStop.TheVariants as stop
 use Rattle.erm_world.specs.Calls.{DidAbort, MayNotBegin}
 use Rattle.erm_world.specs.Laws.{IsSerializable}
-use Rattle.erm_world.specs.Safe.{DidBeginSafe, DidNotSafe, DidSafe, DidSafeRead, HasSnapshot, IsSafeIn}
+use Rattle.erm_world.specs.Safe.{DidBeginSafe, DidNotSafe, DidSafe, DidSafeRead, HasSnapshot, IsSafeIn, DidMark}
 use Rattle.erm_world.specs.World.{Opening, Session, Snapshot, Stand, View, phase_at, phase_of, work_at, work_of}
 use Rattle.erm_world.specs.World as world
 use Rattle.erm_world.proofs.Commits.{tells_commits}
 use Rattle.erm_safe_world.specs.Moves.{MovesOn}
 use Rattle.erm_beside.specs.Calls.{After, MayNotBeginBeside, Passes}
-use Rattle.erm_beside.specs.Safe.{DidBeginSafeBeside, DidSafeBeside, IsRowBelow, NotSafeBeside, NotSafeMet}
+use Rattle.erm_beside.specs.Safe.{DidBeginSafeBeside, DidSafeBeside, IsRowBelow, NotSafeBeside, NotSafeMet, DidMarkBeside}
 use Rattle.erm_lone.specs.Later.{EndsIn}
 use Rattle.erm_lone.specs.Moving.{WorldsMoveOn}
 use Rattle.erm_lone.specs.Within.{world_itself}
-use Rattle.erm_lone.proofs.Later.{world_begins_safe, world_ends_safe, world_is_safe}
+use Rattle.erm_lone.proofs.Later.{world_begins_safe, world_ends_safe, world_is_safe, world_marks}
 use Rattle.erm_lone.proofs.Leaves.{Leaves, aborts_leaves, leaves_becomes, leaves_same}
 use Rattle.erm_lone.proofs.Meets.{stamp_below}
 use Rattle.erm_lone.proofs.Moves.{IsNext, at_once, begun_err, idle_with, next_same, not_begun, rests}
@@ -59,6 +59,13 @@ unsafe_so (Err (stop.NotYet other seen)) v t seat (is, before) =
     at_once seat (NotSafeBeside seat (stop.NotYet other seen)) v t (is, (before.session, before.another), before.positive, before.below)
 unsafe_so (Err (stop.Unsafe other stamp)) v t seat was = at_once seat (NotSafeBeside seat (stop.Unsafe other stamp)) v t was.0
 
+-- MARK
+pub marks_leaves : (v t : View) (seat stamp : ℕ) → DidMark v seat stamp t → Leaves v seat t
+marks_leaves v t seat stamp did = record { others = did.seals.others; opening = did.seals.opening; given_up = did.seals.given_up; saves = did.seals.saves }
+
+pub marked_so : (v t : View) (seat stamp : ℕ) → DidMark v seat stamp t → After seat (DidMarkBeside seat stamp) v t
+marked_so v t seat stamp did = at_once seat (DidMarkBeside seat stamp) v t did
+
 -- THE WORLD after each call, and the worlds in which all may end
 module _ (moving : WorldsMoveOn) where
   pub begins_next : (r : Result ℕ BeginStop) (v t : View) (seat : ℕ) → phase_at v seat ≡ Idle → IfOk r (λ begin. DidBeginSafe v seat begin t) → IfErr r (λ why. MayNotBegin v seat why t) → IsNext v t
@@ -76,6 +83,9 @@ module _ (moving : WorldsMoveOn) where
   looked_next (Err (stop.NotYet other seen)) v t seat pending did was = next_same moving v t was.0
   looked_next (Err (stop.Unsafe other stamp)) v t seat pending did was =
       ended_next v t seat (pending_with (v.session seat).stand pending) (moving.not_safe v t seat (stop.Unsafe other stamp) was) was.0
+
+  pub marks_next : (v t : View) (seat stamp : ℕ) → DidMark v seat stamp t → IsNext v t
+  marks_next v t seat stamp did = record { later = world_marks v t seat stamp did.snapshot did.stands did.seals; moves = moving.marks v t seat stamp did }
 
   pub ends_next : (v t : View) (seat : ℕ) → HasSnapshot v seat → DidAbort v seat t → IsNext v t
   ends_next v t seat has did = ended_next v t seat has (moving.aborts v t seat did) did

@@ -11,7 +11,7 @@ use Rattle.erm_world.specs.declared.stops.SaveStop.{SaveStop}
 use Rattle.erm_world.specs.declared.stops.Wait.{Wait}
 use Rattle.erm_world.specs.Calls.{DidAbort, DidBegin, DidNotSettle, DidSeal, DidSettle, MayNotBegin}
 use Rattle.erm_world.specs.Face.{Answered, WasRefused}
-use Rattle.erm_world.specs.Safe.{DidBeginSafe, DidNotSafe, DidSafe, IsSafeIn}
+use Rattle.erm_world.specs.Safe.{DidBeginSafe, DidNotSafe, DidSafe, IsSafeIn, DidMark}
 use Rattle.erm_world.specs.Saves.{DidNotSave, DidSave, HasNoSave, WentBack}
 use Rattle.erm_world.specs.World.{IsSession, View, history_of, phase_at}
 use Rattle.erm_safe_world.specs.Moves.{MovesOn}
@@ -33,6 +33,7 @@ pub record WorldsMoveOn : Type 0 where
   pub settles : (v t : View) (seat : ℕ) (outcome : Outcome) → IsSession v seat → DidSettle v seat outcome t → MovesOn v t
   pub not_settled : (v t : View) (seat : ℕ) (why : Wait) → DidNotSettle v seat why t → MovesOn v t
   pub aborts : (v t : View) (seat : ℕ) → DidAbort v seat t → MovesOn v t
+  pub marks : (v t : View) (seat stamp : ℕ) → DidMark v seat stamp t → MovesOn v t
   pub is_safe : (v t : View) (seat : ℕ) → DidSafe v seat t → MovesOn v t
   pub not_safe : (v t : View) (seat : ℕ) (why : SafeStop) → DidNotSafe v seat why t → MovesOn v t
   pub safe_stays : (v t : View) (b : ℕ) → MovesOn v t → IsSafeIn v b → IsSafeIn t b

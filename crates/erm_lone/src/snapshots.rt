@@ -24,6 +24,11 @@ impl<W: SafeWorld, O: Others> SafeSession for LoneSession<W, O> {
         self.world.safe_read(self.seat, oid)
     }
 
+    fn mark(&mut self, _shared: &()) -> Stamp {
+        worlds_move_on();
+        self.world.mark(self.seat)
+    }
+
     fn end_safe(&mut self, _shared: &()) {
         worlds_move_on();
         self.world.end_safe(self.seat)

@@ -115,6 +115,9 @@ start_unsafe (task.Rated version) start = refl
 start_unsafe task.Numbers start = refl
 start_unsafe _ start = absurd (cc)
 
+pub start_seals : (t : Task) → may_start t ≡ true → may_seal t ≡ true
+start_seals t start = ap (λ (b : Bool). b || is_safe t) start
+
 -- What holds of a transaction that seals, as it is, and of a safe snapshot that becomes a mark, holds after the store of an active seat's state word.
 pub active_seal_then : (P : Part → Type 0) (seat value tail : ℕ) (x y : Part) → store_state seat value x (Active tail) ≡ Some y
     → (value ≡ 1 → is_session seat ≡ true → may_start x.task ≡ true → P (record x { place = Sealing tail; task = task.Rest }))

@@ -1,4 +1,5 @@
 pub mod Backs
+pub mod Decisions
 pub mod Frames
 pub mod Guards
 pub mod Histories

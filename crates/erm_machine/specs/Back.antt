@@ -3,7 +3,8 @@ use Rattle.std.specs.Prelude.{◌≡◌, ◌≢◌, ◌⊎◌, ℕ, ◌+◌, ◌
 use Rattle.erm_model.specs.Member.{◌∈◌}
 use Rattle.erm_machine.specs.declared.limits.TheConstants.{SESSIONS}
 use Rattle.erm_machine.specs.declared.attempt.Attempt.{Attempt}
-use Rattle.erm_machine.specs.declared.attempt.Decision.TheVariants.{Commit, Mark}
+use Rattle.erm_machine.specs.declared.attempt.Decision.{Decision}
+use Rattle.erm_machine.specs.declared.attempt.Decision.TheVariants.{Commit, Mark, Undecided}
 use Rattle.erm_machine.specs.declared.part.Part.{Part}
 use Rattle.erm_machine.specs.declared.place.Place.{Place}
 use Rattle.erm_machine.specs.declared.place.Place.TheVariants.{Leaving}
@@ -45,10 +46,16 @@ abbrev pub IsBehind : Task → ℕ → Type 0
 IsBehind (task.Behind next) q = q ≡ next
 IsBehind _ q = ⊥
 
+-- one that is decided so is a mark, or isn't
+abbrev pub IsMarkedAs : Decision → Bool → Type 0
+IsMarkedAs Undecided is_mark = Unit {0}
+IsMarkedAs Mark is_mark = is_mark ≡ true
+IsMarkedAs decision is_mark = is_mark ≡ false
+
 -- A mark has read, claimed and made nothing, and just a mark is decided as one.
 pub record MarkFits (t : Attempt) : Type 0 where
   pub new : t.is_mark ≡ true → is_new t ≡ true
-  pub marked : t.decision ≡ Mark → t.is_mark ≡ true
+  pub decided : IsMarkedAs t.decision t.is_mark
 
 -- From the clearing of the begin word of a commit that goes back on, its seat's back word is at least its stamp; and a back word is 0, or
 -- the stamp of such a commit of its seat. A snapshot has read, claimed and made nothing. An active transaction is no mark. Only sessions have

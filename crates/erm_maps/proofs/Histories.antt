@@ -1,5 +1,5 @@
 -- Whose the commits of a world's history are.
-use Rattle.std.proofs.Common.{◌≡◌, ℕ, zero, suc, ◌+◌, ◌<◌, ◌≤◌, ⊎_elim, List, [], ◌∷◌, Some, refl, sym, ap, subst, inl, arith}
+use Rattle.std.proofs.Common.{◌≡◌, ℕ, zero, suc, ◌+◌, ◌<◌, ◌≤◌, ⊎_elim, List, [], ◌∷◌, Some, refl, sym, ap, subst, inl, arith, Bool, false, ◌∙◌}
 use Rattle.std.proofs.lemmas.Bool.{lt-ltb}
 use Rattle.erm_model.specs.declared.history.TransactionRecord.{TransactionRecord}
 use Rattle.erm_model.specs.History.{History, below}
@@ -7,13 +7,13 @@ use Rattle.erm_model.specs.Member.{◌∈◌}
 use Rattle.erm_model.specs.RowTransaction.{Law}
 use Rattle.erm_model.proofs.Members.{none_in_nil, ∈-behind}
 use Rattle.erm_machine.proofs.Listed.{∈-cons, ∈-either, ∈-head}
-use Rattle.erm_world.specs.Laws.{IsSerializable}
+use Rattle.erm_world.specs.Laws.{IsSerializable, EndsAsMarked}
 use Rattle.erm_world.specs.World.{Fate, Finished, HasStamp, IsSession, Session, View, Work, commit_of, committed_in, history_of, history_upto, record_of, stamp_of}
 use Rattle.erm_world.specs.World as world
 
--- the transaction that a record is of
+-- the transaction that a record is of, which is no mark
 abbrev pub work_in : TransactionRecord → Work
-work_in t = record { number = t.number; begin = t.begin; reads = t.reads; claims = t.writes; made = t.made }
+work_in t = record { number = t.number; begin = t.begin; reads = t.reads; claims = t.writes; made = t.made; is_mark = false }
 
 -- The session's transaction of this record is over with the record's stamp.
 pub record IsOverWithStamp (seat : ℕ) (over : List Finished) (t : TransactionRecord) : Type 0 where
@@ -24,40 +24,42 @@ pub record IsOverWithStamp (seat : ℕ) (over : List Finished) (t : TransactionR
   pub stamp_is : stamp_of finished.fate ≡ Some t.stamp
 
 -- the one record of a transaction that commits
-of_commit : (seat : ℕ) (w : Work) (fate : Fate) (t : TransactionRecord) → t ∈ commit_of seat w fate → (t.seat ≡ seat) × (w ≡ work_in t) × (stamp_of fate ≡ Some t.stamp)
-of_commit seat w (world.commits stamp succ pred) t m =
+of_commit : (seat : ℕ) (w : Work) (fate : Fate) (t : TransactionRecord) → EndsAsMarked w fate → t ∈ commit_of seat w fate → (t.seat ≡ seat) × (w ≡ work_in t) × (stamp_of fate ≡ Some t.stamp)
+of_commit seat w (world.commits stamp succ pred) t unmarked m =
     ⊎_elim
     (λ (e : record_of seat w stamp succ pred ≡ t).
-    (sym (ap (λ (u : TransactionRecord). u.seat) e), ap work_in e, ap (λ (u : TransactionRecord). Some u.stamp) e))
+    (sym (ap (λ (u : TransactionRecord). u.seat) e), ap (λ (b : Bool). record w { is_mark = b }) unmarked ∙ ap work_in e, ap (λ (u : TransactionRecord). Some u.stamp) e))
     (λ (none : t ∈ []). absurd (none_in_nil t none))
     (∈-cons t (record_of seat w stamp succ pred) [] m)
-of_commit seat w (world.excluded stamp succ pred) t m = absurd (none_in_nil t m)
-of_commit seat w world.aborts t m = absurd (none_in_nil t m)
+of_commit seat w (world.excluded stamp succ pred) t unmarked m = absurd (none_in_nil t m)
+of_commit seat w world.aborts t unmarked m = absurd (none_in_nil t m)
+of_commit seat w (world.marked stamp safe) t marked m = absurd (none_in_nil t m)
 
 -- the commits of a session are transactions of it that are over
-of_session : (seat : ℕ) (over : List Finished) (t : TransactionRecord) → t ∈ committed_in seat over → IsOverWithStamp seat over t
-of_session seat [] t m = absurd (none_in_nil t m)
-of_session seat (f ∷ over) t m =
+of_session : (seat : ℕ) (over : List Finished) (t : TransactionRecord) → ((f : Finished) → f ∈ over → EndsAsMarked f.work f.fate) → t ∈ committed_in seat over → IsOverWithStamp seat over t
+of_session seat [] t ends m = absurd (none_in_nil t m)
+of_session seat (f ∷ over) t ends m =
     ⊎_elim
     (λ (here : t ∈ commit_of seat f.work f.fate).
-    let r = of_commit seat f.work f.fate t here in
+    let r = of_commit seat f.work f.fate t (ends f (∈-head f over)) here in
     record { seat_is = r.0; finished = f; stands = ∈-head f over; work_is = r.1; stamp_is = r.2 })
     (λ (later : t ∈ committed_in seat over).
-    let r = of_session seat over t later in
+    let r = of_session seat over t (λ g m. ends g (∈-behind f over g m)) later in
     record { seat_is = r.seat_is; finished = r.finished; stands = ∈-behind f over r.finished r.stands; work_is = r.work_is; stamp_is = r.stamp_is })
     (∈-either (commit_of seat f.work f.fate) (committed_in seat over) t m)
 
 -- those of all sessions are
-of_sessions : (n : ℕ) (session : ℕ → Session) (t : TransactionRecord) → t ∈ history_upto n session → (0 < t.seat) × (t.seat ≤ n) × IsOverWithStamp t.seat (session t.seat).over t
+of_sessions : (n : ℕ) (session : ℕ → Session) (t : TransactionRecord)
+    → ((seat : ℕ) (f : Finished) → 0 < seat → seat ≤ n → f ∈ (session seat).over → EndsAsMarked f.work f.fate) → t ∈ history_upto n session → (0 < t.seat) × (t.seat ≤ n) × IsOverWithStamp t.seat (session t.seat).over t
 unfolding history_upto
-of_sessions zero session t m = absurd (none_in_nil t m)
-of_sessions (suc n) session t m =
+of_sessions zero session t ends m = absurd (none_in_nil t m)
+of_sessions (suc n) session t ends m =
     ⊎_elim
     (λ (before : t ∈ history_upto n session).
-    let r = of_sessions n session t before in
+    let r = of_sessions n session t (λ seat f positive within. ends seat f positive (omega (arith, within))) before in
     (r.0, omega (arith, r.1), r.2))
     (λ (here : t ∈ committed_in (suc n) (session (suc n)).over).
-    let r = of_session (suc n) (session (suc n)).over t here in
+    let r = of_session (suc n) (session (suc n)).over t (λ f m. ends (suc n) f (omega arith) (omega arith) m) here in
     let e : t.seat ≡ suc n = r.seat_is in
     (omega (arith, e), omega (arith, e), subst (λ q. IsOverWithStamp q (session q).over t) (sym e) r))
     (∈-either (history_upto n session) (committed_in (suc n) (session (suc n)).over) t m)
@@ -68,9 +70,9 @@ pub record IsCommitted (v : View) (t : TransactionRecord) : Type 0 where
   pub stamped : HasStamp v t.seat (work_in t) t.stamp
   pub over : world.Has v t.seat (work_in t)
 
-pub of_history : (v : View) (t : TransactionRecord) → t ∈ history_of v → IsCommitted v t
-of_history v t m =
-    let r = of_sessions v.opening.sessions v.session t m in
+pub of_history : (law : Law) (v : View) → IsSerializable law v → (t : TransactionRecord) → t ∈ history_of v → IsCommitted v t
+of_history law v holds t m =
+    let r = of_sessions v.opening.sessions v.session t (λ seat f positive within m. holds.marked seat f (positive, within) m) m in
     record {
       session = (r.0, r.1);
       stamped = inl (r.2.finished, r.2.stands, r.2.work_is, r.2.stamp_is);
@@ -90,5 +92,5 @@ history_below_end law v holds =
   where
     low : (t : TransactionRecord) → t ∈ history_of v → t.stamp < v.tail + 1
     low t m =
-        let r = of_history v t m in
+        let r = of_history law v holds t m in
         omega (arith, (holds.stamps t.seat (work_in t) t.stamp r.session r.stamped).1)

@@ -40,7 +40,7 @@ module _ (law : Law) (v : View) (holds : IsSerializable law v) where
     kept : (t : TransactionRecord) → t ∈ order → IsKept law (below bound (history_of v)) v.opening.rows t
     kept t m =
         let there = in_below (history_of v) bound t (∈-permutation t order (below bound (history_of v)) (IsPermutation-sym (below bound (history_of v)) order runs.serial.same) m) in
-        let own : IsCommitted v t = of_history v t there.0 in
+        let own : IsCommitted v t = of_history law v holds t there.0 in
         let sealed = holds.stamps t.seat (work_in t) t.stamp own.session own.stamped in
         record {
           lawful = lawful_record law t (holds.lawful t.seat (work_in t) t.stamp own.session own.stamped);

@@ -30,12 +30,14 @@ module _ (bound x : ℕ) where
       (λ _. omega arith) (λ _. omega arith)
   within_one seat w (world.excluded stamp succ pred) = omega arith
   within_one seat w world.aborts = omega arith
+  within_one seat w (world.marked stamp safe) = omega arith
 
   -- of one whose stamp, if it has one, lies not below
   none_of_one : (seat : ℕ) (w : Work) (fate : Fate) → ((stamp : ℕ) → stamp_of fate ≡ Some stamp → bound ≤ stamp) → made_in_history (below bound (commit_of seat w fate)) x ≡ 0
   none_of_one seat w (world.commits stamp succ pred) above = rw (le-ltb stamp bound (above stamp refl)) refl
   none_of_one seat w (world.excluded stamp succ pred) above = refl
   none_of_one seat w world.aborts above = refl
+  none_of_one seat w (world.marked stamp safe) above = refl
 
   -- of a session
   within_over : (seat : ℕ) (over : List Finished) → made_in_history (below bound (committed_in seat over)) x ≤ made_over over x

@@ -25,7 +25,7 @@ module _ (v : View) (told : Told) (holds : IsSerializable sound_law v) (are_runs
     run_of : (t : TransactionRecord) → t ∈ order → WasRun (work_in t) (told t.seat t.number)
     run_of t m =
         let there = in_below (history_of v) bound t (∈-permutation t order (below bound (history_of v)) (IsPermutation-sym (below bound (history_of v)) order runs.serial.same) m) in
-        let own : IsCommitted v t = of_history v t there.0 in
+        let own : IsCommitted v t = of_history sound_law v holds t there.0 in
         are_runs.run t.seat (work_in t) t.stamp own.session own.stamped
 
     pub run_below : RunsAll (map_of_rows v.opening.rows) (map (λ (c : Committed). c.steps) (told_commits told order)) (map_of_rows (rows_after order v.opening.rows))

@@ -16,7 +16,7 @@ use Rattle.erm_model.specs.Spelling.{value_word}
 use Rattle.erm_model.specs.declared.map.Pair.{Pair}
 use Rattle.erm_model.specs.declared.operation.Reply.TheVariants as reply
 use Rattle.erm_report.specs.declared.answer.Answer.{Answer}
-use Rattle.erm_report.specs.declared.answer.Answer.TheVariants.{Began, Safe, Replied, Cut, Saved, Back, Sealed, Committed, Excluded, Aborted, Ended, Durable, Flushed, Empty, Checkpointed, NotIdle, NoTransaction, IsSealed, NotSealed, ReadOnly, NotSafe, LogEnd, NumbersEnd, WaitSeat, WaitRing, Unsafe, Owned, Newer, ExcludedEarly, ReadsFull, WritesFull, CellsFull, OidsFull, SavesFull, NoSave, NotFlushed, NoReceipt, Unfilled, DiskFault}
+use Rattle.erm_report.specs.declared.answer.Answer.TheVariants.{Began, Safe, Replied, Cut, Saved, Back, Sealed, Committed, Excluded, Aborted, Ended, Marked, Durable, Flushed, Empty, Checkpointed, NotIdle, NoTransaction, IsSealed, NotSealed, ReadOnly, NotSafe, LogEnd, NumbersEnd, WaitSeat, WaitRing, Unsafe, Owned, Newer, ExcludedEarly, ReadsFull, WritesFull, CellsFull, OidsFull, SavesFull, NoSave, NotFlushed, NoReceipt, Unfilled, DiskFault}
 use Rattle.erm_report.specs.declared.line.Line.{Line}
 use Rattle.erm_script.specs.declared.fault.FaultKind.{FaultKind}
 use Rattle.erm_script.specs.declared.fault.FaultKind.TheVariants as fault
@@ -148,6 +148,7 @@ answer_of word words =
     else if same word (codes "sealed") then Sealed (number_at words 0)
     else if same word (codes "committed") then Committed (number_at words 0) (number_at words 2) (number_at words 4)
     else if same word (codes "excluded") then excluded_in words
+    else if same word (codes "marked") then Marked (number_at words 0) (number_at words 2)
     else if same word (codes "wait") then wait_in (is_number (word_at words 0)) words
     else if same word (codes "not") then not_in words
     else counted_in word words
@@ -285,6 +286,10 @@ answer_in-answer_words (Excluded stamp succ pred) fits =
     let first = number_in-decimal stamp fits.0 in
     let second = number_in-decimal succ fits.1 in
     let third = number_in-decimal pred fits.2 in
+    cc
+answer_in-answer_words (Marked safe stamp) fits =
+    let first = number_in-decimal safe fits.0 in
+    let second = number_in-decimal stamp fits.1 in
     cc
 answer_in-answer_words (Durable stamp) fits = ap Durable (number_in-decimal stamp fits)
 answer_in-answer_words (Flushed stamp) fits = ap Flushed (number_in-decimal stamp fits)

@@ -12,7 +12,7 @@ use Rattle.hex.proofs.HexLemmas.{decode_of-ok, decode_of-encode_lower}
 use Rattle.erm_model.specs.Spelling.{value_word}
 use Rattle.erm_model.specs.declared.operation.Reply.TheVariants as reply
 use Rattle.erm_report.specs.declared.answer.Answer.{Answer}
-use Rattle.erm_report.specs.declared.answer.Answer.TheVariants.{Began, Safe, Replied, Cut, Saved, Back, Sealed, Committed, Excluded, Aborted, Ended, Durable, Flushed, Empty, Checkpointed, NotIdle, NoTransaction, IsSealed, NotSealed, ReadOnly, NotSafe, LogEnd, NumbersEnd, WaitSeat, WaitRing, Unsafe, Owned, Newer, ExcludedEarly, ReadsFull, WritesFull, CellsFull, OidsFull, SavesFull, NoSave, NotFlushed, NoReceipt, Unfilled, DiskFault}
+use Rattle.erm_report.specs.declared.answer.Answer.TheVariants.{Began, Safe, Replied, Cut, Saved, Back, Sealed, Committed, Excluded, Aborted, Ended, Marked, Durable, Flushed, Empty, Checkpointed, NotIdle, NoTransaction, IsSealed, NotSealed, ReadOnly, NotSafe, LogEnd, NumbersEnd, WaitSeat, WaitRing, Unsafe, Owned, Newer, ExcludedEarly, ReadsFull, WritesFull, CellsFull, OidsFull, SavesFull, NoSave, NotFlushed, NoReceipt, Unfilled, DiskFault}
 use Rattle.erm_report.specs.declared.line.Line.{Line}
 use Rattle.erm_script.specs.declared.fault.FaultKind.{FaultKind}
 use Rattle.erm_script.specs.declared.fault.FaultKind.TheVariants as fault
@@ -79,6 +79,7 @@ answer_words (Committed stamp succ pred) = codes "committed" ∷ decimal stamp �
 answer_words (Excluded stamp succ pred) = codes "excluded" ∷ codes "at" ∷ decimal stamp ∷ codes "succ" ∷ decimal succ ∷ codes "pred" ∷ decimal pred ∷ []
 answer_words Aborted = codes "aborted" ∷ []
 answer_words Ended = codes "ended" ∷ []
+answer_words (Marked safe stamp) = codes "marked" ∷ decimal safe ∷ codes "at" ∷ decimal stamp ∷ []
 answer_words (Durable stamp) = codes "durable" ∷ decimal stamp ∷ []
 answer_words (Flushed stamp) = codes "flushed" ∷ decimal stamp ∷ []
 answer_words (Empty stamp) = codes "empty" ∷ decimal stamp ∷ []
@@ -211,6 +212,9 @@ parts_at-answer_text (Committed stamp succ pred) fits = more (codes "committed")
 parts_at-answer_text (Excluded stamp succ pred) fits = more (codes "excluded") _ _ refl (more (codes "at") _ _ refl (parts_at-stamps_text stamp succ pred fits.0 fits.1 fits.2))
 parts_at-answer_text Aborted fits = last (codes "aborted") refl
 parts_at-answer_text Ended fits = last (codes "ended") refl
+parts_at-answer_text (Marked safe stamp) fits =
+    ap (λ rest. parts_at 32 (codes "marked " ++ rest)) (append_assoc (decimal safe) (codes " at ") (decimal stamp))
+    ∙ more (codes "marked") _ _ refl (more (decimal safe) _ _ (number safe fits.0) (more (codes "at") _ _ refl (last (decimal stamp) (number stamp fits.1))))
 parts_at-answer_text (Durable stamp) fits = more (codes "durable") _ _ refl (last (decimal stamp) (number stamp fits))
 parts_at-answer_text (Flushed stamp) fits = more (codes "flushed") _ _ refl (last (decimal stamp) (number stamp fits))
 parts_at-answer_text (Empty stamp) fits = more (codes "empty") _ _ refl (last (decimal stamp) (number stamp fits))
@@ -362,6 +366,7 @@ answer_end (Back n) fits = digits_end_32 n fits
 answer_end (Sealed stamp) fits = digits_end stamp fits
 answer_end (Committed stamp succ pred) fits = stamps_end stamp succ pred fits.0 fits.1 fits.2
 answer_end (Excluded stamp succ pred) fits = stamps_end stamp succ pred fits.0 fits.1 fits.2
+answer_end (Marked safe stamp) fits = three (decimal safe) (codes " at ") (decimal stamp) (digits_end safe fits.0) refl (digits_end stamp fits.1)
 answer_end (Durable stamp) fits = digits_end stamp fits
 answer_end (Flushed stamp) fits = digits_end stamp fits
 answer_end (Empty stamp) fits = digits_end stamp fits

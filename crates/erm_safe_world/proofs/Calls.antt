@@ -2,7 +2,7 @@
 use Rattle.std.proofs.Common.{◌≡◌, ℕ, ◌+◌, true, false, List, [], ◌∷◌, ◌++◌, length, take, inl, inr, refl, sym, ap, subst, arith}
 use Rattle.erm_model.specs.declared.history.VersionWritten.{VersionWritten}
 use Rattle.erm_model.specs.declared.outcome.Outcome.{Outcome}
-use Rattle.erm_model.specs.declared.outcome.Outcome.TheVariants.{Committed, Excluded}
+use Rattle.erm_model.specs.declared.outcome.Outcome.TheVariants.{Committed, Excluded, Marked}
 use Rattle.erm_model.specs.declared.outcome.Phase.TheVariants.{Active}
 use Rattle.erm_model.specs.declared.row_stop.RowStop.{RowStop}
 use Rattle.erm_model.specs.declared.row_stop.RowStop.TheVariants as stop
@@ -15,17 +15,17 @@ use Rattle.erm_world.specs.declared.stops.SaveStop.{SaveStop}
 use Rattle.erm_world.specs.declared.stops.SaveStop.TheVariants as save_stop
 use Rattle.erm_world.specs.Calls.{DidBegin, DidClaim, DidNotClaim, DidNotMake, DidNotRead, DidRead, DidSeal, DidSettle, DidWrite, MayNotBegin, Works}
 use Rattle.erm_world.specs.Calls as calls
-use Rattle.erm_world.specs.Safe.{DidBeginSafe, DidNotSafe, DidSafe, with_snapshot}
+use Rattle.erm_world.specs.Safe.{DidBeginSafe, DidNotSafe, DidSafe, with_snapshot, DidMark}
 use Rattle.erm_world.specs.Saves.{DidNotSave, DidSave, HasNoSave, WentBack, holding, restored, with_claims}
 use Rattle.erm_world.specs.Snapshots.{snapshot_not_active}
-use Rattle.erm_world.specs.World.{Finished, IsSession, IsWorking, Session, Snapshot, Stand, View, Work, begun, phase_at, phase_of, work_at, work_of}
+use Rattle.erm_world.specs.World.{Finished, IsSession, IsCurrent, Session, Snapshot, Stand, View, Work, begun, phase_at, phase_of, work_at, work_of, marking}
 use Rattle.erm_world.specs.World as world
 use Rattle.erm_world.specs.Works.{claiming, reading, setting}
 use Rattle.erm_safe_world.specs.Moves.{IsOfNow, MovesOn}
 use Rattle.erm_safe_world.proofs.Moved.{abort_moves, becomes_moves, done_moves, moves_nowhere, moves_then, one_moves, same_sessions_moves}
 
 -- an active session is at work with its transaction
-active_works : (s : Stand) → phase_of s ≡ Active → IsWorking s (work_of s)
+active_works : (s : Stand) → phase_of s ≡ Active → IsCurrent s (work_of s)
 active_works world.idle active = absurd (cc)
 active_works (world.active w) active = refl
 active_works (world.sealed w stamp) active = absurd (cc)
@@ -39,13 +39,13 @@ pub begin_moves : (v t : View) (seat begin : ℕ) → DidBegin v seat begin t �
 begin_moves v t seat begin did =
     let at = did.2 in
     becomes_moves v t seat (record { over = (v.session seat).over; stand = world.active (begun (length (v.session seat).over + 1) begin) }) did.3 refl
-    (λ w working. let same = ap (λ (x : Work). x.begin) working in inr (omega (arith, at, same)))
+    (λ session w working. let same = ap (λ (x : Work). x.begin) working in inr (omega (arith, at, same)))
 
 -- a transaction that goes on begins where it did
 pub works_moves : (v t : View) (seat : ℕ) (w : Work) → IsSession v seat → phase_at v seat ≡ Active → w.begin ≡ (work_at v seat).begin → Works v seat w t → MovesOn v t
 works_moves v t seat w session active same did =
     becomes_moves v t seat (record { over = (v.session seat).over; stand = world.active w }) did refl
-    (λ u working. subst (λ (x : Work). IsOfNow v x.begin) working (active_now v seat w.begin session active same))
+    (λ here u working. subst (λ (x : Work). IsOfNow v x.begin) working (active_now v seat w.begin session active same))
 
 pub read_moves : (v t : View) (seat oid : ℕ) (row : List ℕ) → IsSession v seat → phase_at v seat ≡ Active → DidRead v seat oid row t → MovesOn v t
 read_moves v t seat oid row session active (calls.own same claimed is) = moves_nowhere v t same
@@ -87,29 +87,48 @@ seal_moves v t seat stamp session active did =
     let tail = did.tail in
     one_moves v t seat did.others did.opening (omega (arith, tail))
     (λ f m. subst (λ (fs : List Finished). f ∈ fs) (sym over) m) (λ f m. inl (subst (λ (fs : List Finished). f ∈ fs) over m))
-    (λ w working.
-    let is : work_at v seat ≡ w = subst (λ (s : Session). IsWorking s.stand w) did.own working in
+    (λ here w working.
+    let is : work_at v seat ≡ w = subst (λ (s : Session). IsCurrent s.stand w) did.own working in
     subst (λ (x : Work). IsOfNow v x.begin) is (active_now v seat (work_at v seat).begin session active refl))
 
 -- SETTLE. What commits was at work.
 sealed_now : (v : View) (seat stamp : ℕ) (w : Work) → IsSession v seat → (v.session seat).stand ≡ world.sealed w stamp → IsOfNow v w.begin
-sealed_now v seat stamp w session stand = inl (seat, w, session, subst (λ (s : Stand). IsWorking s w) (sym stand) refl, refl)
+sealed_now v seat stamp w session stand = inl (seat, w, session, subst (λ (s : Stand). IsCurrent s w) (sym stand) refl, refl)
 
 pub settle_moves : (v t : View) (seat : ℕ) (outcome : Outcome) → IsSession v seat → DidSettle v seat outcome t → MovesOn v t
 settle_moves v t seat (Committed r) session did =
     done_moves v t seat did.0 (world.commits did.1 r.succ r.pred) did.4.0 (λ stamp succ pred is. sealed_now v seat did.1 did.0 session did.2)
 settle_moves v t seat (Excluded at succ pred) session did =
     done_moves v t seat did.0 (world.excluded did.1 succ pred) did.4.0 (λ stamp then_succ then_pred is. sealed_now v seat did.1 did.0 session did.2)
+settle_moves v t seat (Marked at named) session did = done_moves v t seat did.0 (world.marked did.1 did.0.begin) did.4.0 (λ stamp succ pred none. absurd (cc))
 
--- SNAPSHOTS. They are at work with nothing.
-snapshot_moves : (v t : View) (seat : ℕ) (s : Snapshot) → calls.Becomes v seat (with_snapshot v seat s) t → MovesOn v t
-snapshot_moves v t seat s did = becomes_moves v t seat (with_snapshot v seat s) did refl (λ w working. absurd working)
+-- SNAPSHOTS. One begins at the end of the log, and goes on with its begin stamp, also where it is sealed as a mark.
+snapshot_moves : (v t : View) (seat : ℕ) (s : Snapshot) → (IsSession v seat → IsOfNow v s.begin) → calls.Becomes v seat (with_snapshot v seat s) t → MovesOn v t
+snapshot_moves v t seat s now did =
+    becomes_moves v t seat (with_snapshot v seat s) did refl (λ session w current. subst (IsOfNow v) (ap (λ (x : Work). x.begin) current) (now session))
+
+pub snapshot_now : (v : View) (seat : ℕ) (s : Snapshot) → IsSession v seat → (v.session seat).stand ≡ world.snapshot s → IsOfNow v s.begin
+snapshot_now v seat s session stand = inl (seat, begun s.number s.begin, session, subst (λ (x : Stand). IsCurrent x (begun s.number s.begin)) (sym stand) refl, refl)
 
 pub begin_safe_moves : (v t : View) (seat begin : ℕ) → DidBeginSafe v seat begin t → MovesOn v t
-begin_safe_moves v t seat begin did = snapshot_moves v t seat _ did.3
+begin_safe_moves v t seat begin did =
+    let at = did.2 in
+    snapshot_moves v t seat (record { number = length (v.session seat).over + 1; begin = begin; is_safe = false }) (λ session. inr (omega (arith, at))) did.3
 
 pub safe_moves : (v t : View) (seat : ℕ) → DidSafe v seat t → MovesOn v t
-safe_moves v t seat did = let s : Snapshot = did.0 in snapshot_moves v t seat (record s { is_safe = true }) did.2
+safe_moves v t seat did =
+    let s : Snapshot = did.0 in snapshot_moves v t seat (record s { is_safe = true }) (λ session. snapshot_now v seat s session did.1) did.2
+
+pub mark_moves : (v t : View) (seat stamp : ℕ) → DidMark v seat stamp t → MovesOn v t
+mark_moves v t seat stamp did =
+    let seals = did.seals in
+    let over : (t.session seat).over ≡ (v.session seat).over = ap (λ (s : Session). s.over) seals.own in
+    let tail = seals.tail in
+    one_moves v t seat seals.others seals.opening (omega (arith, tail))
+    (λ f m. subst (λ (fs : List Finished). f ∈ fs) (sym over) m) (λ f m. inl (subst (λ (fs : List Finished). f ∈ fs) over m))
+    (λ session w current.
+    let is : marking did.snapshot ≡ w = subst (λ (s : Session). IsCurrent s.stand w) seals.own current in
+    subst (IsOfNow v) (ap (λ (x : Work). x.begin) is) (snapshot_now v seat did.snapshot session did.stands))
 
 -- REFUSALS. The view stays, or the transaction is over.
 pub not_begun_moves : (v t : View) (seat : ℕ) (why : BeginStop) → MayNotBegin v seat why t → MovesOn v t

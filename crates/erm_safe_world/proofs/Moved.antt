@@ -6,7 +6,7 @@ use Rattle.erm_model.specs.Member.{◌∈◌}
 use Rattle.erm_model.proofs.Members.{∈-push}
 use Rattle.erm_world.specs.Calls.{Becomes, IsDone}
 use Rattle.erm_world.specs.Laws.{IsCommitOf}
-use Rattle.erm_world.specs.World.{Fate, Finished, IsSession, IsWorking, Opening, Session, View, Work, history_of}
+use Rattle.erm_world.specs.World.{Fate, Finished, IsSession, IsCurrent, Opening, Session, View, Work, history_of}
 use Rattle.erm_world.specs.World as world
 use Rattle.erm_world.specs.Whole.{KeepsSessions}
 use Rattle.erm_world.proofs.Commits.{tells_commits}
@@ -37,7 +37,7 @@ session_after v t seat opening session = subst (λ (o : Opening). (0 < seat) × 
 now_before : (v t : View) (begin : ℕ) → MovesOn v t → IsOfNow t begin → IsOfNow v begin
 now_before v t begin moves now =
     ⊎_elim
-    (λ (one : (seat : ℕ) × (w : Work) × IsSession t seat × IsWorking (t.session seat).stand w × (w.begin ≡ begin)).
+    (λ (one : (seat : ℕ) × (w : Work) × IsSession t seat × IsCurrent (t.session seat).stand w × (w.begin ≡ begin)).
     subst (IsOfNow v) one.4 (moves.works one.0 one.1 (session_before v t one.0 moves.opening one.2) one.3))
     (λ (later : t.tail ≤ begin). let up = moves.tail in inr (omega (arith, up, later)))
     now
@@ -76,7 +76,7 @@ same_sessions_moves v t opening tail same = record {
   tail = omega (arith, tail);
   kept = keeps_commit v t opening same;
   commits = λ r m. inl (keeps_commit t v (sym opening) (λ q session. sym (same q (session_before v t q opening session))) r m);
-  works = λ seat w session working. inl (seat, w, session, subst (λ (s : Session). IsWorking s.stand w) (same seat session) working, refl);
+  works = λ seat w session working. inl (seat, w, session, subst (λ (s : Session). IsCurrent s.stand w) (same seat session) working, refl);
 }
 
 pub keeps_moves : (v t : View) → KeepsSessions v t → MovesOn v t
@@ -89,7 +89,7 @@ IsCommitNow v f = (stamp succ pred : ℕ) → f.fate ≡ world.commits stamp suc
 module _ (v t : View) (seat : ℕ) (others : (q : ℕ) → q ≢ seat → t.session q ≡ v.session q) (opening : t.opening ≡ v.opening) (tail : v.tail ≤ t.tail)
     (before : (f : Finished) → f ∈ (v.session seat).over → f ∈ (t.session seat).over)
     (over : (f : Finished) → f ∈ (t.session seat).over → (f ∈ (v.session seat).over) ⊎ IsCommitNow v f)
-    (stand : (w : Work) → IsWorking (t.session seat).stand w → IsOfNow v w.begin) where
+    (stand : IsSession v seat → (w : Work) → IsCurrent (t.session seat).stand w → IsOfNow v w.begin) where
   -- a commit of the one session
   own_commit : (r : TransactionRecord) (c : IsCommitOf t r) → c.seat ≡ seat → (r ∈ history_of v) ⊎ IsOfNow v r.begin
   own_commit r c here =
@@ -146,11 +146,11 @@ module _ (v t : View) (seat : ℕ) (others : (q : ℕ) → q ≢ seat → t.sess
         is = c.is;
       })
 
-  works_now : (q : ℕ) (w : Work) → IsSession v q → IsWorking (t.session q).stand w → IsOfNow v w.begin
+  works_now : (q : ℕ) (w : Work) → IsSession v q → IsCurrent (t.session q).stand w → IsOfNow v w.begin
   works_now q w session working =
       ⊎_elim
-      (λ (here : q ≡ seat). stand w (subst (λ (n : ℕ). IsWorking (t.session n).stand w) here working))
-      (λ (there : q ≡ seat → ⊥). inl (q, w, session, subst (λ (s : Session). IsWorking s.stand w) (others q there) working, refl))
+      (λ (here : q ≡ seat). stand (subst (IsSession v) here session) w (subst (λ (n : ℕ). IsCurrent (t.session n).stand w) here working))
+      (λ (there : q ≡ seat → ⊥). inl (q, w, session, subst (λ (s : Session). IsCurrent s.stand w) (others q there) working, refl))
       (cases_eq q seat)
 
   pub one_moves : MovesOn v t
@@ -165,13 +165,13 @@ module _ (v t : View) (seat : ℕ) (others : (q : ℕ) → q ≢ seat → t.sess
   }
 
 -- it goes on, with the transactions that were over
-pub becomes_moves : (v t : View) (seat : ℕ) (s : Session) → Becomes v seat s t → s.over ≡ (v.session seat).over → ((w : Work) → IsWorking s.stand w → IsOfNow v w.begin) → MovesOn v t
+pub becomes_moves : (v t : View) (seat : ℕ) (s : Session) → Becomes v seat s t → s.over ≡ (v.session seat).over → (IsSession v seat → (w : Work) → IsCurrent s.stand w → IsOfNow v w.begin) → MovesOn v t
 becomes_moves v t seat s did same stand =
     let over : (t.session seat).over ≡ (v.session seat).over = ap (λ (r : Session). r.over) did.own ∙ same in
     let tail = did.tail in
     one_moves v t seat did.others did.opening (omega (arith, tail))
     (λ f m. subst (λ (fs : List Finished). f ∈ fs) (sym over) m) (λ f m. inl (subst (λ (fs : List Finished). f ∈ fs) over m))
-    (λ w working. stand w (subst (λ (r : Session). IsWorking r.stand w) did.own working))
+    (λ session w working. stand session w (subst (λ (r : Session). IsCurrent r.stand w) did.own working))
 
 -- its transaction is over, and commits only if it is one of now
 pub done_moves : (v t : View) (seat : ℕ) (w : Work) (fate : Fate) → IsDone v seat w fate t → IsCommitNow v (record { work = w; fate = fate }) → MovesOn v t
@@ -186,7 +186,7 @@ done_moves v t seat w fate did now =
     (λ (was : g ∈ (v.session seat).over). inl was)
     (λ (is : g ≡ f). inr (subst (IsCommitNow v) (sym is) now))
     (∈-push (v.session seat).over f g (subst (λ (fs : List Finished). g ∈ fs) over m)))
-    (λ u working. absurd (subst (λ (r : Session). IsWorking r.stand u) did.own working))
+    (λ session u working. absurd (subst (λ (r : Session). IsCurrent r.stand u) did.own working))
 
 -- one that aborts commits nothing
 pub abort_moves : (v t : View) (seat : ℕ) (w : Work) → IsDone v seat w world.aborts t → MovesOn v t

@@ -5,14 +5,14 @@ use Rattle.erm_model.specs.History.{History, IsNewestBelow, IsSnapshot, IsVersio
 use Rattle.erm_model.specs.Member.{◌∈◌}
 use Rattle.erm_model.specs.Rows.{Rows}
 use Rattle.erm_world.specs.Safe.{IsSafeIn}
-use Rattle.erm_world.specs.World.{IsSession, IsWorking, Opening, View, Work, history_of}
+use Rattle.erm_world.specs.World.{IsSession, IsCurrent, Opening, View, Work, history_of}
 use Rattle.erm_safe_world.specs.Moves.{IsOfNow, MovesOn}
 
 -- whoever is at work, or begins later, begins at a safe stamp or behind
 now_late : (v : View) (b begin : ℕ) → IsSafeIn v b → IsOfNow v begin → b ≤ begin
 now_late v b begin safe now =
     ⊎_elim
-    (λ (one : (seat : ℕ) × (w : Work) × IsSession v seat × IsWorking (v.session seat).stand w × (w.begin ≡ begin)).
+    (λ (one : (seat : ℕ) × (w : Work) × IsSession v seat × IsCurrent (v.session seat).stand w × (w.begin ≡ begin)).
     let late = safe.begins one.0 one.1 one.2 one.3 in let same = one.4 in omega (arith, late, same))
     (λ (later : v.tail ≤ begin). let past = safe.past in omega (arith, past, later))
     now

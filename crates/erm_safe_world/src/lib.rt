@@ -34,7 +34,7 @@ pub fn calls_move_on()
     ensures settles { (v t : View) (seat : ℕ) (outcome : Outcome) → IsSession v seat → DidSettle v seat outcome t → MovesOn v t }
     ensures aborts { (v t : View) (seat : ℕ) → DidAbort v seat t → MovesOn v t }
     ensures begins_safe { (v t : View) (seat begin : ℕ) → DidBeginSafe v seat begin t → MovesOn v t }
-    ensures marks { (v t : View) (seat stamp : ℕ) → IsSession v seat → DidMark v seat stamp t → MovesOn v t }
+    ensures marks { (v t : View) (seat stamp : ℕ) → DidMark v seat stamp t → MovesOn v t }
     ensures is_safe { (v t : View) (seat : ℕ) → DidSafe v seat t → MovesOn v t }
     ensures flushes { (v t : View) → KeepsSessions v t → MovesOn v t }
 {}

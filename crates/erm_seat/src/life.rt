@@ -238,7 +238,7 @@ impl SeatState {
                     return false;
                 }
                 self.place = Place::Sealing { tail };
-                self.current.is_mark |= is_safe(self.task);
+                self.current.is_mark = is_safe(self.task) || self.current.is_mark;
                 self.task = Task::Rest;
                 true
             }

@@ -53,10 +53,10 @@ module _ (laws : HistoryLaws) (v : View) (sessions : ℕ) (said : List Said) (ho
 
   -- the rows on which a commit began
   began : (r : TransactionRecord) → r ∈ history_of v → RowsBelow v r.begin
-  began r within = let own = of_history v r within in below_at r.begin (begins_above sound_law v holds r.seat (work_in r) own.session own.over)
+  began r within = let own = of_history sound_law v holds r within in below_at r.begin (begins_above sound_law v holds r.seat (work_in r) own.session own.over)
 
   fits_at : (r : TransactionRecord) (within : r ∈ history_of v) → FitsWork sound_law (work_in r) (began r within).rows
-  fits_at r within = let own = of_history v r within in (began r within).fits r.seat (work_in r) own.session own.over refl
+  fits_at r within = let own = of_history sound_law v holds r within in (began r within).fits r.seat (work_in r) own.session own.over refl
 
   module _ (table key : ℕ) (u : TransactionRecord) (u_in : u ∈ history_of v) (put : Puts (work_in u) table key) where
     abbrev x : ℕ

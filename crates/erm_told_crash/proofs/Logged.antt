@@ -75,7 +75,7 @@ module _ (v : View) (lawful : IsSerializable sound_law v) (apart : StandApart v)
 
   commit_within : (u : TransactionRecord) → u ∈ history_of v → (log.opened.at ≤ u.stamp) × (u.stamp < log.tail)
   commit_within u m =
-      let own : IsCommitted v u = of_history v u m in
+      let own : IsCommitted v u = of_history sound_law v lawful u m in
       let begins = lawful.begins u.seat (work_in u) own.session own.over in
       let stamps = lawful.stamps u.seat (work_in u) u.stamp own.session own.stamped in
       (omega (arith, of.at, begins.0, stamps.0), omega (arith, of.tail, stamps.1))

@@ -39,7 +39,7 @@ module _ (v : View) (holds : IsSerializable sound_law v) (ranges : StandApart v)
       version = inl (refl, refl);
       below = holds.opened;
       newest = λ u m makes less.
-          let own : IsCommitted v u = of_history v u m in
+          let own : IsCommitted v u = of_history sound_law v holds u m in
           let begins = holds.begins u.seat (work_in u) own.session own.over in
           let stamps = holds.stamps u.seat (work_in u) u.stamp own.session own.stamped in
           absurd (omega (arith, begins.0, stamps.0, less));
@@ -50,7 +50,7 @@ module _ (v : View) (holds : IsSerializable sound_law v) (ranges : StandApart v)
   pub none_behind : (seat : ℕ) (w : Work) (stamp : ℕ) → IsSession v seat → HasStamp v seat w stamp → (u : TransactionRecord) → u ∈ history_of v
       → u.stamp < stamp + size_of w → u.stamp ≤ stamp
   none_behind seat w stamp session has u m less =
-      let own : IsCommitted v u = of_history v u m in
+      let own : IsCommitted v u = of_history sound_law v holds u m in
       ⊎_elim
       (λ (above : stamp < u.stamp). absurd (omega (arith, less, ranges.apart seat u.seat w (work_in u) stamp u.stamp session own.session has own.stamped above)))
       (λ (most : u.stamp ≤ stamp). most)

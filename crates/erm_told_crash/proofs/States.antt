@@ -102,7 +102,7 @@ state_as commits others opening m bound s r same_commits same_map same_state sta
 -- all commits have their stamps below the end of the log
 below_end : (v : View) → IsSerializable sound_law v → (bound : ℕ) → bound ≡ v.tail → AllBelow bound (world.history_of v)
 below_end v holds bound is u m =
-    let own : IsCommitted v u = of_history v u m in
+    let own : IsCommitted v u = of_history sound_law v holds u m in
     omega (arith, (holds.stamps u.seat (work_in u) u.stamp own.session own.stamped).1, is)
 
 -- the same state, of commits in the same order

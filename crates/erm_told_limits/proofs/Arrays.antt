@@ -80,7 +80,7 @@ module _ (rows_below : HaveRowsBelow) (t : View) (holds : IsSerializable sound_l
       let lawful : (r : TransactionRecord) → r ∈ order → IsLawfulRecord sound_law r =
       λ r m.
       let there = in_below (history_of t) u.begin r (∈-permutation r order part (IsPermutation-sym part order found.runs.serial.same) m) in
-      let own = of_history t r there.0 in
+      let own = of_history sound_law t holds r there.0 in
       lawful_record sound_law r (holds.lawful r.seat (work_in r) r.stamp own.session own.stamped)
       in
       let most : reached (rows_after order t.opening.rows) x ≤ reached t.opening.rows x + made_in_history order x =

@@ -21,11 +21,13 @@ stamp_is : (fate : Fate) (at last : ℕ) → HasStamps fate at last → stamp_of
 stamp_is (world.commits stamp succ pred) at last has = ap (λ (n : ℕ). Some n) (sym has.0)
 stamp_is (world.excluded stamp succ pred) at last has = ap (λ (n : ℕ). Some n) (sym has.0)
 stamp_is world.aborts at last has = absurd has
+stamp_is (world.marked stamp safe) at last has = ap (λ (n : ℕ). Some n) (sym has.0)
 
 same_succ : (fate : Fate) (at bt last end : ℕ) → HasStamps fate at last → HasStamps fate bt end → last ≡ end
 same_succ (world.commits stamp succ pred) at bt last end one other = one.1 ∙ sym other.1
 same_succ (world.excluded stamp succ pred) at bt last end one other = one.1 ∙ sym other.1
 same_succ world.aborts at bt last end one other = absurd one
+same_succ (world.marked stamp safe) at bt last end one other = one.1 ∙ sym other.1
 
 same_rows : (a b : Block) → a.rows.items ≡ b.rows.items → a.rows ≡ b.rows
 same_rows a b same = ap (λ (items : List Entry). record a.rows { items = items }) same

@@ -28,6 +28,7 @@ commits_first seat w (world.commits stamp succ pred) over t within =
     (w, stamp, succ, pred, (0, refl), in_one (record_of seat w stamp succ pred) t within)
 commits_first seat w (world.excluded stamp succ pred) over t within = absurd (none_in_nil t within)
 commits_first seat w world.aborts over t within = absurd (none_in_nil t within)
+commits_first seat w (world.marked stamp safe) over t within = absurd (none_in_nil t within)
 
 commits_later : (seat : ℕ) (f : Finished) (over : List Finished) (t : TransactionRecord) → Commits seat over t → Commits seat (f ∷ over) t
 commits_later seat f over t (w, stamp, succ, pred, within, is) = (w, stamp, succ, pred, (suc within.0, within.1), is)

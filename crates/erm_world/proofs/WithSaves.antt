@@ -7,7 +7,7 @@ use Rattle.erm_model.specs.declared.history.VersionRead.{VersionRead}
 use Rattle.erm_model.specs.declared.history.VersionWritten.{VersionWritten}
 use Rattle.erm_model.specs.declared.limits.TheConstants.{SAVES}
 use Rattle.erm_model.specs.declared.outcome.Outcome.{Outcome}
-use Rattle.erm_model.specs.declared.outcome.Outcome.TheVariants.{Committed, Excluded}
+use Rattle.erm_model.specs.declared.outcome.Outcome.TheVariants.{Committed, Excluded, Marked}
 use Rattle.erm_model.specs.declared.outcome.Phase.TheVariants.{Active}
 use Rattle.erm_model.specs.declared.row_stop.RowStop.{RowStop}
 use Rattle.erm_model.specs.declared.row_stop.RowStop.TheVariants as stop
@@ -19,16 +19,16 @@ use Rattle.erm_world.specs.declared.stops.SafeStop.{SafeStop}
 use Rattle.erm_world.specs.declared.stops.SafeStop.TheVariants as safe
 use Rattle.erm_world.specs.declared.stops.Wait.{Wait}
 use Rattle.erm_world.specs.declared.stops.Wait.TheVariants as wait
-use Rattle.erm_world.specs.Calls.{Becomes, DidAbort, DidBegin, DidClaim, DidMake, DidNotClaim, DidNotMake, DidNotRead, DidNotSettle, DidRead, DidSeal, DidSettle, DidWrite, HasNoNewer, IsAhead, IsClaimReady, IsDone, IsInTheWay, IsNewer, IsOwned, IsReadReady, IsSealedBelow, IsShut, IsUnowned, KeepsOwnSaves, MayHaveRead, MayNotBegin, MayOverwrite, Settled, Waits, Works}
+use Rattle.erm_world.specs.Calls.{Becomes, DidAbort, DidBegin, DidClaim, DidMake, DidNotClaim, DidNotMake, DidNotRead, DidNotSettle, DidRead, DidSeal, DidSettle, DidWrite, HasNoNewer, IsAhead, IsClaimReady, IsDone, IsInTheWay, IsNewer, IsOwned, IsReadReady, IsSealedBelow, IsShut, IsUnowned, KeepsOwnSaves, MayHaveRead, MayNotBegin, MayOverwrite, Settled, Waits, Works, Seals}
 use Rattle.erm_world.specs.Calls as calls
 use Rattle.erm_world.specs.Laws.{IsSerializable, SeesSnapshot}
 use Rattle.erm_world.specs.Log.{Log, Undecided}
 use Rattle.erm_world.specs.Safe as snapshots
-use Rattle.erm_world.specs.Safe.{DidBeginSafe, DidNotSafe, DidSafe, HasSafeStamps, IsBefore, IsSafeIn, with_snapshot}
+use Rattle.erm_world.specs.Safe.{DidBeginSafe, DidNotSafe, DidSafe, HasSafeStamps, IsBefore, IsSafeIn, with_snapshot, DidMark}
 use Rattle.erm_world.specs.Saves.{AreSavesOf, DidSave, WentBack, holding, restored, with_claims, with_saves}
 use Rattle.erm_world.specs.Snapshots.{snapshot_not_active}
 use Rattle.erm_world.specs.Whole.{IsBlockOf, IsLogOf, IsSealedAt, KeepsSessions}
-use Rattle.erm_world.specs.World.{Fate, IsSession, Session, Snapshot, Stand, View, Work, begun, phase_at, phase_of, work_at}
+use Rattle.erm_world.specs.World.{Fate, IsSession, Session, Snapshot, Stand, View, Work, begun, phase_at, phase_of, work_at, marking}
 use Rattle.erm_world.specs.World as world
 use Rattle.erm_world.proofs.Saves.{same_by}
 
@@ -216,8 +216,8 @@ module _ (f : ℕ → List (List VersionWritten)) where
   }
 
   -- SEAL, SETTLE, ABORT
-  pub did_seal : (v t : View) (seat stamp : ℕ) → DidSeal v seat stamp t → DidSeal (saved v) seat stamp (saved t)
-  did_seal v t seat stamp did = record {
+  seals : (v t : View) (seat : ℕ) (w : Work) (stamp : ℕ) → Seals v seat w stamp t → Seals (saved v) seat w stamp (saved t)
+  seals v t seat w stamp did = record {
     stamp_is = did.stamp_is;
     own = did.own;
     others = did.others;
@@ -229,6 +229,9 @@ module _ (f : ℕ → List (List VersionWritten)) where
     given_up = did.given_up;
     saves = λ q another. refl;
   }
+
+  pub did_seal : (v t : View) (seat stamp : ℕ) → DidSeal v seat stamp t → DidSeal (saved v) seat stamp (saved t)
+  did_seal v t seat stamp did = seals v t seat (work_at v seat) stamp did
 
   sealed : (v : View) (seat bound other seen : ℕ) (w : Work) → IsSealedBelow v seat bound other seen w → IsSealedBelow (saved v) seat bound other seen w
   sealed v seat bound other seen w is = record { session = is.session; another = is.another; stand = is.stand; below = is.below }
@@ -290,8 +293,9 @@ module _ (f : ℕ → List (List VersionWritten)) where
       (reader v seat bound c other seen may)
 
   settled : (v t : View) (seat : ℕ) (w : Work) (stamp : ℕ) (outcome : Outcome) → Settled v seat w stamp outcome t → Settled (saved v) seat w stamp outcome (saved t)
-  settled v t seat w stamp (Committed r) did = (done v t seat _ _ did.0, did.1, did.2, did.3, did.4, did.5, did.6)
-  settled v t seat w stamp (Excluded at succ pred) did = (done v t seat _ _ did.0, did.1, did.2, did.3, did.4)
+  settled v t seat w stamp (Committed r) did = (done v t seat _ _ did.0, did.1, did.2, did.3, did.4, did.5, did.6, did.7)
+  settled v t seat w stamp (Excluded at succ pred) did = (done v t seat _ _ did.0, did.1, did.2, did.3, did.4, did.5)
+  settled v t seat w stamp (Marked at named) did = (done v t seat _ _ did.0, did.1, did.2, did.3)
 
   pub did_settle : (v t : View) (seat : ℕ) (outcome : Outcome) → DidSettle v seat outcome t → DidSettle (saved v) seat outcome (saved t)
   did_settle v t seat outcome did = (
@@ -332,6 +336,9 @@ module _ (f : ℕ → List (List VersionWritten)) where
     once = is.once;
     saves = are;
     few_saves = few;
+    unmarked = is.unmarked;
+    marks = is.marks;
+    marked = is.marked;
     opening_meets = is.opening_meets;
     opening_reach = is.opening_reach;
     lawful = is.lawful;
@@ -387,6 +394,9 @@ module _ (f : ℕ → List (List VersionWritten)) where
 
   pub did_safe : (v t : View) (seat : ℕ) → DidSafe v seat t → DidSafe (saved v) seat (saved t)
   did_safe v t seat did = (did.0, did.1, watched v t seat (record did.0 { is_safe = true }) did.2, safe_in t _ did.3)
+
+  pub did_mark : (v t : View) (seat stamp : ℕ) → DidMark v seat stamp t → DidMark (saved v) seat stamp (saved t)
+  did_mark v t seat stamp did = record { snapshot = did.snapshot; stands = did.stands; safe = did.safe; seals = seals v t seat (marking did.snapshot) stamp did.seals }
 
   before : (v : View) (seat bound other seen : ℕ) → IsBefore v seat bound other seen → IsBefore (saved v) seat bound other seen
   before v seat bound other seen is = record { session = is.session; another = is.another; work = is.work; current = is.current; positive = is.positive; at_most = is.at_most; below = is.below }

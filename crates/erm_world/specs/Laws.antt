@@ -11,8 +11,13 @@ use Rattle.erm_model.specs.Member.{◌∈◌}
 use Rattle.erm_model.specs.RowTransaction.{Law}
 use Rattle.erm_model.specs.Rows.{Rows}
 use Rattle.erm_world.specs.Saves.{AreSavesOf, OnceOf}
-use Rattle.erm_world.specs.World.{Finished, Has, HasStamp, IsSession, Session, View, Work, bare, begun, history_of, made_by_all, phase_at, record_of, work_at}
+use Rattle.erm_world.specs.World.{Finished, Has, HasStamp, IsSession, Session, View, Work, bare, begun, history_of, made_by_all, phase_at, record_of, work_at, Fate}
 use Rattle.erm_world.specs.World as world
+
+-- a transaction that ended so is no mark; or it is a mark, which names its begin stamp
+abbrev pub EndsAsMarked : Work → Fate → Type 0
+EndsAsMarked w (world.marked stamp safe) = (w.is_mark ≡ true) × (safe ≡ w.begin)
+EndsAsMarked w fate = w.is_mark ≡ false
 
 -- an array of rows on which a transaction may have begun
 abbrev pub FitsWork : Law → Work → Rows → Type 0
@@ -57,11 +62,10 @@ pub record IsSerializable (law : Law) (v : View) : Type 0 where
   pub once : (seat : ℕ) → IsSession v seat → OnceOf (work_at v seat).claims
   pub saves : (seat : ℕ) (w : Work) → IsSession v seat → (v.session seat).stand ≡ world.active w → AreSavesOf w (v.saves seat)
   pub few_saves : (seat : ℕ) → IsSession v seat → phase_at v seat ≡ Active → length (v.saves seat) ≤ SAVES
-  -- an active transaction is no mark; a mark has read, claimed and made nothing, and one that is over ended as one
+  -- an active transaction is no mark; a mark has read, claimed and made nothing; and just marks end as marks
   pub unmarked : (seat : ℕ) (w : Work) → IsSession v seat → (v.session seat).stand ≡ world.active w → w.is_mark ≡ false
   pub marks : (seat : ℕ) (w : Work) → IsSession v seat → Has v seat w → w.is_mark ≡ true → w ≡ record (begun w.number w.begin) { is_mark = true }
-  pub marked : (seat : ℕ) (f : Finished) (stamp safe : ℕ) → IsSession v seat → f ∈ (v.session seat).over → f.fate ≡ world.marked stamp safe
-      → (f.work.is_mark ≡ true) × (safe ≡ f.work.begin)
+  pub marked : (seat : ℕ) (f : Finished) → IsSession v seat → f ∈ (v.session seat).over → EndsAsMarked f.work f.fate
   -- the law of rows: the opening's rows meet it, and reach no object that may be made; sealed transactions keep it
   pub opening_meets : law.meets v.opening.rows
   pub opening_reach : (x : ℕ) → v.opening.first ≤ x → law.reach v.opening.rows x ≡ 0

@@ -1,7 +1,7 @@
 use Rattle.std.proofs.Common.{refl}
 use Rattle.erm_world.specs.World.{work_at}
 use Rattle.erm_world.specs.Works.{making}
-use Rattle.erm_safe_world.proofs.Calls.{back_moves, begin_moves, begin_safe_moves, claim_moves, read_moves, safe_moves, save_moves, seal_moves, settle_moves, works_moves, write_moves}
+use Rattle.erm_safe_world.proofs.Calls.{back_moves, begin_moves, begin_safe_moves, claim_moves, mark_moves, read_moves, safe_moves, save_moves, seal_moves, settle_moves, works_moves, write_moves}
 use Rattle.erm_safe_world.proofs.Moved.{abort_moves, keeps_moves, moves_nowhere, moves_then}
 use Rattle.erm_safe_world.proofs.calls_move_on.Goals as goal
 
@@ -43,6 +43,9 @@ returns-clause-aborts c v t seat did = abort_moves v t seat (work_at v seat) did
 
 pub returns-clause-begins_safe : goal.returns-clause-begins_safe
 returns-clause-begins_safe c v t seat begin did = begin_safe_moves v t seat begin did
+
+pub returns-clause-marks : goal.returns-clause-marks
+returns-clause-marks c v t seat stamp did = mark_moves v t seat stamp did
 
 pub returns-clause-is_safe : goal.returns-clause-is_safe
 returns-clause-is_safe c v t seat did = safe_moves v t seat did

@@ -27,6 +27,7 @@ returns c =
       settles = on.settles;
       not_settled = refused.settles;
       aborts = on.aborts;
+      marks = on.marks;
       is_safe = on.is_safe;
       not_safe = refused.safe;
       safe_stays = c.safe_stamps_stay_safe.ensures;
