@@ -6,7 +6,7 @@ use Rattle.erm_model.specs.History.{History}
 use Rattle.erm_machine.specs.declared.limits.TheConstants.{ANNOUNCERS, FLUSH_SEAT}
 use Rattle.erm_machine.specs.declared.attempt.Attempt.{Attempt}
 use Rattle.erm_machine.specs.declared.attempt.Decision.{Decision}
-use Rattle.erm_machine.specs.declared.attempt.Decision.TheVariants.{Undecided, Commit, Skip, Abort}
+use Rattle.erm_machine.specs.declared.attempt.Decision.TheVariants.{Undecided, Commit, Skip, Abort, Mark}
 use Rattle.erm_machine.specs.declared.part.Part.{Part}
 use Rattle.erm_machine.specs.declared.place.Place.{Place}
 use Rattle.erm_machine.specs.declared.place.Place.TheVariants.{Vacant, Idle, Begun, Announced, Active, Sealed}
@@ -45,6 +45,7 @@ one_more q Commit t rest kept e = ap (λ (h : History). record_of q t ∷ h) e
 one_more q Skip t rest kept e = e
 one_more q Abort t rest kept e = e
 one_more q Undecided t rest kept e = e
+one_more q Mark t rest kept e = e
 
 over_commits : (q : ℕ) (ts : List Attempt) → committed_in q (map finished_of ts) ≡ map (record_of q) (filter (λ (t : Attempt). is_commit t.decision) ts)
 over_commits q [] = refl

@@ -8,6 +8,7 @@ pub mod Ends
 pub mod Lives
 pub mod Looks
 pub mod Made
+pub mod Marks
 pub mod Moved
 pub mod Onces
 pub mod Parts

@@ -4,7 +4,7 @@ use Rattle.std.proofs.lemmas.Option.{same_Some}
 use Rattle.erm_model.specs.Member.{◌∈◌}
 use Rattle.erm_machine.specs.declared.attempt.Attempt.{Attempt}
 use Rattle.erm_machine.specs.declared.attempt.Decision.{Decision}
-use Rattle.erm_machine.specs.declared.attempt.Decision.TheVariants.{Undecided, Commit, Skip, Abort}
+use Rattle.erm_machine.specs.declared.attempt.Decision.TheVariants.{Undecided, Commit, Skip, Abort, Mark}
 use Rattle.erm_machine.specs.declared.part.Part.{Part}
 use Rattle.erm_machine.specs.declared.place.Place.{Place}
 use Rattle.erm_machine.specs.declared.place.Place.TheVariants.{Active, Sealed}
@@ -66,10 +66,11 @@ pub record IsStamped (x : Part) (w : Work) (stamp : ℕ) : Type 0 where
   pub stamp_is : attempt.stamp ≡ stamp
   pub drawn : 0 < attempt.stamp
 
--- one with a stamp is a commit or excluded
-pub fate_stamp : (d : Decision) (t : Attempt) (stamp : ℕ) → stamp_of (fate_of d t) ≡ Some stamp → (t.stamp ≡ stamp) × ((d ≡ Commit) ⊎ (d ≡ Skip))
-fate_stamp Commit t stamp e = (same_Some t.stamp stamp e, inl refl)
-fate_stamp Skip t stamp e = (same_Some t.stamp stamp e, inr refl)
+-- one with a stamp didn't abort
+pub fate_stamp : (d : Decision) (t : Attempt) (stamp : ℕ) → stamp_of (fate_of d t) ≡ Some stamp → (t.stamp ≡ stamp) × (d ≢ Abort)
+fate_stamp Commit t stamp e = (same_Some t.stamp stamp e, λ (abort : Commit ≡ Abort). cc)
+fate_stamp Skip t stamp e = (same_Some t.stamp stamp e, λ (abort : Skip ≡ Abort). cc)
+fate_stamp Mark t stamp e = (same_Some t.stamp stamp e, λ (abort : Mark ≡ Abort). cc)
 fate_stamp Abort t stamp e = absurd (cc)
 fate_stamp Undecided t stamp e = absurd (cc)
 
@@ -81,9 +82,6 @@ sealed_stamp (Sealed tail drawn) u t w stamp e current =
     let same : drawn ≡ stamp = cc in
     (work, current.stamp_is ∙ same, subst (λ n. 0 < n) (sym current.stamp_is) current.positive)
 sealed_stamp _ u t w stamp e current = absurd (cc)
-
-not_aborted : (d : Decision) → d ≡ Skip → d ≢ Abort
-not_aborted d skip abort = absurd (cc)
 
 pub has_stamped : (sessions : ℕ) (c : Core) (seat : ℕ) (w : Work) (stamp : ℕ) → Sound c → IsQuiet sessions c → world.IsSession (view_of sessions c) seat
     → HasStamp (view_of sessions c) seat w stamp → IsStamped (c.seats seat) w stamp
@@ -100,9 +98,7 @@ has_stamped sessions c seat w stamp sound quiet is_session has =
       is = ap (λ (f : Finished). f.work) from.2 ∙ over.2;
       stands = stands;
       stamp_is = stamped.0;
-      drawn =
-          ⊎_elim (λ (commit : t.decision ≡ Commit). (sound.own seat).decided.positive t stands commit)
-          (λ (skip : t.decision ≡ Skip). (sound.own seat).lives.drawn t from.1 (not_aborted t.decision skip)) stamped.1;
+      drawn = (sound.own seat).lives.drawn t from.1 stamped.1;
     })
     (λ (now : stand_of x.place x.task x.current ≡ world.sealed w stamp).
     let current = sealed_stamp x.place x.task x.current w stamp now (sound.own seat).ranges.current in

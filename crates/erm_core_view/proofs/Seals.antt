@@ -1,5 +1,5 @@
 -- A session's seal: its three steps draw a range of its block's size.
-use Rattle.std.proofs.Common.{◌≡◌, ◌≢◌, ℕ, ◌+◌, ◌*◌, ◌≤◌, ◌&&◌, eqb, leb, true, false, All, List, [], ◌∷◌, ◌++◌, get_or, length, map, sum_by, Some, None, refl, sym, ap, ◌∙◌, subst, arith}
+use Rattle.std.proofs.Common.{◌≡◌, ◌≢◌, ℕ, ◌+◌, ◌*◌, ◌≤◌, ◌&&◌, eqb, leb, true, false, All, List, [], ◌∷◌, ◌++◌, get_or, length, map, sum_by, Some, None, refl, sym, ap, ◌∙◌, subst, arith, Bool}
 use Rattle.std.proofs.lemmas.Bool.{and_from, cond-true, eq-eqb, eqb-false, false≢true, le-leb, or_from, true_from_ne_false}
 use Rattle.std.proofs.lemmas.List.{length-map}
 use Rattle.std.proofs.lemmas.List.Sums.{sum_by-le}
@@ -15,29 +15,33 @@ use Rattle.erm_machine.specs.declared.task.Task.TheVariants as task
 use Rattle.erm_machine.specs.Core.{Core, Shared}
 use Rattle.erm_machine.specs.Decided.{written_of}
 use Rattle.erm_machine.specs.Life.{add_tail, store_state}
-use Rattle.erm_machine.specs.Seat.{is_active, may_start, saw, with_range}
+use Rattle.erm_machine.specs.Seat.{is_active, may_start, saw, with_range, is_safe, may_seal, with_mark}
 use Rattle.erm_machine.specs.Sound.{Sound}
 use Rattle.erm_machine.specs.Step.{run_from}
 use Rattle.erm_machine.specs.Words.{begin_of, is_flusher, is_seat, is_session, put}
 use Rattle.erm_machine.proofs.Frames.{put_other, put_same}
 use Rattle.erm_machine.proofs.Listed.{∈-map}
 use Rattle.erm_record.specs.Stored.{stored_length, stored_words}
-use Rattle.erm_world.specs.Calls.{DidSeal}
-use Rattle.erm_world.specs.World.{Stand, Work, work_at}
+use Rattle.erm_world.specs.Calls.{DidSeal, Seals}
+use Rattle.erm_world.specs.World.{Stand, Work, work_at, Snapshot, marking}
 use Rattle.erm_world.specs.World as world
 use Rattle.erm_core_view.specs.Steps.{RestsAt, seal_steps}
-use Rattle.erm_core_view.specs.Views.{finished_of, pin_of, session_of, view_of, work_of}
+use Rattle.erm_core_view.specs.Views.{finished_of, pin_of, session_of, view_of, work_of, shown_by, stand_of}
 use Rattle.erm_core_view.proofs.Chained.{goes, three_taken}
 use Rattle.erm_core_view.proofs.Parts.{current_stands}
 use Rattle.erm_core_view.proofs.Shown.{work_active}
-use Rattle.erm_core_view.proofs.Snapshots.{starts_new}
+use Rattle.erm_core_view.proofs.Snapshots.{starts_new, new_as, new_work, shown_safe, snapshots_new}
+use Rattle.erm_machine.specs.declared.attempt.Attempt.{Attempt}
+use Rattle.erm_machine.specs.declared.task.Task.{Task}
+use Rattle.erm_world.specs.Safe.{DidMark}
+use Rattle.erm_machine.proofs.Backs.{safe_seals, safe_snapshot, start_seals, start_unsafe}
 
 -- the part after the state word is 1, after the draw, after the stamp is stored
 abbrev sealing : ℕ → Part → Part
-sealing begin x = record x { place = Sealing begin; task = task.Rest }
+sealing begin x = record x { place = Sealing begin; task = task.Rest; current = with_mark (is_safe x.task) x.current }
 
 abbrev drawn : (begin size tail : ℕ) → Part → Part
-drawn begin size tail x = saw tail (record (sealing begin x) { place = Drawn begin tail; current = with_range tail size x.current })
+drawn begin size tail x = saw tail (record (sealing begin x) { place = Drawn begin tail; current = with_range tail size (with_mark (is_safe x.task) x.current) })
 
 abbrev sealed : (begin size tail : ℕ) → Part → Part
 sealed begin size tail x = record (drawn begin size tail x) { place = Sealed begin tail }
@@ -50,11 +54,11 @@ active_at : (place : Place) → is_active place ≡ true → place ≡ Active (b
 active_at (Active tail) e = refl
 active_at _ e = absurd (cc)
 
-stores_one : (seat : ℕ) (x : Part) → is_active x.place ≡ true → is_session seat ≡ true → may_start x.task ≡ true
+stores_one : (seat : ℕ) (x : Part) → is_active x.place ≡ true → is_session seat ≡ true → may_seal x.task ≡ true
     → store_state seat 1 x x.place ≡ Some (sealing (begin_of x.place) x)
-stores_one seat x active session starts =
+stores_one seat x active session seals =
     ap (λ (place : Place). store_state seat 1 x place) (active_at x.place active)
-    ∙ cond-true (is_session seat && may_start x.task) (Some (sealing (begin_of x.place) x)) None (and_from (is_session seat) (may_start x.task) session starts)
+    ∙ cond-true (is_session seat && may_seal x.task) (Some (sealing (begin_of x.place) x)) None (and_from (is_session seat) (may_seal x.task) session seals)
 
 draws : (seat begin size tail : ℕ) (x : Part) → is_session seat ≡ true → LEAST_BLOCK ≤ size → size ≤ GREATEST_BLOCK
     → add_tail seat size tail (sealing begin x) (Sealing begin) ≡ Some (drawn begin size tail x)
@@ -100,7 +104,7 @@ module _ (short : (row : List ℕ) → stored_length row ≤ length row) where
       omega (arith, within, few, count)
 
   module _ (seat : ℕ) (c : Core) (sound : Sound c) (session : is_flusher seat ≡ false) (active : is_active (c.seats seat).place ≡ true)
-      (starts : may_start (c.seats seat).task ≡ true) where
+      (may : may_seal (c.seats seat).task ≡ true) where
     abbrev size : ℕ
     size = world.size_of (work_of (c.seats seat).current)
 
@@ -125,7 +129,7 @@ module _ (short : (row : List ℕ) → stored_length row ≤ length row) where
         let least : LEAST_BLOCK ≤ size = omega arith in
         let most : size ≤ GREATEST_BLOCK = block_small seat c sound in
         three_taken c one two after_seal seat (kind.StoreState 1) (kind.AddTail size) (kind.StoreState tail)
-        (goes c seat (kind.StoreState 1) (sealing begin x) tt refl (stores_one seat x active sessions starts))
+        (goes c seat (kind.StoreState 1) (sealing begin x) tt refl (stores_one seat x active sessions may))
         (goes one seat (kind.AddTail size) (drawn begin size tail x) tt refl
         (ap (λ (y : Part). add_tail seat size tail y y.place) (put_same c.seats seat (sealing begin x)) ∙ draws seat begin size tail x sessions least most))
         (goes two seat (kind.StoreState tail) (sealed begin size tail x) tt refl
@@ -144,25 +148,26 @@ module _ (short : (row : List ℕ) → stored_length row ≤ length row) where
         put_other (put (put c.seats seat (sealing begin x)) seat (drawn begin size c.shared.tail x)) seat (sealed begin size c.shared.tail x) q other
         ∙ put_other (put c.seats seat (sealing begin x)) seat (drawn begin size c.shared.tail x) q other ∙ put_other c.seats seat (sealing begin x) q other
 
-    pub seals : (sessions : ℕ) → DidSeal (view_of sessions c) seat c.shared.tail (view_of sessions (run_from c (seal_steps seat (world.size_of (work_at (view_of sessions c) seat)) c.shared.tail)))
-    seals sessions =
-        let x : Part = c.seats seat in
+    -- with its transaction, or with the mark of its safe snapshot
+    abbrev sealed_work : Work
+    sealed_work = work_of (with_mark (is_safe (c.seats seat).task) (c.seats seat).current)
+
+    pub seals_as : (sessions : ℕ) → Seals (view_of sessions c) seat sealed_work c.shared.tail (view_of sessions (run_from c (seal_steps seat size c.shared.tail)))
+    seals_as sessions =
         let v = view_of sessions c in
-        let work : work_at v seat ≡ work_of x.current = work_active x.place x.task x.current active (starts_new x.task x.current starts) in
-        let shows : DidSeal v seat c.shared.tail (view_of sessions after_seal) = record {
+        let shows : Seals v seat sealed_work c.shared.tail (view_of sessions after_seal) = record {
           stamp_is = refl;
-          own = ap session_of own_sealed ∙ ap (λ (w : Work). record { over = map finished_of x.over; stand = world.sealed w c.shared.tail }) (sym work);
+          own = ap session_of own_sealed;
           others = λ q other. ap session_of (others_sealed q other);
           opening = refl;
-          tail = ap (λ (w : Work). c.shared.tail + world.size_of w) (sym work);
-          fits = subst (λ (w : Work). world.size_of w ≤ GREATEST_BLOCK) (sym work) (block_small seat c sound);
+          tail = refl;
+          fits = block_small seat c sound;
           flushed = refl;
           pinned = ap (λ (y : Part). pin_of y.place y.current) (others_sealed FLUSH_SEAT (λ same. eqb-false seat FLUSH_SEAT session (sym same)));
           given_up = refl;
           saves = λ q other. refl;
         } in
-        subst (λ (w : Work). DidSeal v seat c.shared.tail (view_of sessions (run_from c (seal_steps seat (world.size_of w) c.shared.tail)))) (sym work)
-        (subst (λ (d : Core). DidSeal v seat c.shared.tail (view_of sessions d)) (sym runs) shows)
+        subst (λ (d : Core). Seals v seat sealed_work c.shared.tail (view_of sessions d)) (sym runs) shows
 
     pub seal_rests : RestsAt seat (Sealed (begin_of (c.seats seat).place) c.shared.tail) (run_from c (seal_steps seat size c.shared.tail))
     seal_rests =
@@ -174,3 +179,39 @@ module _ (short : (row : List ℕ) → stored_length row ≤ length row) where
 
     pub seal_sized : IsSized ((run_from c (seal_steps seat size c.shared.tail)).seats seat)
     seal_sized = subst (λ (d : Core). IsSized (d.seats seat)) (sym runs) (subst IsSized (sym own_sealed) refl)
+
+  -- a transaction, where a call may start
+  pub seals : (seat : ℕ) (c : Core) → Sound c → is_flusher seat ≡ false → is_active (c.seats seat).place ≡ true → may_start (c.seats seat).task ≡ true → (sessions : ℕ)
+      → DidSeal (view_of sessions c) seat c.shared.tail (view_of sessions (run_from c (seal_steps seat (world.size_of (work_at (view_of sessions c) seat)) c.shared.tail)))
+  seals seat c sound session active starts sessions =
+      let x : Part = c.seats seat in
+      let v = view_of sessions c in
+      let tail : ℕ = c.shared.tail in
+      let work : work_at v seat ≡ work_of x.current = work_active x.place x.task x.current active (starts_new x.task x.current starts) in
+      let as : work_of (with_mark (is_safe x.task) x.current) ≡ work_at v seat = ap (λ (b : Bool). work_of (with_mark b x.current)) (start_unsafe x.task starts) ∙ sym work in
+      subst (λ (w : Work). Seals v seat w tail (view_of sessions (run_from c (seal_steps seat (world.size_of (work_at v seat)) tail)))) as
+      (subst (λ (w : Work). Seals v seat (work_of (with_mark (is_safe x.task) x.current)) tail (view_of sessions (run_from c (seal_steps seat (world.size_of w) tail)))) (sym work)
+      (seals_as seat c sound session active (start_seals x.task starts) sessions))
+
+  -- a safe snapshot, whose mark has done nothing
+  pub marks : (seat : ℕ) (c : Core) → Sound c → is_flusher seat ≡ false → is_active (c.seats seat).place ≡ true → is_safe (c.seats seat).task ≡ true → (sessions : ℕ)
+      → DidMark (view_of sessions c) seat c.shared.tail (view_of sessions (run_from c (seal_steps seat LEAST_BLOCK c.shared.tail)))
+  marks seat c sound session active safe sessions =
+      let x : Part = c.seats seat in
+      let tail : ℕ = c.shared.tail in
+      let s : Snapshot = record { number = x.current.number; begin = x.current.begin; is_safe = true } in
+      let new = snapshots_new c seat sound (safe_snapshot x.task safe) in
+      let as : work_of (with_mark (is_safe x.task) x.current) ≡ marking s = ap (λ (b : Bool). work_of (with_mark b x.current)) safe ∙ new_as (with_mark true x.current) true new.0 refl in
+      let size : world.size_of (work_of x.current) ≡ LEAST_BLOCK = ap world.size_of (new_work x.current new.0 new.1) in
+      record {
+        snapshot = s;
+        stands = stands_shown x.place x.task x.current active ∙ shown_safe x.task x.current safe;
+        safe = refl;
+        seals = subst (λ (w : Work). Seals (view_of sessions c) seat w tail (view_of sessions (run_from c (seal_steps seat LEAST_BLOCK tail)))) as
+            (subst (λ (n : ℕ). Seals (view_of sessions c) seat (work_of (with_mark (is_safe x.task) x.current)) tail (view_of sessions (run_from c (seal_steps seat n tail)))) size
+            (seals_as seat c sound session active (safe_seals x.task safe) sessions));
+      }
+    where
+      stands_shown : (pl : Place) (u : Task) (t : Attempt) → is_active pl ≡ true → stand_of pl u t ≡ shown_by u t
+      stands_shown (Active tail) u t e = refl
+      stands_shown _ u t e = absurd (cc)

@@ -26,6 +26,7 @@ use Rattle.erm_core_view.proofs.Lives.{begins_within, session_numbered, stamp_wi
 use Rattle.erm_core_view.proofs.Made.{made_new, made_once}
 use Rattle.erm_core_view.proofs.Onces.{works_once}
 use Rattle.erm_core_view.proofs.Parts.{has_attempt}
+use Rattle.erm_core_view.proofs.Marks.{ends_marked, mark_is, unmarked_stand}
 
 -- what transactions of a sound state have read and claimed
 pub record SawSnapshots (c : Core) : Type 0 where
@@ -80,6 +81,9 @@ serializable law sessions c under quiet same certified snapshots saw =
       once = λ seat _. works_once sessions c sound seat;
       saves = λ seat w _ _. AreSavesOf-none w;
       few_saves = λ seat _ _. omega arith;
+      unmarked = λ seat w _ stand. unmarked_stand seat (c.seats seat) (sound.own seat).back w stand;
+      marks = λ seat w _ has marked. mark_is seat (c.seats seat) (sound.own seat).back w (has_attempt sessions c seat w sound has) marked;
+      marked = λ seat f _ m. ends_marked seat (c.seats seat) (sound.own seat).back (sound.own seat).ranges.decided f m;
       opening_meets = under.lawful.opening;
       opening_reach = λ x above. under.lawful.below x above;
       lawful = λ seat w stamp is_session has. stamped_lawful sessions c sound quiet law under.lawful seat w stamp is_session has;

@@ -5,15 +5,15 @@ use Rattle.std.proofs.lemmas.Bool.{cond-false, or_left}
 use Rattle.erm_model.specs.declared.outcome.Phase.TheVariants as phase
 use Rattle.erm_machine.specs.declared.attempt.Attempt.{Attempt}
 use Rattle.erm_machine.specs.declared.place.Place.{Place}
-use Rattle.erm_machine.specs.declared.place.Place.TheVariants.{Sealed}
+use Rattle.erm_machine.specs.declared.place.Place.TheVariants.{Sealed, Active, Decided}
 use Rattle.erm_machine.specs.declared.task.Task.{Task}
 use Rattle.erm_machine.specs.declared.task.Task.TheVariants as task
 use Rattle.erm_machine.specs.Back.{passed_to}
 use Rattle.erm_machine.specs.Bounds.{IsBounded}
 use Rattle.erm_machine.specs.Core.{Core}
-use Rattle.erm_machine.specs.Seat.{is_new, is_safe, is_sealed, is_snapshot, may_start}
+use Rattle.erm_machine.specs.Seat.{is_new, is_safe, is_sealed, is_snapshot, may_start, is_active}
 use Rattle.erm_machine.specs.Sound.{Sound}
-use Rattle.erm_machine.specs.Tasks.{InSettle, TaskFits}
+use Rattle.erm_machine.specs.Tasks.{InSettle, TaskFits, InEnd}
 use Rattle.erm_machine.proofs.Backs.{new_is}
 use Rattle.erm_world.specs.Snapshots.{snapshot_not_active, snapshot_not_idle, snapshot_not_sealed}
 use Rattle.erm_world.specs.World.{Stand, Work}
@@ -85,13 +85,25 @@ some_passed seat t (task.SafePassed version) e b = omega arith
 some_passed seat t (task.SafeFound version) e b = omega arith
 some_passed seat t u e b = absurd (cc)
 
--- and has read, claimed and made nothing
+-- its seat is active
+end_plain : (t : Attempt) (u : Task) → InEnd t u → is_snapshot u ≡ false
+end_plain t (task.Ends raised ended step cleared) fits = refl
+end_plain t _ fits = absurd fits
+
+snapshot_active : (pl : Place) (t : Attempt) (u : Task) → is_snapshot u ≡ true → TaskFits pl t u → is_active pl ≡ true
+snapshot_active (Active tail) t u e fits = refl
+snapshot_active (Sealed tail stamp) t u e fits = let plain = settle_plain u fits in absurd (cc)
+snapshot_active (Decided tail stamp) t u e fits = let plain = end_plain t u fits in absurd (cc)
+snapshot_active _ t u e fits = let plain : is_snapshot u ≡ false = ap is_snapshot fits in absurd (cc)
+
+-- and it has read, claimed and made nothing, and is no mark
 abbrev pub IsNewSnapshot : Task → Attempt → Type 0
-IsNewSnapshot u t = is_snapshot u ≡ true → is_new t ≡ true
+IsNewSnapshot u t = is_snapshot u ≡ true → (is_new t ≡ true) × (t.is_mark ≡ false)
 
 pub snapshots_new : (c : Core) (q : ℕ) → Sound c → IsNewSnapshot (c.seats q).task (c.seats q).current
 snapshots_new c q sound e =
-    (sound.own q).back.snapshot (some_passed q (c.seats q).current (c.seats q).task e (sound.own q).bounds.bounded)
+    let own = sound.own q in
+    (own.back.snapshot (some_passed q (c.seats q).current (c.seats q).task e own.bounds.bounded), own.back.unmarked (snapshot_active (c.seats q).place (c.seats q).current (c.seats q).task e own.task.fits))
 
 -- where a call may start there is none
 pub starts_new : (u : Task) (t : Attempt) → may_start u ≡ true → IsNewSnapshot u t
@@ -106,56 +118,59 @@ plain_by true never = absurd (never refl)
 plain_by false never = refl
 
 pub writes_plain : (u : Task) (t : Attempt) → IsNewSnapshot u t → 0 < length t.writes → is_snapshot u ≡ false
-writes_plain u t new some = plain_by (is_snapshot u) (λ e. let none = (new_is t (new e)).writes in omega (arith, none, some))
+writes_plain u t new some = plain_by (is_snapshot u) (λ e. let none = (new_is t (new e).0).writes in omega (arith, none, some))
 
 pub reads_plain : (u : Task) (t : Attempt) → IsNewSnapshot u t → 0 < length t.reads → is_snapshot u ≡ false
-reads_plain u t new some = plain_by (is_snapshot u) (λ e. let none = (new_is t (new e)).reads in omega (arith, none, some))
+reads_plain u t new some = plain_by (is_snapshot u) (λ e. let none = (new_is t (new e).0).reads in omega (arith, none, some))
 
 none_of : {X : Type 0} (xs : List X) → length xs ≡ 0 → xs ≡ []
 none_of [] e = refl
 none_of (x ∷ xs) e = absurd (omega (arith, e))
 
-pub new_work : (t : Attempt) → is_new t ≡ true → work_of t ≡ world.begun t.number t.begin
-new_work t new =
+pub new_as : (t : Attempt) (b : Bool) → is_new t ≡ true → t.is_mark ≡ b → work_of t ≡ record (world.begun t.number t.begin) { is_mark = b }
+new_as t b new mark =
     let did = new_is t new in
     let reads = none_of t.reads did.reads in
     let writes = none_of t.writes did.writes in
     let made = none_of t.made did.made in
     cc
 
+pub new_work : (t : Attempt) → is_new t ≡ true → t.is_mark ≡ false → work_of t ≡ world.begun t.number t.begin
+new_work t new unmarked = new_as t false new unmarked
+
 -- so what shows of it is its work
-shown_if : (b safe : Bool) (t : Attempt) → (b ≡ true → is_new t ≡ true)
+shown_if : (b safe : Bool) (t : Attempt) → (b ≡ true → (is_new t ≡ true) × (t.is_mark ≡ false))
     → world.work_of (if b then world.snapshot (record { number = t.number; begin = t.begin; is_safe = safe }) else world.active (work_of t)) ≡ work_of t
-shown_if true safe t new = sym (new_work t (new refl))
+shown_if true safe t new = sym (new_work t (new refl).0 (new refl).1)
 shown_if false safe t new = refl
 
 pub shown_work : (u : Task) (t : Attempt) → IsNewSnapshot u t → world.work_of (shown_by u t) ≡ work_of t
 shown_work u t new = shown_if (is_snapshot u) (is_safe u) t new
 
-current_if : (b safe : Bool) (t : Attempt) (w : Work) → (b ≡ true → is_new t ≡ true)
+current_if : (b safe : Bool) (t : Attempt) (w : Work) → (b ≡ true → (is_new t ≡ true) × (t.is_mark ≡ false))
     → world.IsCurrent (if b then world.snapshot (record { number = t.number; begin = t.begin; is_safe = safe }) else world.active (work_of t)) w → work_of t ≡ w
-current_if true safe t w new e = new_work t (new refl) ∙ e
+current_if true safe t w new e = new_work t (new refl).0 (new refl).1 ∙ e
 current_if false safe t w new e = e
 
 pub current_by : (u : Task) (t : Attempt) (w : Work) → IsNewSnapshot u t → world.IsCurrent (shown_by u t) w → work_of t ≡ w
 current_by u t w new e = current_if (is_snapshot u) (is_safe u) t w new e
 
-is_current_if : (b safe : Bool) (t : Attempt) → (b ≡ true → is_new t ≡ true)
+is_current_if : (b safe : Bool) (t : Attempt) → (b ≡ true → (is_new t ≡ true) × (t.is_mark ≡ false))
     → world.IsCurrent (if b then world.snapshot (record { number = t.number; begin = t.begin; is_safe = safe }) else world.active (work_of t)) (work_of t)
-is_current_if true safe t new = sym (new_work t (new refl))
+is_current_if true safe t new = sym (new_work t (new refl).0 (new refl).1)
 is_current_if false safe t new = refl
 
 pub shows_current : (u : Task) (t : Attempt) → IsNewSnapshot u t → world.IsCurrent (shown_by u t) (work_of t)
 shows_current u t new = is_current_if (is_snapshot u) (is_safe u) t new
 
--- whoever shows as at work has no snapshot
-working_if : (b safe : Bool) (t : Attempt) (w : Work)
-    → world.IsWorking (if b then world.snapshot (record { number = t.number; begin = t.begin; is_safe = safe }) else world.active (work_of t)) w → work_of t ≡ w
-working_if true safe t w working = absurd working
-working_if false safe t w working = working
+-- whoever has it in progress shows its begin stamp
+current_begins_if : (b safe : Bool) (t : Attempt) (w : Work)
+    → world.IsCurrent (if b then world.snapshot (record { number = t.number; begin = t.begin; is_safe = safe }) else world.active (work_of t)) w → t.begin ≡ w.begin
+current_begins_if true safe t w e = ap (λ (z : Work). z.begin) e
+current_begins_if false safe t w e = ap (λ (z : Work). z.begin) e
 
-pub working_by : (u : Task) (t : Attempt) (w : Work) → world.IsWorking (shown_by u t) w → work_of t ≡ w
-working_by u t w working = working_if (is_snapshot u) (is_safe u) t w working
+pub current_begins : (u : Task) (t : Attempt) (w : Work) → world.IsCurrent (shown_by u t) w → t.begin ≡ w.begin
+current_begins u t w e = current_begins_if (is_snapshot u) (is_safe u) t w e
 
 -- one that shows as active has no snapshot
 active_if : (b safe : Bool) (t : Attempt)

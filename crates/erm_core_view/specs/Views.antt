@@ -108,8 +108,8 @@ pub record IsStill (x : Part) : Type 0 where
   pub turn : is_between x.flushing ≡ true
 
 -- So many sessions, each between two calls and, where sealed, with a range of its block's size; the flush seat, and no other
--- seat, so that none is over elsewhere. The opening's place lies behind 1, so that a state word 1 is that of a seat that seals
--- and no stamp; the place flushed lies within the log.
+-- seat, so that none is over elsewhere. The opening's place is one of the log, which begins at 8: so a state word 1 is that of a seat that seals
+-- and no stamp, and a safe stamp is one that a block may mark; the place flushed lies within the log.
 pub record IsQuiet (sessions : ℕ) (c : Core) : Type 0 where
   pub between : (q : ℕ) → 0 < q → q ≤ sessions → IsBetween (c.seats q).place (c.seats q).task
   pub others : (q : ℕ) → (0 < q → q ≤ sessions → ⊥) → is_flusher q ≡ false → (c.seats q).place ≡ Vacant
@@ -117,5 +117,5 @@ pub record IsQuiet (sessions : ℕ) (c : Core) : Type 0 where
   pub flusher : (q : ℕ) → is_flusher q ≡ true → IsStill (c.seats q)
   pub sized : (q : ℕ) → 0 < q → q ≤ sessions → 0 < (c.seats q).current.stamp → (c.seats q).current.size ≡ world.size_of (work_of (c.seats q).current)
   pub few : (q : ℕ) → q ≤ sessions → is_flusher q ≡ false
-  pub opened : 1 < c.shared.opening
+  pub opened : 8 ≤ c.shared.opening
   pub flushed : (c.shared.opening ≤ c.shared.flushed) × (c.shared.flushed ≤ c.shared.tail)

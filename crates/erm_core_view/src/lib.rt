@@ -8,7 +8,7 @@ ghost use Rattle.erm_model.specs.declared.limits.TheConstants.{LAST_NUMBER, STOP
 ghost use Rattle.erm_machine.specs.declared.event.Counter.TheVariants.{Objects};
 ghost use Rattle.erm_machine.specs.declared.event.Kind.{Kind};
 ghost use Rattle.erm_machine.specs.declared.event.Kind.TheVariants as kind;
-ghost use Rattle.erm_machine.specs.declared.limits.TheConstants.{OBJECT_LIMIT};
+ghost use Rattle.erm_machine.specs.declared.limits.TheConstants.{LEAST_BLOCK, OBJECT_LIMIT};
 ghost use Rattle.erm_machine.specs.declared.place.Place.TheVariants.{Active, Idle, Sealed};
 ghost use Rattle.erm_machine.specs.declared.task.Task.TheVariants as task;
 ghost use Rattle.erm_machine.specs.declared.version.CellWord.{CellWord};
@@ -17,7 +17,7 @@ ghost use Rattle.erm_machine.specs.declared.version.VersionAt.{VersionAt};
 ghost use Rattle.erm_machine.specs.Core.{Core, claim_at, version_at};
 ghost use Rattle.erm_machine.specs.Decided.{written_of};
 ghost use Rattle.erm_machine.specs.Decided as machine;
-ghost use Rattle.erm_machine.specs.Seat.{end_of, is_active, is_snapshot, may_start};
+ghost use Rattle.erm_machine.specs.Seat.{end_of, is_active, is_safe, is_snapshot, may_seal, may_start};
 ghost use Rattle.erm_machine.specs.Sound.{Sound};
 ghost use Rattle.erm_sound.specs.Kept.{SoundUnder};
 ghost use Rattle.erm_machine.specs.Step.{after_event, run_from};
@@ -25,6 +25,7 @@ ghost use Rattle.erm_machine.specs.Words.{begin_of, is_flusher};
 ghost use Rattle.erm_world.specs.declared.stops.BeginStop.TheVariants as stop;
 ghost use Rattle.erm_world.specs.Calls.{DidBegin, DidSeal, IsDone, MayNotBegin, Works};
 ghost use Rattle.erm_world.specs.Laws.{IsSerializable};
+ghost use Rattle.erm_world.specs.Safe.{DidMark};
 ghost use Rattle.erm_world.specs.Saves.{undone};
 ghost use Rattle.erm_world.specs.Works.{claiming, making, reading, setting};
 ghost use Rattle.erm_world.specs.World.{work_at};
@@ -161,18 +162,21 @@ pub fn begins_show()
 {}
 
 /// A seal of an active session where a call may start: its three steps draw a range of its block's size at the log's end, which is
-/// its commit stamp.
+/// its commit stamp. So do those of a safe snapshot's mark, whose block has no rows.
 pub fn seals_show()
     ensures seals { (sessions seat : ℕ) (c : Core) → Sound c → is_flusher seat ≡ false → is_active (c.seats seat).place ≡ true
         → may_start (c.seats seat).task ≡ true
         → DidSeal (view_of sessions c) seat c.shared.tail
         (view_of sessions (run_from c (seal_steps seat (world.size_of (work_at (view_of sessions c) seat)) c.shared.tail))) }
+    ensures marks { (sessions seat : ℕ) (c : Core) → Sound c → is_flusher seat ≡ false → is_active (c.seats seat).place ≡ true
+        → is_safe (c.seats seat).task ≡ true
+        → DidMark (view_of sessions c) seat c.shared.tail (view_of sessions (run_from c (seal_steps seat LEAST_BLOCK c.shared.tail))) }
     ensures rests { (seat : ℕ) (c : Core) → Sound c → is_flusher seat ≡ false → is_active (c.seats seat).place ≡ true
-        → may_start (c.seats seat).task ≡ true
+        → may_seal (c.seats seat).task ≡ true
         → RestsAt seat (Sealed (begin_of (c.seats seat).place) c.shared.tail)
         (run_from c (seal_steps seat (world.size_of (work_of (c.seats seat).current)) c.shared.tail)) }
     ensures sized { (seat : ℕ) (c : Core) → Sound c → is_flusher seat ≡ false → is_active (c.seats seat).place ≡ true
-        → may_start (c.seats seat).task ≡ true
+        → may_seal (c.seats seat).task ≡ true
         → let d = run_from c (seal_steps seat (world.size_of (work_of (c.seats seat).current)) c.shared.tail) in
         (d.seats seat).current.size ≡ world.size_of (work_of (d.seats seat).current) }
 {

@@ -1,6 +1,6 @@
 -- Tests of snapshots, of commits that go back, and of a row that is undone; what they say, and how steps with them are read.
 use Rattle.std.proofs.Common.{◌≡◌, ℕ, ◌+◌, ◌<◌, ◌≤◌, Bool, true, false, not, ◌&&◌, ◌||◌, List, length, eqb-true, Option, Some, None, refl, sym, ap, subst, arith}
-use Rattle.std.proofs.lemmas.Bool.{and_parts, ltb-true}
+use Rattle.std.proofs.lemmas.Bool.{and_parts, ltb-true, or_right}
 use Rattle.std.proofs.lemmas.Bool.Decides.{Decides-eqb, nat_tests}
 use Rattle.std.proofs.lemmas.Slice.Eq.{slice_eq-Decides}
 use Rattle.std.specs.Cmp.Lexicographic.{pointwise}
@@ -102,7 +102,7 @@ active_begin_then P seat value tail x y e over raised =
     raised one.0 (eqb-true _ _ one.1) two.1 (rest_is x.task three.1)))
 
 -- a task at which a call may start is that of no safe snapshot
-start_unsafe : (t : Task) → may_start t ≡ true → is_safe t ≡ false
+pub start_unsafe : (t : Task) → may_start t ≡ true → is_safe t ≡ false
 start_unsafe task.Rest start = refl
 start_unsafe (task.Owned oid owner) start = refl
 start_unsafe (task.Cleared oid) start = refl
@@ -114,6 +114,9 @@ start_unsafe (task.Overtaken version overwriter) start = refl
 start_unsafe (task.Rated version) start = refl
 start_unsafe task.Numbers start = refl
 start_unsafe _ start = absurd (cc)
+
+pub safe_seals : (t : Task) → is_safe t ≡ true → may_seal t ≡ true
+safe_seals t safe = or_right (may_start t) (is_safe t) safe
 
 pub start_seals : (t : Task) → may_start t ≡ true → may_seal t ≡ true
 start_seals t start = ap (λ (b : Bool). b || is_safe t) start
