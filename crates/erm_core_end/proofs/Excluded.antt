@@ -8,7 +8,7 @@ use Rattle.erm_model.specs.Member.{◌∈◌}
 use Rattle.erm_machine.specs.declared.attempt.Attempt.{Attempt}
 use Rattle.erm_machine.specs.declared.attempt.Claim.{Claim}
 use Rattle.erm_machine.specs.declared.attempt.Decision.{Decision}
-use Rattle.erm_machine.specs.declared.attempt.Decision.TheVariants.{Undecided, Commit, Skip, Abort}
+use Rattle.erm_machine.specs.declared.attempt.Decision.TheVariants.{Undecided, Commit, Skip, Abort, Mark}
 use Rattle.erm_machine.specs.Decided.{DecisionFits, written_of}
 use Rattle.erm_machine.specs.Decided as machine
 use Rattle.erm_machine.proofs.Listed.{∈-map}
@@ -31,6 +31,7 @@ excluded_is Skip t stamp succ pred e = (refl, cc, cc, cc)
 excluded_is Commit t stamp succ pred e = absurd (cc)
 excluded_is Abort t stamp succ pred e = absurd (cc)
 excluded_is Undecided t stamp succ pred e = absurd (cc)
+excluded_is Mark t stamp succ pred e = absurd (cc)
 
 pub skipped : (over : List Attempt) (w : Work) (stamp succ pred : ℕ) → record { work = w; fate = world.excluded stamp succ pred } ∈ map finished_of over → IsSkipped over w stamp succ pred
 skipped over w stamp succ pred m =
@@ -59,13 +60,16 @@ numbers_fit h seat over w stamp succ pred is fits =
       subst (λ (r : TransactionRecord). IsPredecessorStamp h r.pred r) same fits.pred,
       ⊎_elim
           (λ (less : pred < succ).
-          let commit : is.attempt.decision ≡ Commit = fits.window.1 (omega (arith, less, is.succ_is, is.pred_is)) in
+          let commit : is.attempt.decision ≡ Commit = (fits.window (unmarked is.attempt.decision is.skip)).1 (omega (arith, less, is.succ_is, is.pred_is)) in
           absurd (not_both is.attempt.decision commit is.skip))
           (λ (closed : succ ≤ pred). closed) (cases_lt pred succ),
     )
   where
     not_both : (d : Decision) → d ≡ Commit → d ≡ Skip → ⊥
     not_both d commit skip = cc
+
+    unmarked : (d : Decision) → d ≡ Skip → d ≢ Mark
+    unmarked d skip mark = cc
 
 -- a claim, as its seat has it
 pub claim_of : (over : List Attempt) (w : Work) (stamp succ pred : ℕ) (is : IsSkipped over w stamp succ pred) (d : VersionWritten) → d ∈ w.claims

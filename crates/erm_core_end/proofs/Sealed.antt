@@ -8,7 +8,7 @@ use Rattle.erm_model.specs.Member.{◌∈◌}
 use Rattle.erm_model.proofs.Members.{none_in_nil, ∈-behind}
 use Rattle.erm_machine.specs.declared.attempt.Attempt.{Attempt}
 use Rattle.erm_machine.specs.declared.attempt.Decision.{Decision}
-use Rattle.erm_machine.specs.declared.attempt.Decision.TheVariants.{Undecided, Commit, Skip, Abort}
+use Rattle.erm_machine.specs.declared.attempt.Decision.TheVariants.{Undecided, Commit, Skip, Abort, Mark}
 use Rattle.erm_machine.specs.declared.place.Place.{Place}
 use Rattle.erm_machine.specs.declared.place.Place.TheVariants.{Vacant, Idle, Begun, Announced, Active, Sealed}
 use Rattle.erm_machine.specs.declared.task.Task.{Task}
@@ -36,11 +36,12 @@ range_starts bound seat stamp size = by (nat_lt 0 stamp)
 pub no_range : (bound seat stamp size : ℕ) → stamp ≡ 0 → range_at seat stamp size ≡ []
 no_range bound seat stamp size none = ap (λ (n : ℕ). range_at seat n size) none
 
--- a transaction with a stamp has committed, or was excluded
+-- a transaction with a stamp has committed, was excluded, or is a mark
 fate_counts : (bound : ℕ) (d : Decision) (t : Attempt) → d ≢ Undecided → d ≢ Abort → one_below bound (stamp_of (fate_of d t)) ≡ one_below bound (Some t.stamp)
 fate_counts bound Undecided t decided kept = absurd (decided refl)
 fate_counts bound Commit t decided kept = refl
 fate_counts bound Skip t decided kept = refl
+fate_counts bound Mark t decided kept = refl
 fate_counts bound Abort t decided kept = absurd (kept refl)
 
 pub one_counts : (bound seat : ℕ) (t : Attempt) → t.decision ≢ Undecided → (0 < t.stamp → t.decision ≢ Abort)

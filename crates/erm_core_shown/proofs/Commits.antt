@@ -8,7 +8,7 @@ use Rattle.erm_model.specs.History.{History}
 use Rattle.erm_machine.specs.declared.limits.TheConstants.{ANNOUNCERS}
 use Rattle.erm_machine.specs.declared.attempt.Attempt.{Attempt}
 use Rattle.erm_machine.specs.declared.attempt.Decision.{Decision}
-use Rattle.erm_machine.specs.declared.attempt.Decision.TheVariants.{Undecided, Commit, Skip, Abort}
+use Rattle.erm_machine.specs.declared.attempt.Decision.TheVariants.{Undecided, Commit, Skip, Abort, Mark}
 use Rattle.erm_machine.specs.declared.part.Part.{Part}
 use Rattle.erm_machine.specs.declared.place.Place.{Place}
 use Rattle.erm_machine.specs.declared.place.Place.TheVariants.{Active, Announced, Begun, Decided, Drawn, Idle, Leaving, Sealed, Sealing, Vacant}
@@ -47,6 +47,7 @@ decided_commits q Commit t = refl
 decided_commits q Skip t = refl
 decided_commits q Abort t = refl
 decided_commits q Undecided t = refl
+decided_commits q Mark t = refl
 
 now_commits : (q : ℕ) (pl : Place) (u : Task) (t : Attempt) → IsCurrent pl t → map (record_of q) (filter is_kept (t ∷ [])) ≡ committed_in q (over_now (ended_as pl u t) t)
 now_commits q Vacant u t current = blank_uncommitted q t current

@@ -16,7 +16,7 @@ use Rattle.erm_machine.specs.declared.place.Place.TheVariants.{Active, Decided, 
 use Rattle.erm_machine.specs.declared.task.Task.{Task}
 use Rattle.erm_machine.specs.declared.task.Task.TheVariants as task
 use Rattle.erm_machine.specs.Core.{Core, blank}
-use Rattle.erm_machine.specs.Decided.{read_of, record_of, written_of}
+use Rattle.erm_machine.specs.Decided.{read_of, written_of}
 use Rattle.erm_machine.specs.Decided as machine
 use Rattle.erm_machine.specs.Facts.{Holds, all_of}
 use Rattle.erm_machine.specs.Lawful.{Lawful, opening_rows}
@@ -38,7 +38,8 @@ use Rattle.erm_core_view.proofs.Serial.{SawSnapshots}
 use Rattle.erm_core_view.proofs.Snapshots.{snapshots_new}
 use Rattle.erm_core_shown.specs.Shown.{HasOnly, ended_as, over_now, shown_of, shown_session, shown_stand}
 use Rattle.erm_core_shown.proofs.Made.{shown_new, shown_once}
-use Rattle.erm_core_shown.proofs.Parts.{claim_of, current_shown, has_shown, has_stamp, none_over}
+use Rattle.erm_core_shown.proofs.Parts.{claim_of, current_shown, has_shown, has_stamp, none_over, active_unmarked, over_marked}
+use Rattle.erm_core_view.proofs.Marks.{mark_is}
 
 -- the current one is the last that is over, where it is
 over_first : (pl : Place) (u : Task) (t : Attempt) (k : ℕ) → k < length (over_now (ended_as pl u t) t)
@@ -228,6 +229,9 @@ serializable_shown law sessions c under only same certified snapshots saw =
       once = λ seat _. works_shown_once sessions c sound seat;
       saves = λ seat w _ _. AreSavesOf-none w;
       few_saves = λ seat _ _. omega arith;
+      unmarked = λ seat w _ stand. active_unmarked seat c w sound stand;
+      marks = λ seat w _ has marked. mark_is seat (c.seats seat) (sound.own seat).back w (has_shown sessions c seat w sound has) marked;
+      marked = λ seat f _ m. over_marked seat c f sound m;
       opening_meets = under.lawful.opening;
       opening_reach = λ x above. under.lawful.below x above;
       lawful = λ seat w stamp _ has. lawful_shown sessions c sound only law under.lawful seat w stamp has;

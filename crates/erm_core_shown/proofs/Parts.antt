@@ -5,8 +5,7 @@ use Rattle.erm_model.specs.Member.{◌∈◌}
 use Rattle.erm_model.proofs.Members.{none_in_nil}
 use Rattle.erm_machine.specs.declared.attempt.Attempt.{Attempt}
 use Rattle.erm_machine.specs.declared.attempt.Claim.{Claim}
-use Rattle.erm_machine.specs.declared.attempt.Decision.{Decision}
-use Rattle.erm_machine.specs.declared.attempt.Decision.TheVariants.{Commit, Skip, Abort}
+use Rattle.erm_machine.specs.declared.attempt.Decision.TheVariants.{Abort, Undecided}
 use Rattle.erm_machine.specs.declared.part.Part.{Part}
 use Rattle.erm_machine.specs.declared.place.Place.{Place}
 use Rattle.erm_machine.specs.declared.place.Place.TheVariants.{Active, Decided, Drawn, Idle, Leaving, Sealed, Sealing}
@@ -25,6 +24,8 @@ use Rattle.erm_core_view.specs.Views.{IsBetween, fate_of, finished_of, session_o
 use Rattle.erm_core_view.proofs.Parts.{IsOf, IsStamped, current_stands, fate_stamp, over_stands}
 use Rattle.erm_core_view.proofs.Snapshots.{IsNewSnapshot, current_by, never_sealed, shown_work, snapshots_new}
 use Rattle.erm_core_shown.specs.Shown.{ended_as, over_now, shown_of, shown_session, shown_stand}
+use Rattle.erm_core_view.proofs.Marks.{ends_marked, ends_now, shown_active, unmarked_work}
+use Rattle.erm_world.specs.Laws.{EndsAsMarked}
 
 -- BETWEEN TWO CALLS the session shows what it does in the view
 over_between : (pl : Place) (u : Task) (t : Attempt) → IsBetween pl u → over_now (ended_as pl u t) t ≡ []
@@ -104,10 +105,7 @@ has_shown sessions c seat w sound has =
     record { attempt = x.current; is = both.1; stands = current_stands x; either = inr (both.0, refl) })
     has
 
--- STAMPS. One with a stamp is a commit or excluded.
-skipped : (d : Decision) → d ≡ Skip → d ≢ Abort
-skipped d skip abort = absurd (cc)
-
+-- STAMPS
 decided_stamp : (t : Attempt) (f : Finished) (drawn stamp : ℕ) → (t.stamp ≡ drawn) × (0 < drawn) → f ∈ (record { work = work_of t; fate = fate_of t.decision t } ∷ []) → stamp_of f.fate ≡ Some stamp
     → (f.work ≡ work_of t) × (t.stamp ≡ stamp) × (0 < t.stamp)
 decided_stamp t f drawn stamp current m has =
@@ -154,9 +152,7 @@ has_stamp sessions c seat w stamp sound has =
       is = ap (λ (f : Finished). f.work) from.2 ∙ over.2;
       stands = stands;
       stamp_is = stamped.0;
-      drawn =
-          ⊎_elim (λ (commit : t.decision ≡ Commit). (sound.own seat).decided.positive t stands commit)
-          (λ (skip : t.decision ≡ Skip). (sound.own seat).lives.drawn t from.1 (skipped t.decision skip)) stamped.1;
+      drawn = (sound.own seat).lives.drawn t from.1 stamped.1;
     })
     (λ (now : over.0 ∈ over_now (ended_as x.place x.task x.current) x.current).
     let told = over_stamp x.place x.task x.current over.0 stamp (sound.own seat).ranges.current now over.3 in
@@ -166,6 +162,42 @@ has_stamp sessions c seat w stamp sound has =
     let told = stand_stamp x.place x.task x.current w stamp now (sound.own seat).ranges.current in
     record { attempt = x.current; is = told.0; stands = current_stands x; stamp_is = told.1; drawn = told.2 })
     has
+
+-- MARKS. Who shows as active has no stamp, and is no mark; one that is over ended as a mark just where it is one.
+shown_unsealed : (pl : Place) (u : Task) (t : Attempt) (w : Work) → IsCurrent pl t → shown_stand pl u t ≡ world.active w → (t.stamp ≡ 0) × (work_of t ≡ w)
+shown_unsealed (Active tail) (task.Ends raised ended step cleared) t w current e = absurd (cc)
+shown_unsealed (Active tail) u t w current e = (current.stamp, shown_active u t w e)
+shown_unsealed (Sealing tail) u t w current e = (current.stamp, cc)
+shown_unsealed _ u t w current e = absurd (cc)
+
+pub active_unmarked : (seat : ℕ) (c : Core) (w : Work) → Sound c → (shown_session (c.seats seat)).stand ≡ world.active w → w.is_mark ≡ false
+active_unmarked seat c w sound e =
+    let x = c.seats seat in
+    let at = shown_unsealed x.place x.task x.current w (sound.own seat).ranges.current e in
+    sym (ap (λ (z : Work). z.is_mark) at.1) ∙ unmarked_work x.current at.0
+
+now_marked : (pl : Place) (u : Task) (t : Attempt) (f : Finished) → (t.decision ≢ Undecided → (t.decision ≢ Abort → 0 < t.stamp) → EndsAsMarked (work_of t) (fate_of t.decision t))
+    → IsCurrent pl t → f ∈ over_now (ended_as pl u t) t → EndsAsMarked f.work f.fate
+now_marked (Active tail) (task.Ends raised ended step cleared) t f ends current m =
+    subst (λ (g : Finished). EndsAsMarked g.work g.fate) (one_of f (record { work = work_of t; fate = world.aborts }) m) (unmarked_work t current.stamp)
+now_marked (Active tail) u t f ends current m = absurd (none_in_nil f m)
+now_marked (Decided tail drawn) u t f ends current m =
+    subst (λ (g : Finished). EndsAsMarked g.work g.fate) (one_of f (record { work = work_of t; fate = fate_of t.decision t }) m)
+    (ends current.decision (λ _. subst (λ (n : ℕ). 0 < n) (sym current.stamp_is) current.positive))
+now_marked (Leaving drawn) u t f ends current m =
+    subst (λ (g : Finished). EndsAsMarked g.work g.fate) (one_of f (record { work = work_of t; fate = fate_of t.decision t }) m)
+    (ends current.decision (λ _. subst (λ (n : ℕ). 0 < n) (sym current.stamp_is) current.positive))
+now_marked _ u t f ends current m = absurd (none_in_nil f m)
+
+pub over_marked : (seat : ℕ) (c : Core) (f : Finished) → Sound c → f ∈ (shown_session (c.seats seat)).over → EndsAsMarked f.work f.fate
+over_marked seat c f sound m =
+    let x = c.seats seat in
+    let own = sound.own seat in
+    ⊎_elim
+    (λ (past : f ∈ map finished_of x.over). ends_marked seat x own.back own.ranges.decided own.lives.drawn f past)
+    (λ (now : f ∈ over_now (ended_as x.place x.task x.current) x.current).
+    now_marked x.place x.task x.current f (ends_now seat x own.back x.current (current_stands x)) own.ranges.current now)
+    (∈-either (map finished_of x.over) (over_now (ended_as x.place x.task x.current) x.current) f m)
 
 -- CLAIMS. Of a transaction in progress none is released.
 rests_with_all : (pl : Place) (u : Task) (writes : ℕ) → over_of pl task.Rest writes ≡ 0 → u ≡ task.Rest → over_of pl u writes ≡ 0

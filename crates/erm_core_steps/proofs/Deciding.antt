@@ -6,14 +6,14 @@ use Rattle.std.proofs.Math.Seq.{take-length, take-suc}
 use Rattle.std.proofs.lemmas.Bool.{and_from, and_parts, cond-true, eq-eqb, leb-true, lt-ltb, ltb-true}
 use Rattle.std.proofs.lemmas.List.{get_or-map, length-map}
 use Rattle.erm_model.specs.declared.history.VersionWritten.{VersionWritten}
-use Rattle.erm_model.specs.declared.header.TheConstants.{COMMIT_KIND, RUN_UNIT, SIZE_UNIT, SKIP_KIND}
+use Rattle.erm_model.specs.declared.header.TheConstants.{RUN_UNIT, SIZE_UNIT}
 use Rattle.erm_model.specs.declared.limits.TheConstants.{LOG_END}
 use Rattle.erm_model.specs.Member.{◌∈◌}
 use Rattle.erm_model.proofs.Members.{none_in_nil, ∈-at}
 use Rattle.erm_machine.specs.declared.attempt.Attempt.{Attempt}
 use Rattle.erm_machine.specs.declared.attempt.Claim.{Claim}
 use Rattle.erm_machine.specs.declared.attempt.Decision.{Decision}
-use Rattle.erm_machine.specs.declared.attempt.Decision.TheVariants.{Undecided, Commit, Skip}
+use Rattle.erm_machine.specs.declared.attempt.Decision.TheVariants.{Undecided, Commit, Skip, Mark}
 use Rattle.erm_machine.specs.declared.event.Kind.{Kind}
 use Rattle.erm_machine.specs.declared.event.Kind.TheVariants as kind
 use Rattle.erm_machine.specs.declared.limits.TheConstants.{GREATEST_BLOCK, LEAST_BLOCK, SESSIONS}
@@ -30,7 +30,7 @@ use Rattle.erm_machine.specs.Facts.{IsCurrent}
 use Rattle.erm_machine.specs.Life.{decide, is_header}
 use Rattle.erm_machine.specs.Lives.{in_progress}
 use Rattle.erm_machine.specs.Ranges.{EndToEnd, range_at, ranges_of}
-use Rattle.erm_machine.specs.Seat.{decision_of, is_commit, is_sealed}
+use Rattle.erm_machine.specs.Seat.{decision_of, is_sealed, header_kind}
 use Rattle.erm_machine.specs.Settling.{filled, store_ring}
 use Rattle.erm_machine.specs.Sound.{Sound}
 use Rattle.erm_machine.specs.Step.{after_event}
@@ -46,13 +46,16 @@ use Rattle.erm_block.specs.declared.block.Block.{Block}
 use Rattle.erm_block.specs.declared.block.Form.TheVariants.{Stored}
 use Rattle.erm_block.specs.Block.{AreEntries, Entry, IsBlock, IsEntry, KeepsRulesOf, NamesTransaction, size_with}
 use Rattle.erm_block.specs.Spelling.{code_of, header_word, spelling}
-use Rattle.erm_core_blocks.specs.Spelled.{IsBlockOf, IsSpelled, decided_by, entries_of, kind_of}
+use Rattle.erm_core_blocks.specs.Spelled.{IsBlockOf, IsSpelled, decided_by, entries_of, kind_of, turn_of}
 use Rattle.erm_record.specs.Stored.{block_words}
 use Rattle.erm_core_steps.specs.Ends.{HasDecided, IsSpelledBy, MayDecide, OnlyAt, Remains, is_ending}
 use Rattle.erm_core_steps.specs.Steps.{IsTaken}
 use Rattle.erm_core_steps.proofs.Aborts.{session_plain}
 use Rattle.erm_core_steps.proofs.Leaving.{only_step}
 use Rattle.erm_core_turns.proofs.Turns.{part_stepped}
+use Rattle.erm_block.specs.declared.block.TheConstants.{LEAST_SAFE}
+use Rattle.erm_machine.proofs.Backs.{new_is}
+use Rattle.erm_machine.proofs.Decisions.{each_decision}
 
 -- the range of a transaction that has one
 range_if : (b : Bool) (r : Span) → b ≡ true → r ∈ (if b then r ∷ [] else [])
@@ -84,9 +87,8 @@ decided_ending (Sealed tail stamp) e = refl
 decided_ending _ e = absurd (cc)
 
 -- a block's header is the machine's
-same_code : (opened : Bool) → code_of (kind_of (if opened then Commit else Skip)) ≡ (if is_commit (if opened then Commit else Skip) then COMMIT_KIND else SKIP_KIND)
-same_code true = refl
-same_code false = refl
+same_code : (t : Attempt) → code_of (kind_of (decision_of t)) ≡ header_kind (decision_of t)
+same_code t = each_decision (λ (d : Decision). code_of (kind_of d) ≡ header_kind d) t refl refl refl
 
 same_header : (header code size run kind own now : ℕ) → header ≡ code + SIZE_UNIT * size + RUN_UNIT * run → code ≡ kind → size ≡ own → run ≡ now → header ≡ kind + own * SIZE_UNIT + now * RUN_UNIT
 same_header header code size run kind own now e f g h = omega (arith, e, f, g, h)
@@ -145,6 +147,17 @@ module _ (c : Core) (seat : ℕ) (sound : Sound c) (session : is_session seat �
       let all = (sound.own seat).lives.number plain in
       omega (arith, now, all, busy)
 
+  begins : (0 < t.begin) × (t.begin ≤ t.stamp)
+  begins = (sound.own seat).lives.sealed t (last_member (c.seats seat).over t) current.0
+
+  succeeds : (0 < t.succ) × (t.succ ≤ t.stamp)
+  succeeds = (sound.common.decided.running seat current.1 (commit_at (c.seats seat).place (c.seats seat).task may.sealed)).succ_own current.0
+
+  -- the stamp that the block names, by the decision
+  turn_fits : (d : Decision) → (0 < turn_of d t) × (turn_of d t ≤ t.stamp)
+  turn_fits Mark = begins
+  turn_fits d = succeeds
+
   names : (b : Block) → IsBlockOf c.shared.run seat (decided_by 0 t) b → b.number < 2 ^ 32 → NamesTransaction b
   names b is low =
       let parts = and_parts (ltb 0 seat) (leb seat SESSIONS) session in
@@ -154,10 +167,10 @@ module _ (c : Core) (seat : ℕ) (sound : Sound c) (session : is_session seat �
       let number = is.number in
       let count = is.count in
       let writes = (sound.own seat).ranges.few in
-      let succ = (sound.common.decided.running seat current.1 (commit_at (c.seats seat).place (c.seats seat).task may.sealed)).succ_own current.0 in
-      let first = succ.0 in
-      let last = succ.1 in
-      let succ_is = is.succ in
+      let turn = turn_fits (decision_of t) in
+      let first : 0 < turn_of (decision_of t) t = turn.0 in
+      let last : turn_of (decision_of t) t ≤ t.stamp = turn.1 in
+      let succ_is : b.succ ≡ turn_of (decision_of t) t = is.succ in
       let stamp = is.stamp in
       let known = numbered in
       record {
@@ -201,12 +214,39 @@ module _ (c : Core) (seat : ℕ) (sound : Sound c) (session : is_session seat �
   sized : t.size ≡ size_with Stored entries
   sized = may.sized ∙ ap block_words (sym (map_both (λ (e : Entry). e.1) entry (map written_of t.writes)))
 
-  decided_as : (b : Bool) → ltb t.pred t.succ ≡ b → decision_of t ≡ (if b then Commit else Skip)
-  decided_as b e = ap (λ (x : Bool). let d : Decision = if x then Commit else Skip in d) e
+  decided_as : (m opened : Bool) → t.is_mark ≡ m → ltb t.pred t.succ ≡ opened → decision_of t ≡ (if m then Mark else if opened then Commit else Skip)
+  decided_as m opened mark at =
+      ap (λ (x : Bool). let d : Decision = if x then Mark else if ltb t.pred t.succ then Commit else Skip in d) mark
+      ∙ ap (λ (x : Bool). let d : Decision = if m then Mark else if x then Commit else Skip in d) at
 
-  rules : (b : Block) (opened : Bool) → ltb t.pred t.succ ≡ opened → IsBlockOf c.shared.run seat (decided_by 0 t) b → NamesTransaction b → KeepsRulesOf (kind_of (if opened then Commit else Skip)) b c.shared.run
-  rules b true at is names =
-      let rows : b.rows.items ≡ entries = is.rows ∙ ap (λ d. entries_of d (map written_of t.writes)) (decided_as true at) in
+  -- a mark has claimed nothing, and its begin stamp is one of the log
+  unwritten : t.is_mark ≡ true → t.writes ≡ []
+  unwritten mark = none t.writes (new_is t (((sound.own seat).back.marks t (last_member (c.seats seat).over t)).new mark)).writes
+    where
+      none : (ws : List Claim) → length ws ≡ 0 → ws ≡ []
+      none [] e = refl
+      none (w ∷ ws) e = absurd (omega (arith, e))
+
+  begins_there : LEAST_SAFE ≤ t.begin
+  begins_there = let opened = may.opened in let low = (sound.own seat).lives.opened_now (progress_at (c.seats seat).place may.sealed) in omega (arith, opened, low)
+
+  rules : (b : Block) (m opened : Bool) → t.is_mark ≡ m → ltb t.pred t.succ ≡ opened → IsBlockOf c.shared.run seat (decided_by 0 t) b → NamesTransaction b
+      → KeepsRulesOf (kind_of (if m then Mark else if opened then Commit else Skip)) b c.shared.run
+  rules b true opened mark at is names =
+      let how = decided_as true opened mark at in
+      let none = unwritten mark in
+      let succ : b.succ ≡ t.begin = is.succ ∙ ap (λ d. turn_of d t) how in
+      let safe = begins_there in
+      record {
+        snapshot = names;
+        run = is.run_is;
+        size = is.size ∙ may.sized ∙ ap (λ (ws : List Claim). block_words (map (λ (v : VersionWritten). v.row) (map written_of ws))) none;
+        no_count = is.count ∙ ap (λ (ws : List Claim). length ws) none;
+        safe = omega (arith, succ, safe);
+        no_rows = is.rows ∙ ap (λ d. entries_of d (map written_of t.writes)) how;
+      }
+  rules b false true mark at is names =
+      let rows : b.rows.items ≡ entries = is.rows ∙ ap (λ d. entries_of d (map written_of t.writes)) (decided_as false true mark at) in
       record {
         transaction = names;
         run = is.run_is;
@@ -214,11 +254,11 @@ module _ (c : Core) (seat : ℕ) (sound : Sound c) (session : is_session seat �
         count = ap (λ (es : List Entry). length es) rows ∙ many ∙ sym is.count;
         rows = subst AreEntries (sym rows) (record { each = are_entries; distinct = distinct });
       }
-  rules b false at is names = record {
+  rules b false false mark at is names = record {
     transaction = names;
     run = is.run_is;
     size = record { entries = entries; each = are_entries; count = many ∙ sym is.count; size_is = is.size ∙ sized };
-    no_rows = is.rows ∙ ap (λ d. entries_of d (map written_of t.writes)) (decided_as false at);
+    no_rows = is.rows ∙ ap (λ d. entries_of d (map written_of t.writes)) (decided_as false false mark at);
   }
 
   pub block_keeps : (b : Block) → IsBlockOf c.shared.run seat (decided_by 0 t) b → b.number < 2 ^ 32 → IsBlock b t.stamp c.shared.run
@@ -232,8 +272,8 @@ module _ (c : Core) (seat : ℕ) (sound : Sound c) (session : is_session seat �
         end = omega (arith, size, end);
         run = omega (arith, run, short);
         rules =
-            subst (λ k. KeepsRulesOf k b c.shared.run) (sym (is.kind_is ∙ ap kind_of (decided_as (ltb t.pred t.succ) refl)))
-            (rules b (ltb t.pred t.succ) refl is (names b is low));
+            subst (λ k. KeepsRulesOf k b c.shared.run) (sym (is.kind_is ∙ ap kind_of (decided_as t.is_mark (ltb t.pred t.succ) refl refl)))
+            (rules b t.is_mark (ltb t.pred t.succ) refl refl is (names b is low));
       }
 
 -- Of a transaction whose block is being stored: so many words behind the header are.
@@ -353,7 +393,7 @@ module _ (sessions seat : ℕ) (behind : List ℕ) (b : Core) (may : MayDecide b
     header_is : header ≡ header_for t0 b.shared.run
     header_is =
         same_header header (code_of spelled.of.kind) spelled.of.size spelled.of.run _ t0.size b.shared.run first_word
-        (ap code_of spelled.is_of.kind_is ∙ same_code (ltb t0.pred t0.succ)) spelled.is_of.size spelled.is_of.run_is
+        (ap code_of spelled.is_of.kind_is ∙ same_code t0) spelled.is_of.size spelled.is_of.run_is
 
     run_is : z.run ≡ b.shared.run
     run_is = at.run ∙ (before.own seat).lives.run

@@ -8,7 +8,7 @@ use Rattle.erm_model.specs.Member.{◌∈◌}
 use Rattle.erm_machine.specs.declared.attempt.Attempt.{Attempt}
 use Rattle.erm_machine.specs.declared.attempt.Claim.{Claim}
 use Rattle.erm_machine.specs.declared.attempt.Decision.{Decision}
-use Rattle.erm_machine.specs.declared.attempt.Decision.TheVariants.{Undecided, Commit, Skip, Abort}
+use Rattle.erm_machine.specs.declared.attempt.Decision.TheVariants.{Undecided, Commit, Skip, Abort, Mark}
 use Rattle.erm_machine.specs.Claims.{ObjectFits}
 use Rattle.erm_machine.specs.Core.{Core, Object, newest, version_at}
 use Rattle.erm_machine.specs.Decided.{written_of}
@@ -43,6 +43,7 @@ commit_fate Commit t stamp succ pred e = (refl, cc)
 commit_fate Skip t stamp succ pred e = absurd (cc)
 commit_fate Abort t stamp succ pred e = absurd (cc)
 commit_fate Undecided t stamp succ pred e = absurd (cc)
+commit_fate Mark t stamp succ pred e = absurd (cc)
 
 -- whoever made a version of the object committed at most with the stamp of the newest
 pub newest_shown : (sessions oid place : ℕ) (c : Core) → Sound c → place ≡ newest (c.shared.objects oid) → (u : TransactionRecord) → u ∈ world.history_of (view_of sessions c)

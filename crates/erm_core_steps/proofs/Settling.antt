@@ -1,18 +1,18 @@
 -- A settle: where it may be called, what its refusals say, and what it leaves.
 use Rattle.std.proofs.Common.{◌≡◌, ◌≢◌, ◌↔◌, ℕ, ◌+◌, ◌<◌, ◌≤◌, Bool, true, false, ◌&&◌, ltb, List, [], ◌∷◌, ◌++◌, length, map, Some, refl, sym, ap, ◌∙◌, subst, arith}
 use Rattle.std.specs.Prelude.{if◌then◌else◌}
-use Rattle.std.proofs.lemmas.Bool.{and_from, and_right, cond-false, cond-true, eq-eqb, ltb-false, ltb-true, not_from_false}
+use Rattle.std.proofs.lemmas.Bool.{and_from, and_right, cond-false, cond-true, eq-eqb, ltb-false, ltb-true, not_from_false, lt-ltb}
 use Rattle.std.proofs.lemmas.List.{map-append}
 use Rattle.erm_machine.specs.declared.limits.TheConstants.{RING_WORDS}
 use Rattle.erm_model.specs.declared.history.TransactionRecord.{TransactionRecord}
-use Rattle.erm_model.specs.declared.outcome.Outcome.TheVariants.{Committed, Excluded}
+use Rattle.erm_model.specs.declared.outcome.Outcome.TheVariants.{Committed, Excluded, Marked}
 use Rattle.erm_model.specs.declared.outcome.Phase.TheVariants as phase
 use Rattle.erm_model.specs.History.{History, IsPredecessorStamp, IsSuccessorStamp}
 use Rattle.erm_model.specs.Member.{◌∈◌}
 use Rattle.erm_record.specs.Stored.{stored_length}
 use Rattle.erm_machine.specs.declared.attempt.Attempt.{Attempt}
 use Rattle.erm_machine.specs.declared.attempt.Decision.{Decision}
-use Rattle.erm_machine.specs.declared.attempt.Decision.TheVariants.{Undecided, Commit, Skip, Abort}
+use Rattle.erm_machine.specs.declared.attempt.Decision.TheVariants.{Undecided, Commit, Skip, Abort, Mark}
 use Rattle.erm_machine.specs.declared.event.Kind.TheVariants as kind
 use Rattle.erm_machine.specs.declared.limits.TheConstants.{FLUSH_SEAT}
 use Rattle.erm_machine.specs.declared.part.Flushing.TheVariants.{Still}
@@ -55,6 +55,7 @@ use Rattle.erm_core_steps.proofs.Unseen.{unseen_step}
 use Rattle.erm_core_steps.proofs.Waiting.{all_ready, in_the_way, same_sealed}
 use Rattle.erm_core_turns.proofs.Turns.{part_stepped}
 use Rattle.erm_core_steps.proofs.Places.{sealed_there, sealed_drawn, sealed_between}
+use Rattle.erm_machine.proofs.Decisions.{decides_some}
 
 phase_sealed : (pl : Place) (u : Task) (t : Attempt) → phase_of (stand_of pl u t) ≡ phase.Sealed → is_sealed pl ≡ true
 phase_sealed (Active tail) u t e = absurd (shown_not_sealed u t e)
@@ -231,7 +232,9 @@ module _ (sessions seat : ℕ) (a : Core) (m : MaySettle sessions seat a) where
         let short = (m.quiet.flusher FLUSH_SEAT (eq-eqb FLUSH_SEAT FLUSH_SEAT refl)).run in
         let run = (sound.own FLUSH_SEAT).lives.run in
         let same : (c.seats FLUSH_SEAT).run ≡ (a.seats FLUSH_SEAT).run = ap (λ (z : Part). z.run) flush in
-        record { sealed = sealed; passed = passed; sized = still_sized; run = omega (arith, short, run, same) }
+        let start = opening in
+        let behind = m.quiet.opened in
+        record { sealed = sealed; passed = passed; sized = still_sized; run = omega (arith, short, run, same); opened = omega (arith, start, behind) }
 
     -- What a decision and the end after it leave.
     module _ (d e : Core) (decided : HasDecided sessions seat c d) (left : HasLeft sessions seat d e) (rests : RestsAt seat Idle e) (after : Sound e) where
@@ -274,6 +277,7 @@ module _ (sessions seat : ℕ) (a : Core) (m : MaySettle sessions seat a) where
       fate_same Skip = let stamp = remains.stamp in let succ = remains.succ in let pred = remains.pred in cc
       fate_same Abort = refl
       fate_same Undecided = refl
+      fate_same Mark = let stamp = remains.stamp in let begin = ap (λ (w : Work). w.begin) remains.work in cc
 
       finished : finished_of u ≡ record { work = work_of t; fate = fate_of (decision_of t) t }
       finished =
@@ -302,16 +306,18 @@ module _ (sessions seat : ℕ) (a : Core) (m : MaySettle sessions seat a) where
         saves = record { own = tt; others = λ q other. refl };
       }
 
-      undecided_not : (opened : Bool) → ltb t.pred t.succ ≡ opened → u.decision ≢ Undecided
-      undecided_not true at same = absurd (let is = remains.decision in let how : decision_of t ≡ Commit = ap (λ (b : Bool). let r : Decision = if b then Commit else Skip in r) at in cc)
-      undecided_not false at same = absurd (let is = remains.decision in let how : decision_of t ≡ Skip = ap (λ (b : Bool). let r : Decision = if b then Commit else Skip in r) at in cc)
+      undecided_not : u.decision ≢ Undecided
+      undecided_not e = decides_some t (sym remains.decision ∙ e)
+
+      drawn : 0 < t.stamp
+      drawn = sealed_drawn y.place t sealed (sound.own seat).ranges.current
 
       fits : machine.DecisionFits (machine.history_of e.seats) seat u
       fits =
           let stamp = remains.stamp in
-          let drawn = sealed_drawn y.place t sealed (sound.own seat).ranges.current in
+          let some = drawn in
           let there : u ∈ (e.seats seat).over = subst (λ (ts : List Attempt). u ∈ ts) (sym over_is) (last_member y.over u) in
-          after.common.decided.decided seat u (∈-first (e.seats seat).over ((e.seats seat).current ∷ []) u there) (omega (arith, stamp, drawn)) (undecided_not (ltb t.pred t.succ) refl)
+          after.common.decided.decided seat u (∈-first (e.seats seat).over ((e.seats seat).current ∷ []) u there) (omega (arith, stamp, some)) undecided_not
 
       named : machine.record_of seat u ≡ world.record_of seat (work_of t) t.stamp t.succ t.pred
       named =
@@ -332,29 +338,40 @@ module _ (sessions seat : ℕ) (a : Core) (m : MaySettle sessions seat a) where
           (subst (λ (r : TransactionRecord). IsPredecessorStamp (machine.history_of e.seats) t.pred r) named
           (subst (λ n. IsPredecessorStamp (machine.history_of e.seats) n (machine.record_of seat u)) remains.pred fits.pred))
 
-      settled : (opened : Bool) → ltb t.pred t.succ ≡ opened
+      -- the decision, where it is known whether it is a mark, and whether its window is open
+      decided_as : (m opened : Bool) → t.is_mark ≡ m → ltb t.pred t.succ ≡ opened → decision_of t ≡ (if m then Mark else if opened then Commit else Skip)
+      decided_as m opened mark at =
+          ap (λ (b : Bool). let r : Decision = if b then Mark else if ltb t.pred t.succ then Commit else Skip in r) mark
+          ∙ ap (λ (b : Bool). let r : Decision = if m then Mark else if b then Commit else Skip in r) at
+
+      done_as : (how : Decision) → decision_of t ≡ how → IsDone (view_of sessions c) seat (work_of t) (fate_of how t) (view_of sessions e)
+      done_as how is = subst (λ (f : Fate). IsDone (view_of sessions c) seat (work_of t) f (view_of sessions e)) (ap (λ (r : Decision). fate_of r t) is) done
+
+      settled : (m opened : Bool) → t.is_mark ≡ m → ltb t.pred t.succ ≡ opened
           → Settled (view_of sessions c) seat (work_of t) t.stamp
-          (if opened then Committed (record { number = t.number; stamp = t.stamp; end = t.stamp + t.size; succ = t.succ; pred = t.pred }) else Excluded t.stamp t.succ t.pred) (view_of sessions e)
-      settled true at =
-          let how : decision_of t ≡ Commit = ap (λ (b : Bool). let r : Decision = if b then Commit else Skip in r) at in (
-            subst (λ (f : Fate). IsDone (view_of sessions c) seat (work_of t) f (view_of sessions e)) (ap (λ (r : Decision). fate_of r t) how) done,
-            refl,
-            refl,
-            ap (λ n. t.stamp + n) still_sized,
-            succ_is,
-            pred_is,
-            ltb-true t.pred t.succ at,
-          )
-      settled false at =
-          let how : decision_of t ≡ Skip = ap (λ (b : Bool). let r : Decision = if b then Commit else Skip in r) at in (
-            subst (λ (f : Fate). IsDone (view_of sessions c) seat (work_of t) f (view_of sessions e)) (ap (λ (r : Decision). fate_of r t) how) done,
-            refl,
-            succ_is,
-            pred_is,
-            ltb-false t.pred t.succ at,
-          )
+          (if m then Marked t.stamp t.begin
+          else if opened then Committed (record { number = t.number; stamp = t.stamp; end = t.stamp + t.size; succ = t.succ; pred = t.pred }) else Excluded t.stamp t.succ t.pred) (view_of sessions e)
+      settled true opened mark at = (done_as Mark (decided_as true opened mark at), and_from t.is_mark (ltb 0 t.stamp) mark (lt-ltb 0 t.stamp drawn), refl, refl)
+      settled false true mark at = (
+        done_as Commit (decided_as false true mark at),
+        ap (λ (b : Bool). b && ltb 0 t.stamp) mark,
+        refl,
+        refl,
+        ap (λ n. t.stamp + n) still_sized,
+        succ_is,
+        pred_is,
+        ltb-true t.pred t.succ at,
+      )
+      settled false false mark at = (
+        done_as Skip (decided_as false false mark at),
+        ap (λ (b : Bool). b && ltb 0 t.stamp) mark,
+        refl,
+        succ_is,
+        pred_is,
+        ltb-false t.pred t.succ at,
+      )
 
       pub did_settle : HasPassed y → DidSettle (view_of sessions a) seat (outcome_of t) (view_of sessions e)
       did_settle passed =
           subst (λ (v : View). DidSettle v seat (outcome_of t) (view_of sessions e)) unseen.view
-          (work_of t, t.stamp, y_stands, all_ready sessions c sound still_quiet seat sealed passed, settled (ltb t.pred t.succ) refl)
+          (work_of t, t.stamp, y_stands, all_ready sessions c sound still_quiet seat sealed passed, settled t.is_mark (ltb t.pred t.succ) refl refl)

@@ -16,6 +16,7 @@ use Rattle.erm_machine.specs.Seat.{decision_of, is_sealed}
 use Rattle.erm_world.specs.World.{size_of}
 use Rattle.erm_core_view.specs.Views.{view_of, work_of}
 use Rattle.erm_core_steps.specs.Settles.{HasPassed}
+use Rattle.erm_block.specs.declared.block.TheConstants.{LEAST_SAFE}
 
 -- what becomes of a mark: it is marked with its begin stamp; and of a transaction by the Serial Safety Net: it commits where its exclusion
 -- window is open
@@ -51,12 +52,14 @@ pub record OnlyAt (sessions seat : ℕ) (c d : Core) : Type 0 where
   pub tail : d.shared.tail ≡ c.shared.tail
   pub flushed : d.shared.flushed ≡ c.shared.flushed
 
--- a sealed transaction may be decided: its versions are passed, its range is of its block's size, and the log's run has 44 bits
+-- a sealed transaction may be decided: its versions are passed, its range is of its block's size, the log's run has 44 bits, and its begin stamp is
+-- one of the log
 pub record MayDecide (c : Core) (seat : ℕ) : Type 0 where
   pub sealed : is_sealed (c.seats seat).place ≡ true
   pub passed : HasPassed (c.seats seat)
   pub sized : (c.seats seat).current.size ≡ size_of (work_of (c.seats seat).current)
   pub run : c.shared.run ≤ LAST_RUN
+  pub opened : LEAST_SAFE ≤ c.shared.opening
 
 -- this header and these words are the spelling of its block, as its exclusion window decides it
 pub record IsSpelledBy (c : Core) (seat header : ℕ) (behind : List ℕ) : Type 0 where

@@ -8,7 +8,7 @@ use Rattle.erm_model.proofs.Members.{∈-push}
 use Rattle.erm_model.specs.declared.limits.TheConstants.{LAST_RUN}
 use Rattle.erm_machine.specs.declared.attempt.Attempt.{Attempt}
 use Rattle.erm_machine.specs.declared.attempt.Decision.{Decision}
-use Rattle.erm_machine.specs.declared.attempt.Decision.TheVariants.{Undecided, Commit, Skip, Abort}
+use Rattle.erm_machine.specs.declared.attempt.Decision.TheVariants.{Undecided, Commit, Skip, Abort, Mark}
 use Rattle.erm_machine.specs.declared.limits.TheConstants.{FLUSH_SEAT, RING_WORDS}
 use Rattle.erm_machine.specs.declared.part.Flushing.{Flushing}
 use Rattle.erm_machine.specs.declared.part.Flushing.TheVariants as flushing
@@ -70,6 +70,7 @@ either_decided Undecided = inl refl
 either_decided Commit = inr (λ (e : Commit ≡ Undecided). cc)
 either_decided Skip = inr (λ (e : Skip ≡ Undecided). cc)
 either_decided Abort = inr (λ (e : Abort ≡ Undecided). cc)
+either_decided Mark = inr (λ (e : Mark ≡ Undecided). cc)
 
 module _ (sessions : ℕ) (c : Core) (sound : Sound c) (quiet : IsQuiet sessions c) where
   pub open_sealed : (at : ℕ) → IsOpenAt c.seats at → IsSome (undecided_upto sessions (view_of sessions c).session at)

@@ -9,7 +9,7 @@ use Rattle.erm_model.proofs.Members.{none_in_nil}
 use Rattle.erm_record.specs.Stored.{block_words}
 use Rattle.erm_machine.specs.declared.attempt.Attempt.{Attempt}
 use Rattle.erm_machine.specs.declared.attempt.Decision.{Decision}
-use Rattle.erm_machine.specs.declared.attempt.Decision.TheVariants.{Commit, Skip}
+use Rattle.erm_machine.specs.declared.attempt.Decision.TheVariants.{Commit, Skip, Mark}
 use Rattle.erm_machine.specs.declared.limits.TheConstants.{FLUSH_SEAT}
 use Rattle.erm_machine.specs.declared.version.Span.{Span}
 use Rattle.erm_machine.specs.Core.{Core}
@@ -35,19 +35,22 @@ abbrev F : ℕ
 F = FLUSH_SEAT
 
 -- what a decision says of a transaction's end
-stamps_by : (d : Decision) (t : Attempt) → HasBlock d → HasStamps (fate_of d t) t.stamp t.succ
+stamps_by : (d : Decision) (t : Attempt) → HasBlock d → HasStamps (fate_of d t) t.stamp (spelled.turn_of d t)
 stamps_by Commit t has = (refl, refl)
 stamps_by Skip t has = (refl, refl)
+stamps_by Mark t has = (refl, refl)
 stamps_by _ t has = absurd has
 
 kind_by : (d : Decision) (t : Attempt) → HasBlock d → spelled.kind_of d ≡ kind_of (fate_of d t)
 kind_by Commit t has = refl
 kind_by Skip t has = refl
+kind_by Mark t has = refl
 kind_by _ t has = absurd has
 
 entries_by : (d : Decision) (t : Attempt) (ws : List VersionWritten) → HasBlock d → spelled.entries_of d ws ≡ entries_of (fate_of d t) ws
 entries_by Commit t ws has = refl
 entries_by Skip t ws has = refl
+entries_by Mark t ws has = refl
 entries_by _ t ws has = absurd has
 
 -- the rows of entries

@@ -1,6 +1,7 @@
 -- Marks of a sound state, as its view has them: active transactions are none, one has done nothing, and just marks end as marks.
-use Rattle.std.proofs.Common.{◌≡◌, ◌≢◌, ℕ, Bool, true, false, map, refl, sym, ap, ◌∙◌, subst}
-use Rattle.std.specs.Prelude.{if◌then◌else◌}
+use Rattle.std.proofs.Common.{◌≡◌, ◌≢◌, ℕ, ◌<◌, Bool, true, false, ◌&&◌, map, refl, sym, ap, ◌∙◌, subst}
+use Rattle.std.specs.Prelude.{if◌then◌else◌, nat_lt}
+use Rattle.std.proofs.lemmas.Bool.{and_from, and_parts, lt-ltb}
 use Rattle.erm_model.specs.Member.{◌∈◌}
 use Rattle.erm_machine.specs.declared.attempt.Attempt.{Attempt}
 use Rattle.erm_machine.specs.declared.attempt.Decision.{Decision}
@@ -10,7 +11,8 @@ use Rattle.erm_machine.specs.declared.place.Place.{Place}
 use Rattle.erm_machine.specs.declared.place.Place.TheVariants.{Active, Sealed}
 use Rattle.erm_machine.specs.declared.task.Task.{Task}
 use Rattle.erm_machine.specs.Back.{IsMarkedAs, OwnBack}
-use Rattle.erm_machine.specs.Seat.{is_active, is_safe, is_snapshot}
+use Rattle.erm_machine.specs.Facts.{IsCurrent, all_of}
+use Rattle.erm_machine.specs.Seat.{is_safe, is_snapshot}
 use Rattle.erm_machine.proofs.Listed.{∈-map}
 use Rattle.erm_world.specs.Laws.{EndsAsMarked}
 use Rattle.erm_world.specs.World.{Finished, Work, begun}
@@ -28,33 +30,44 @@ shown_active_if false safe t w e = cc
 pub shown_active : (u : Task) (t : Attempt) (w : Work) → shown_by u t ≡ world.active w → work_of t ≡ w
 shown_active u t w e = shown_active_if (is_snapshot u) (is_safe u) t w e
 
-active_of : (pl : Place) (u : Task) (t : Attempt) (w : Work) → stand_of pl u t ≡ world.active w → (is_active pl ≡ true) × (work_of t ≡ w)
-active_of (Active tail) u t w e = (refl, shown_active u t w e)
-active_of (Sealed tail stamp) u t w e = absurd (cc)
-active_of _ u t w e = absurd (cc)
+-- its transaction has no stamp
+unsealed_active : (pl : Place) (u : Task) (t : Attempt) (w : Work) → IsCurrent pl t → stand_of pl u t ≡ world.active w → (t.stamp ≡ 0) × (work_of t ≡ w)
+unsealed_active (Active tail) u t w current e = (current.stamp, shown_active u t w e)
+unsealed_active (Sealed tail stamp) u t w current e = absurd (cc)
+unsealed_active _ u t w current e = absurd (cc)
+
+and_false : (b : Bool) → (b && false) ≡ false
+and_false true = refl
+and_false false = refl
+
+-- which is no mark yet
+pub unmarked_work : (t : Attempt) → t.stamp ≡ 0 → (work_of t).is_mark ≡ false
+unmarked_work t none = ap (λ n. t.is_mark && nat_lt 0 n) none ∙ and_false t.is_mark
 
 module _ (seat : ℕ) (x : Part) (back : OwnBack seat x) where
-  pub unmarked_at : (w : Work) → is_active x.place ≡ true → work_of x.current ≡ w → w.is_mark ≡ false
-  unmarked_at w active is = sym (ap (λ (z : Work). z.is_mark) is) ∙ back.unmarked active
-
-  pub unmarked_stand : (w : Work) → stand_of x.place x.task x.current ≡ world.active w → w.is_mark ≡ false
-  unmarked_stand w e = let at = active_of x.place x.task x.current w e in unmarked_at w at.0 at.1
+  pub unmarked_stand : (w : Work) → IsCurrent x.place x.current → stand_of x.place x.task x.current ≡ world.active w → w.is_mark ≡ false
+  unmarked_stand w current e =
+      let at = unsealed_active x.place x.task x.current w current e in sym (ap (λ (z : Work). z.is_mark) at.1) ∙ unmarked_work x.current at.0
 
   pub mark_is : (w : Work) → IsOf x w → w.is_mark ≡ true → w ≡ record (begun w.number w.begin) { is_mark = true }
   mark_is w of marked =
-      let is : of.attempt.is_mark ≡ true = ap (λ (z : Work). z.is_mark) of.is ∙ marked in
+      let is : (of.attempt.is_mark && nat_lt 0 of.attempt.stamp) ≡ true = ap (λ (z : Work). z.is_mark) of.is ∙ marked in
       subst (λ (z : Work). z ≡ record (begun z.number z.begin) { is_mark = true }) of.is
-      (new_as of.attempt true ((back.marks of.attempt of.stands).new is) is)
+      (new_as of.attempt true ((back.marks of.attempt of.stands).new (and_parts _ _ is).0) is)
 
-  ends_by : (d : Decision) (t : Attempt) → d ≢ Undecided → IsMarkedAs d t.is_mark → EndsAsMarked (work_of t) (fate_of d t)
-  ends_by Undecided t decided as = absurd (decided refl)
-  ends_by Commit t decided as = as
-  ends_by Skip t decided as = as
-  ends_by Abort t decided as = as
-  ends_by Mark t decided as = (as, refl)
+  ends_by : (d : Decision) (t : Attempt) → d ≢ Undecided → (d ≢ Abort → 0 < t.stamp) → IsMarkedAs d t.is_mark → EndsAsMarked (work_of t) (fate_of d t)
+  ends_by Undecided t decided drawn as = absurd (decided refl)
+  ends_by Commit t decided drawn as = ap (λ (b : Bool). b && nat_lt 0 t.stamp) as
+  ends_by Skip t decided drawn as = ap (λ (b : Bool). b && nat_lt 0 t.stamp) as
+  ends_by Abort t decided drawn as = ap (λ (b : Bool). b && nat_lt 0 t.stamp) as
+  ends_by Mark t decided drawn as = (and_from t.is_mark (nat_lt 0 t.stamp) as (lt-ltb 0 t.stamp (drawn (λ (e : Mark ≡ Abort). cc))), refl)
 
-  pub ends_marked : ((t : Attempt) → t ∈ x.over → t.decision ≢ Undecided) → (f : Finished) → f ∈ map finished_of x.over → EndsAsMarked f.work f.fate
-  ends_marked decided f m =
+  pub ends_marked : ((t : Attempt) → t ∈ x.over → t.decision ≢ Undecided) → ((t : Attempt) → t ∈ x.over → t.decision ≢ Abort → 0 < t.stamp)
+      → (f : Finished) → f ∈ map finished_of x.over → EndsAsMarked f.work f.fate
+  ends_marked decided drawn f m =
       let from = ∈-map finished_of x.over f m in
       subst (λ (g : Finished). EndsAsMarked g.work g.fate) from.2
-      (ends_by from.0.decision from.0 (decided from.0 from.1) (back.marks from.0 (over_stands x from.0 from.1)).decided)
+      (ends_by from.0.decision from.0 (decided from.0 from.1) (drawn from.0 from.1) (back.marks from.0 (over_stands x from.0 from.1)).decided)
+
+  pub ends_now : (t : Attempt) → t ∈ all_of x → t.decision ≢ Undecided → (t.decision ≢ Abort → 0 < t.stamp) → EndsAsMarked (work_of t) (fate_of t.decision t)
+  ends_now t m decided drawn = ends_by t.decision t decided drawn (back.marks t m).decided

@@ -14,7 +14,7 @@ use Rattle.erm_machine.specs.Facts.{IsCurrent, all_of}
 use Rattle.erm_machine.specs.Lives.{in_progress}
 use Rattle.erm_machine.specs.Sound.{Sound}
 use Rattle.erm_machine.proofs.Listed.{∈-first, ∈-head, ∈-map, ∈-second}
-use Rattle.erm_world.specs.World.{Finished, Has, HasStamp, Stand, Work, stamp_of}
+use Rattle.erm_world.specs.World.{Finished, Has, HasStamp, Work, stamp_of}
 use Rattle.erm_world.specs.World as world
 use Rattle.erm_core_view.specs.Views.{IsQuiet, fate_of, finished_of, stand_of, view_of, work_of}
 use Rattle.erm_core_view.proofs.Snapshots.{IsNewSnapshot, current_by, never_sealed, snapshots_new}

@@ -1,6 +1,6 @@
 -- Snapshots that only read: which tasks are one's, and that what shows of them is all that they are.
-use Rattle.std.proofs.Common.{◌≡◌, ℕ, ◌<◌, Bool, true, false, ◌||◌, List, [], ◌∷◌, length, refl, sym, ap, ◌∙◌, arith}
-use Rattle.std.specs.Prelude.{if◌then◌else◌}
+use Rattle.std.proofs.Common.{◌≡◌, ℕ, ◌<◌, Bool, true, false, ◌||◌, List, [], ◌∷◌, length, refl, sym, ap, ◌∙◌, arith, ◌&&◌}
+use Rattle.std.specs.Prelude.{if◌then◌else◌, nat_lt}
 use Rattle.std.proofs.lemmas.Bool.{cond-false, or_left}
 use Rattle.erm_model.specs.declared.outcome.Phase.TheVariants as phase
 use Rattle.erm_machine.specs.declared.attempt.Attempt.{Attempt}
@@ -127,7 +127,7 @@ none_of : {X : Type 0} (xs : List X) → length xs ≡ 0 → xs ≡ []
 none_of [] e = refl
 none_of (x ∷ xs) e = absurd (omega (arith, e))
 
-pub new_as : (t : Attempt) (b : Bool) → is_new t ≡ true → t.is_mark ≡ b → work_of t ≡ record (world.begun t.number t.begin) { is_mark = b }
+pub new_as : (t : Attempt) (b : Bool) → is_new t ≡ true → (t.is_mark && nat_lt 0 t.stamp) ≡ b → work_of t ≡ record (world.begun t.number t.begin) { is_mark = b }
 new_as t b new mark =
     let did = new_is t new in
     let reads = none_of t.reads did.reads in
@@ -136,7 +136,7 @@ new_as t b new mark =
     cc
 
 pub new_work : (t : Attempt) → is_new t ≡ true → t.is_mark ≡ false → work_of t ≡ world.begun t.number t.begin
-new_work t new unmarked = new_as t false new unmarked
+new_work t new unmarked = new_as t false new (ap (λ (b : Bool). b && nat_lt 0 t.stamp) unmarked)
 
 -- so what shows of it is its work
 shown_if : (b safe : Bool) (t : Attempt) → (b ≡ true → (is_new t ≡ true) × (t.is_mark ≡ false))

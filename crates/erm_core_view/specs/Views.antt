@@ -1,5 +1,5 @@
 -- The machine's state as a world of sessions, between two calls.
-use Rattle.std.specs.Prelude.{◌≡◌, Bool, ◌||◌, if◌then◌else◌, ℕ, ◌<◌, ◌≤◌, true, false, [], map, Option, Some, None}
+use Rattle.std.specs.Prelude.{◌≡◌, Bool, ◌||◌, if◌then◌else◌, ℕ, ◌<◌, ◌≤◌, true, false, [], map, Option, Some, None, ◌&&◌, nat_lt}
 use Rattle.erm_model.specs.declared.limits.TheConstants.{LAST_RUN}
 use Rattle.erm_machine.specs.declared.attempt.Attempt.{Attempt}
 use Rattle.erm_machine.specs.declared.attempt.Decision.{Decision}
@@ -20,7 +20,7 @@ use Rattle.erm_machine.specs.Words.{is_flusher}
 use Rattle.erm_world.specs.World.{Fate, Finished, Session, Stand, View, Work}
 use Rattle.erm_world.specs.World as world
 
--- what a transaction has done
+-- what a transaction has done; a mark is one from its place of the log on
 abbrev pub work_of : Attempt → Work
 work_of t = record {
   number = t.number;
@@ -28,7 +28,7 @@ work_of t = record {
   reads = map read_of t.reads;
   claims = map written_of t.writes;
   made = t.made;
-  is_mark = t.is_mark;
+  is_mark = t.is_mark && nat_lt 0 t.stamp;
 }
 
 -- how it ended

@@ -13,7 +13,7 @@ use Rattle.erm_machine.specs.declared.task.Task.TheVariants.{Rest}
 use Rattle.erm_machine.specs.Begins.{BeginsAt}
 use Rattle.erm_machine.specs.Decided.{record_of}
 use Rattle.erm_machine.specs.Life.{store_state}
-use Rattle.erm_machine.specs.Seat.{is_active, is_vacant, may_start, with_range}
+use Rattle.erm_machine.specs.Seat.{is_active, is_vacant, with_range, is_safe, may_seal, with_mark}
 use Rattle.erm_machine.specs.Words.{begin_of, is_session}
 use Rattle.erm_model.specs.Lawful.{IsLawfulRecord}
 use Rattle.erm_model.specs.Member.{◌∈◌}
@@ -40,23 +40,23 @@ both a b e f = cc
 
 -- the part once the state word is 1, and once the range is drawn
 abbrev pub sealing_part : Part → Part
-sealing_part x = record x { place = Sealing (begin_of x.place); task = Rest }
+sealing_part x = record x { place = Sealing (begin_of x.place); task = Rest; current = with_mark (is_safe x.task) x.current }
 
 abbrev pub drawn_part : ℕ → ℕ → Part → Part
-drawn_part size stamp x = record x { place = Drawn (begin_of x.place) stamp; task = Rest; seen = stamp; current = with_range stamp size x.current }
+drawn_part size stamp x = record x { place = Drawn (begin_of x.place) stamp; task = Rest; seen = stamp; current = with_range stamp size (with_mark (is_safe x.task) x.current) }
 
 module _ (v : View) (who : ℕ) (x : Part) (has : part_in v who ≡ Some x) (session : is_session who ≡ true) where
-  module _ (active : is_active x.place ≡ true) (rests : may_start x.task ≡ true) where
+  module _ (active : is_active x.place ≡ true) (rests : may_seal x.task ≡ true) where
     pub ready_seal : Ready v who (kind.StoreState 1)
     ready_seal =
         ready_by v who (kind.StoreState 1) x has
         (λ c sound is. subst (λ (pl : Place). IsSome (store_state who 1 x pl)) (sym (active_is x.place active))
-        (some_when (is_session who && may_start x.task) (sealing_part x) (both (is_session who) (may_start x.task) session rests)))
+        (some_when (is_session who && may_seal x.task) (sealing_part x) (both (is_session who) (may_seal x.task) session rests)))
 
     pub sealing_view : (found : ℕ) (w : View) → Told v who (kind.StoreState 1) found w → w ≡ with_part who (sealing_part x) v
     sealing_view found w told =
         told_first v who (kind.StoreState 1) found w x (sealing_part x) has told
-        (λ s z e. when_is (is_session who && may_start x.task) (sealing_part x) z (subst (λ (pl : Place). store_state who 1 x pl ≡ Some z) (active_is x.place active) e))
+        (λ s z e. when_is (is_session who && may_seal x.task) (sealing_part x) z (subst (λ (pl : Place). store_state who 1 x pl ≡ Some z) (active_is x.place active) e))
 
   module _ (size : ℕ) (least : LEAST_BLOCK ≤ size) (greatest : size ≤ GREATEST_BLOCK) (w : View) (is : w ≡ with_part who (sealing_part x) v) where
     -- the transaction is the one before the seal
