@@ -50,7 +50,7 @@ place_vacant true e = absurd (e refl)
 place_vacant false e = refl
 
 -- an opening's state is one between two calls
-pub opening_quiet : (sessions : ℕ) (rows : Rows) (tail run first cells : ℕ) → sessions ≤ SESSIONS → 1 < tail → run ≤ LAST_RUN → IsQuiet sessions (opening_state sessions rows tail run first cells)
+pub opening_quiet : (sessions : ℕ) (rows : Rows) (tail run first cells : ℕ) → sessions ≤ SESSIONS → 8 ≤ tail → run ≤ LAST_RUN → IsQuiet sessions (opening_state sessions rows tail run first cells)
 opening_quiet sessions rows tail run first cells few behind short = record {
   between = λ q some low. place_taken (is_taken sessions q) (session_taken sessions q some low);
   others = λ q other plain. place_vacant (is_taken sessions q) (other_taken sessions q other plain);

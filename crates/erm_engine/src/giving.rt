@@ -35,7 +35,7 @@ pub(crate) fn give_sessions<L: RowLaw>(
 ) -> Result<Vec<TableSession<L>>, AllocError>
     requires given { HasGiven L.law t.now.words.shared.table_id opening.now 0 p.old }
     requires none { opening.now.sessions ≡ 0 }
-    requires behind { 1 < opening.now.tail }
+    requires behind { 8 ≤ opening.now.tail }
     requires run_high { opening.now.run ≤ LAST_RUN }
     requires few { count ≤ SESSIONS }
     ensures rest { OnOk result (HasGiven L.law t.now.words.shared.table_id opening.now count p.new) }
@@ -68,7 +68,7 @@ pub(crate) fn give_idle<L: RowLaw>(
 ) -> Result<Vec<Pass>, AllocError>
     requires given { HasGiven L.law t.now.words.shared.table_id opening.now count p.old }
     requires none { opening.now.sessions ≡ 0 }
-    requires behind { 1 < opening.now.tail }
+    requires behind { 8 ≤ opening.now.tail }
     requires few { count ≤ SESSIONS }
     ensures rest { OnOk result (HasGiven L.law t.now.words.shared.table_id opening.now SESSIONS p.new) }
     ensures idle { IfOk result (λ passes. AreIdle t.now.words.shared.table_id opening.now.run opening.now.tail count SESSIONS passes.items) }

@@ -29,7 +29,7 @@ fn rows_are_whole(rows: &[Row])
 {}
 
 /// Opens a table on a row for each object, and hands out so many sessions, at most 48. At the opening itself none is idle. The log goes on at the
-/// opening's tail, in words, from 2 to 2^60 + 4, and is written as this run, up to 2^44 - 1; the objects that are made have numbers from the
+/// opening's tail, in words, from 8 to 2^60 + 4, and is written as this run, up to 2^44 - 1; the objects that are made have numbers from the
 /// opening's first on. The rows meet the law, and reach no object from there on.
 pub fn open<L: RowLaw>(
     alloc: Global,
@@ -38,7 +38,7 @@ pub fn open<L: RowLaw>(
 ) -> Result<Opened<L>, AllocError>
     requires few { sessions ≤ SESSIONS }
     requires none { opening.now.sessions ≡ 0 }
-    requires positive { 1 < opening.now.tail }
+    requires positive { 8 ≤ opening.now.tail }
     requires low { opening.now.tail ≤ STOP + 4 }
     requires run_high { opening.now.run ≤ LAST_RUN }
     requires first { opening.now.first ≤ OID_LIMIT }

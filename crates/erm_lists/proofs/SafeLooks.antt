@@ -185,7 +185,7 @@ reader_has seat c at = record { session = at.session; active = at.active; snapsh
 pub snapshot_cleared : (seat : ℕ) (c : Core) → Sound c → IsPendingOrSafe seat c → HasCleared seat c
 snapshot_cleared seat c sound at =
     let x = c.seats seat in
-    let none = new_is x.current (snapshots_new c seat sound at.snapshot) in
+    let none = new_is x.current (snapshots_new c seat sound at.snapshot).0 in
     has_cleared seat 0 0 0 c refl
     (record {
       session = at.session;

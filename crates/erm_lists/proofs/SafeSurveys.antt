@@ -1,5 +1,5 @@
 -- The survey of a snapshot: which of its steps are taken, what they lead to, and what its answers say.
-use Rattle.std.proofs.Common.{◌≡◌, ◌≢◌, ℕ, ◌+◌, ◌-◌, ◌<◌, ◌≤◌, ◌⊎◌, ⊎_elim, Bool, true, false, eqb, leb, ltb, Some, None, map, refl, sym, ap, ◌∙◌, subst, arith}
+use Rattle.std.proofs.Common.{◌≡◌, ◌≢◌, ℕ, ◌+◌, ◌-◌, ◌<◌, ◌≤◌, ◌⊎◌, ⊎_elim, true, false, eqb, leb, ltb, Some, None, map, refl, sym, ap, ◌∙◌, subst, arith}
 use Rattle.std.specs.Prelude.{if◌then◌else◌}
 use Rattle.std.proofs.lemmas.Bool.{and_from, cases_lt, cond-false, cond-true, eq-eqb, eqb-false, leb-false, lt-ltb, ne_eqb, or_parts}
 use Rattle.std.proofs.lemmas.Option.{same_Some}
@@ -43,7 +43,7 @@ use Rattle.erm_core_safe.proofs.Stamps.{stamp_safe}
 use Rattle.erm_core_turns.proofs.Turns.{part_stepped}
 use Rattle.erm_core_view.specs.Views.{IsBetween, IsQuiet, finished_of, is_standing, session_of, stand_of, view_of, work_of}
 use Rattle.erm_core_view.proofs.Commits.{has_the_history}
-use Rattle.erm_core_view.proofs.Snapshots.{IsNewSnapshot, shows_current, snapshots_new}
+use Rattle.erm_core_view.proofs.Snapshots.{IsNewSnapshot, current_begins, shows_current, snapshots_new}
 use Rattle.erm_core_steps.specs.Steps.{IsTaken}
 use Rattle.erm_core_steps.proofs.Aborts.{abort_done, session_plain}
 use Rattle.erm_core_steps.proofs.Quiet.{session_of_few}
@@ -209,17 +209,11 @@ safe_at task.Safe e none = refl
 safe_at (task.Surveys next) e none = absurd (cc)
 safe_at _ e none = absurd (cc)
 
-working_if : (b : Bool) (s : Snapshot) (x w : Work) → world.IsWorking (if b then world.snapshot s else world.active x) w → x ≡ w
-working_if true s x w working = absurd working
-working_if false s x w working = working
-
--- whoever works began at the stamp or later
-working_late : (pl : Place) (u : Task) (t : Attempt) (w : Work) (b : ℕ) → (HasBegun pl → b ≤ t.begin) → world.IsWorking (stand_of pl u t) w → b ≤ w.begin
-working_late (Active tail) u t w b begun working =
-    subst (λ (v : Work). b ≤ v.begin)
-    (working_if (is_snapshot u) (record { number = t.number; begin = t.begin; is_safe = is_safe u }) (work_of t) w working) (begun tt)
-working_late (Sealed tail stamp) u t w b begun working = subst (λ (v : Work). b ≤ v.begin) working (begun tt)
-working_late _ u t w b begun working = absurd working
+-- whoever has a transaction or a snapshot began at the stamp or later
+current_late : (pl : Place) (u : Task) (t : Attempt) (w : Work) (b : ℕ) → (HasBegun pl → b ≤ t.begin) → world.IsCurrent (stand_of pl u t) w → b ≤ w.begin
+current_late (Active tail) u t w b begun now = subst (λ n. b ≤ n) (current_begins u t w now) (begun tt)
+current_late (Sealed tail stamp) u t w b begun now = subst (λ (v : Work). b ≤ v.begin) now (begun tt)
+current_late _ u t w b begun now = absurd now
 
 safe_in : (sessions seat : ℕ) (c : Core) → Sound c → IsQuiet sessions c → is_safe (c.seats seat).task ≡ true → IsSafeIn (view_of sessions c) (c.seats seat).current.begin
 safe_in sessions seat c sound quiet is =
@@ -228,9 +222,9 @@ safe_in sessions seat c sound quiet is =
     record {
       past = passed.past;
       history = subst (λ (h : History). IsSafeAt h b) (sym (has_the_history sessions c sound quiet)) (stamp_safe c b sound passed);
-      begins = λ q w session working.
+      begins = λ q w session now.
           let y = c.seats q in
-          working_late y.place y.task y.current w b (passed.sessions q (session_of_few sessions q c quiet session.0 session.1)).begun working;
+          current_late y.place y.task y.current w b (passed.sessions q (session_of_few sessions q c quiet session.0 session.1)).begun now;
     }
 
 -- so each safe snapshot of a world between two calls stands on a safe stamp

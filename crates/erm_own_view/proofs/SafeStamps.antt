@@ -37,31 +37,31 @@ use Rattle.erm_core_si.proofs.SnapshotLists.{∈-front, ∈-last}
 use Rattle.erm_core_ssn.proofs.RowsHistory.{snapshot_history}
 use Rattle.erm_core_stays.proofs.Commits.{event_commits}
 use Rattle.erm_core_view.proofs.Moved.{changes_one}
-use Rattle.erm_core_view.proofs.Snapshots.{working_by}
+use Rattle.erm_core_view.proofs.Snapshots.{current_begins}
 use Rattle.erm_rule.specs.declared.view.Book.{Book}
 use Rattle.erm_rule.specs.Books.{IsBookOf, Passes}
 use Rattle.erm_beside.specs.Safe.{IsRowBelow}
 use Rattle.erm_world.specs.Safe.{IsSafeIn}
-use Rattle.erm_world.specs.World.{IsWorking, Opening, View, Work}
+use Rattle.erm_world.specs.World.{Opening, View, Work, IsCurrent}
 use Rattle.erm_own_view.specs.Own.{EndsIn}
 use Rattle.erm_own_view.specs.SafeStamps.{HasRowBelow}
 use Rattle.erm_own_view.proofs.Along.{event_opening, none_of, of_later}
 
--- IN A SOUND STATE whoever is at work begins at a passed stamp or later
-working_late : (pl : Place) (u : Task) (t : Attempt) (w : Work) (bound : ℕ) → IsWorking (shown_stand pl u t) w → (HasBegun pl → bound ≤ t.begin) → bound ≤ w.begin
-working_late (place.Active tail) (task.Ends raised ended step cleared) t w bound working late = absurd working
-working_late (place.Active tail) u t w bound working late = subst (λ (z : Work). bound ≤ z.begin) (working_by u t w working) (late tt)
-working_late (place.Sealing tail) u t w bound working late = subst (λ (z : Work). bound ≤ z.begin) working (late tt)
-working_late (place.Drawn tail stamp) u t w bound working late = subst (λ (z : Work). bound ≤ z.begin) working (late tt)
-working_late (place.Sealed tail stamp) u t w bound working late = subst (λ (z : Work). bound ≤ z.begin) working (late tt)
-working_late _ u t w bound working late = absurd working
+-- IN A SOUND STATE whoever has a transaction or a snapshot begins at a passed stamp or later
+current_late : (pl : Place) (u : Task) (t : Attempt) (w : Work) (bound : ℕ) → IsCurrent (shown_stand pl u t) w → (HasBegun pl → bound ≤ t.begin) → bound ≤ w.begin
+current_late (place.Active tail) (task.Ends raised ended step cleared) t w bound now late = absurd now
+current_late (place.Active tail) u t w bound now late = subst (λ n. bound ≤ n) (current_begins u t w now) (late tt)
+current_late (place.Sealing tail) u t w bound now late = subst (λ (z : Work). bound ≤ z.begin) now (late tt)
+current_late (place.Drawn tail stamp) u t w bound now late = subst (λ (z : Work). bound ≤ z.begin) now (late tt)
+current_late (place.Sealed tail stamp) u t w bound now late = subst (λ (z : Work). bound ≤ z.begin) now (late tt)
+current_late _ u t w bound now late = absurd now
 
 pub safe_shown : (c : Core) (bound : ℕ) → Sound c → HasOnly SESSIONS c → ArePassed bound c → IsSafeIn (shown_of SESSIONS c) bound
 safe_shown c bound sound only passed = record {
   past = passed.past;
   history = subst (λ (h : History). IsSafeAt h bound) (sym (shows_the_history SESSIONS c sound only)) (stamp_safe c bound sound passed);
-  begins = λ q w here working.
-      working_late (c.seats q).place (c.seats q).task (c.seats q).current w bound working (passed.sessions q (session_from q here.0 here.1)).begun;
+  begins = λ q w here now.
+      current_late (c.seats q).place (c.seats q).task (c.seats q).current w bound now (passed.sessions q (session_from q here.0 here.1)).begun;
 }
 
 -- AN EVENT leaves it passed

@@ -30,7 +30,7 @@ use Rattle.erm_core_safe.proofs.Passing.{safe_passes}
 use Rattle.erm_core_safe.proofs.Stamps.{stamp_safe}
 use Rattle.erm_core_view.specs.Views.{IsBetween, IsQuiet, session_of, stand_of, view_of, work_of}
 use Rattle.erm_core_view.proofs.Commits.{has_the_history}
-use Rattle.erm_core_view.proofs.Snapshots.{IsNewSnapshot, shown_begins, shows_current, snapshots_new, working_by}
+use Rattle.erm_core_view.proofs.Snapshots.{IsNewSnapshot, shown_begins, shows_current, snapshots_new, current_begins}
 use Rattle.erm_core_steps.proofs.Aborts.{no_flusher, session_plain}
 use Rattle.erm_core_steps.proofs.Quiet.{session_of_few}
 use Rattle.erm_rule.specs.declared.view.Book.{Book}
@@ -42,7 +42,7 @@ use Rattle.erm_session.specs.Safe.{TookUnsafeEnd}
 use Rattle.erm_world.specs.Calls.{DidAbort}
 use Rattle.erm_world.specs.declared.stops.SafeStop.TheVariants as safe
 use Rattle.erm_world.specs.Safe.{DidNotSafe, DidSafe, HasSafeStamps, IsSafeIn, with_snapshot}
-use Rattle.erm_world.specs.World.{IsSession, IsWorking, Snapshot, View, Work, phase_of, work_at}
+use Rattle.erm_world.specs.World.{IsSession, Snapshot, View, Work, phase_of, work_at}
 use Rattle.erm_world.specs.World as world
 use Rattle.erm_table_world.specs.Stands.{StandsAt}
 use Rattle.erm_table_world.proofs.Aborting.{aborted}
@@ -51,12 +51,11 @@ use Rattle.erm_table_world.proofs.SafeShows.{same_shows, shown, some_begin, task
 use Rattle.erm_table_world.proofs.Still.{Stayed, becomes, went_ran, went_stayed}
 use Rattle.erm_table_world.proofs.Wholly.{Ran, part_is, runs}
 
--- WHO IS AT WORK begins at a stamp that is passed or later
-working_late : (pl : Place) (u : Task) (t : Attempt) (w : Work) (bound : ℕ) → IsWorking (stand_of pl u t) w → (HasBegun pl → bound ≤ t.begin) → bound ≤ w.begin
-working_late (Active tail) u t w bound working late =
-    subst (λ (z : Work). bound ≤ z.begin) (working_by u t w working) (late tt)
-working_late (Sealed tail stamp) u t w bound working late = subst (λ (z : Work). bound ≤ z.begin) working (late tt)
-working_late _ u t w bound working late = absurd working
+-- WHO HAS A TRANSACTION OR A SNAPSHOT began at a stamp that is passed or later
+current_late : (pl : Place) (u : Task) (t : Attempt) (w : Work) (bound : ℕ) → world.IsCurrent (stand_of pl u t) w → (HasBegun pl → bound ≤ t.begin) → bound ≤ w.begin
+current_late (Active tail) u t w bound now late = subst (λ n. bound ≤ n) (current_begins u t w now) (late tt)
+current_late (Sealed tail stamp) u t w bound now late = subst (λ (z : Work). bound ≤ z.begin) now (late tt)
+current_late _ u t w bound now late = absurd now
 
 -- in a quiet sound state in which the seat's snapshot is safe its begin stamp is safe in the world
 safe_in : (sessions seat : ℕ) (c : Core) → Sound c → IsQuiet sessions c → is_safe (c.seats seat).task ≡ true → IsSafeIn (view_of sessions c) (c.seats seat).current.begin
@@ -66,8 +65,8 @@ safe_in sessions seat c sound quiet is =
       past = passed.past;
       history =
           subst (λ (h : History). IsSafeAt h (c.seats seat).current.begin) (sym (has_the_history sessions c sound quiet)) (stamp_safe c (c.seats seat).current.begin sound passed);
-      begins = λ q w here working.
-          working_late (c.seats q).place (c.seats q).task (c.seats q).current w (c.seats seat).current.begin working
+      begins = λ q w here now.
+          current_late (c.seats q).place (c.seats q).task (c.seats q).current w (c.seats seat).current.begin now
           (passed.sessions q (session_of_few sessions q c quiet here.0 here.1)).begun;
     }
 
