@@ -5,7 +5,7 @@ use Rattle.erm_model.specs.declared.row_stop.RowStop.TheVariants as stop
 use Rattle.erm_world.specs.declared.stops.BeginStop.{BeginStop}
 use Rattle.erm_world.specs.declared.stops.BeginStop.TheVariants as begin
 use Rattle.erm_model.specs.declared.outcome.Outcome.{Outcome}
-use Rattle.erm_model.specs.declared.outcome.Outcome.TheVariants.{Committed, Excluded}
+use Rattle.erm_model.specs.declared.outcome.Outcome.TheVariants.{Committed, Excluded, Marked}
 use Rattle.erm_world.specs.declared.stops.Wait.{Wait}
 use Rattle.erm_world.specs.Calls.{DidBegin, DidMake, DidNotMake, DidNotSettle, DidSettle, MayNotBegin, Settled}
 use Rattle.erm_world.specs.World.{View, Work}
@@ -31,6 +31,7 @@ fresh_keeps (Err why) v t seat did not = ap (λ (u : View). u.opening) (stays_un
 settled_keeps : (o : Outcome) (v t : View) (seat stamp : ℕ) (w : Work) → Settled v seat w stamp o t → t.opening ≡ v.opening
 settled_keeps (Committed r) v t seat stamp w did = did.0.opening
 settled_keeps (Excluded at succ pred) v t seat stamp w did = did.0.opening
+settled_keeps (Marked at safe) v t seat stamp w did = did.0.opening
 
 pub settle_keeps : (r : Result Outcome Wait) (v t : View) (seat : ℕ) → IfOk r (λ o. DidSettle v seat o t) → IfErr r (λ why. DidNotSettle v seat why t) → t.opening ≡ v.opening
 settle_keeps (Ok o) v t seat did not = settled_keeps o v t seat did.1 did.0 did.4

@@ -1,5 +1,5 @@
 -- Marks of a sound state, as its view has them: active transactions are none, one has done nothing, and just marks end as marks.
-use Rattle.std.proofs.Common.{◌≡◌, ◌≢◌, ℕ, ◌<◌, Bool, true, false, ◌&&◌, map, refl, sym, ap, ◌∙◌, subst}
+use Rattle.std.proofs.Common.{◌≡◌, ◌≢◌, ℕ, ◌<◌, Bool, true, false, ◌&&◌, map, refl, sym, ap, ◌∙◌, subst, ◌||◌, arith}
 use Rattle.std.specs.Prelude.{if◌then◌else◌, nat_lt}
 use Rattle.std.proofs.lemmas.Bool.{and_from, and_parts, lt-ltb}
 use Rattle.erm_model.specs.Member.{◌∈◌}
@@ -12,14 +12,17 @@ use Rattle.erm_machine.specs.declared.place.Place.TheVariants.{Active, Sealed}
 use Rattle.erm_machine.specs.declared.task.Task.{Task}
 use Rattle.erm_machine.specs.Back.{IsMarkedAs, OwnBack}
 use Rattle.erm_machine.specs.Facts.{IsCurrent, all_of}
-use Rattle.erm_machine.specs.Seat.{is_safe, is_snapshot}
+use Rattle.erm_machine.specs.Seat.{is_safe, is_snapshot, is_active, may_start}
 use Rattle.erm_machine.proofs.Listed.{∈-map}
 use Rattle.erm_world.specs.Laws.{EndsAsMarked}
-use Rattle.erm_world.specs.World.{Finished, Work, begun}
+use Rattle.erm_world.specs.World.{Finished, Work, begun, Snapshot, marking}
 use Rattle.erm_world.specs.World as world
 use Rattle.erm_core_view.specs.Views.{fate_of, finished_of, shown_by, stand_of, work_of}
 use Rattle.erm_core_view.proofs.Parts.{IsOf, over_stands}
-use Rattle.erm_core_view.proofs.Snapshots.{new_as}
+use Rattle.erm_core_view.proofs.Snapshots.{new_as, new_work, snapshots_new}
+use Rattle.erm_machine.specs.Core.{Core}
+use Rattle.erm_machine.specs.Sound.{Sound}
+use Rattle.erm_machine.proofs.Backs.{safe_snapshot, start_unsafe}
 
 -- what shows as active is the current transaction of an active seat
 shown_active_if : (b safe : Bool) (t : Attempt) (w : Work)
@@ -71,3 +74,40 @@ module _ (seat : ℕ) (x : Part) (back : OwnBack seat x) where
 
   pub ends_now : (t : Attempt) → t ∈ all_of x → t.decision ≢ Undecided → (t.decision ≢ Abort → 0 < t.stamp) → EndsAsMarked (work_of t) (fate_of t.decision t)
   ends_now t m decided drawn = ends_by t.decision t decided drawn (back.marks t m).decided
+
+-- WHAT IS SEALED is a mark just where the task is that of a safe snapshot, since no active transaction is one
+bit_by : (a b p : Bool) → b ≡ false → p ≡ true → ((a || b) && p) ≡ a
+bit_by true b p none some = some
+bit_by false b p none some = ap (λ (z : Bool). z && p) none
+
+pub seal_bit : (c : Core) (seat : ℕ) → Sound c → is_active (c.seats seat).place ≡ true
+    → ((is_safe (c.seats seat).task || (c.seats seat).current.is_mark) && nat_lt 0 c.shared.tail) ≡ is_safe (c.seats seat).task
+seal_bit c seat sound active =
+    let onward = sound.common.log.gathered.onward in
+    let opened = sound.common.ranges.positive in
+    let low = onward.0 in
+    let between = onward.1 in
+    let high = onward.2 in
+    bit_by (is_safe (c.seats seat).task) (c.seats seat).current.is_mark (nat_lt 0 c.shared.tail) ((sound.own seat).back.unmarked active)
+    (lt-ltb 0 c.shared.tail (omega (arith, opened, low, between, high)))
+
+-- the transaction's work, or that of the mark of its safe snapshot
+abbrev pub sealed_work : Part → Work
+sealed_work x = record (work_of x.current) { is_mark = is_safe x.task }
+
+pub sealed_transaction : (c : Core) (seat : ℕ) → Sound c → is_active (c.seats seat).place ≡ true → may_start (c.seats seat).task ≡ true
+    → sealed_work (c.seats seat) ≡ work_of (c.seats seat).current
+sealed_transaction c seat sound active starts =
+    let x = c.seats seat in
+    let none : (x.current.is_mark && nat_lt 0 x.current.stamp) ≡ false = ap (λ (b : Bool). b && nat_lt 0 x.current.stamp) ((sound.own seat).back.unmarked active) in
+    ap (λ (b : Bool). let w : Work = record (work_of x.current) { is_mark = b } in w) (start_unsafe x.task starts ∙ sym none)
+
+abbrev pub marked_snapshot : Attempt → Snapshot
+marked_snapshot t = record { number = t.number; begin = t.begin; is_safe = true }
+
+pub sealed_mark : (c : Core) (seat : ℕ) → Sound c → is_safe (c.seats seat).task ≡ true → sealed_work (c.seats seat) ≡ marking (marked_snapshot (c.seats seat).current)
+sealed_mark c seat sound safe =
+    let x = c.seats seat in
+    let new = snapshots_new c seat sound (safe_snapshot x.task safe) in
+    ap (λ (b : Bool). let w : Work = record (work_of x.current) { is_mark = b } in w) safe
+    ∙ ap (λ (w : Work). let z : Work = record w { is_mark = true } in z) (new_work x.current new.0 new.1)

@@ -1,7 +1,6 @@
 -- A session's seal: its three steps draw a range of its block's size.
-use Rattle.std.proofs.Common.{◌≡◌, ◌≢◌, ℕ, ◌+◌, ◌*◌, ◌≤◌, ◌&&◌, eqb, leb, true, false, All, List, [], ◌∷◌, ◌++◌, get_or, length, map, sum_by, Some, None, refl, sym, ap, ◌∙◌, subst, arith, Bool, ◌||◌}
-use Rattle.std.specs.Prelude.{nat_lt}
-use Rattle.std.proofs.lemmas.Bool.{and_from, cond-true, eq-eqb, eqb-false, false≢true, le-leb, or_from, true_from_ne_false, lt-ltb}
+use Rattle.std.proofs.Common.{◌≡◌, ◌≢◌, ℕ, ◌+◌, ◌*◌, ◌≤◌, ◌&&◌, eqb, leb, true, false, All, List, [], ◌∷◌, ◌++◌, get_or, length, map, sum_by, Some, None, refl, sym, ap, ◌∙◌, subst, arith, Bool}
+use Rattle.std.proofs.lemmas.Bool.{and_from, cond-true, eq-eqb, eqb-false, false≢true, le-leb, or_from, true_from_ne_false}
 use Rattle.std.proofs.lemmas.List.{length-map}
 use Rattle.std.proofs.lemmas.List.Sums.{sum_by-le}
 use Rattle.erm_model.specs.declared.history.VersionWritten.{VersionWritten}
@@ -24,18 +23,19 @@ use Rattle.erm_machine.proofs.Frames.{put_other, put_same}
 use Rattle.erm_machine.proofs.Listed.{∈-map}
 use Rattle.erm_record.specs.Stored.{stored_length, stored_words}
 use Rattle.erm_world.specs.Calls.{DidSeal, Seals}
-use Rattle.erm_world.specs.World.{Work, work_at, Snapshot, marking, Session}
+use Rattle.erm_world.specs.World.{Work, work_at, Session}
 use Rattle.erm_world.specs.World as world
 use Rattle.erm_core_view.specs.Steps.{RestsAt, seal_steps}
 use Rattle.erm_core_view.specs.Views.{finished_of, pin_of, session_of, view_of, work_of, shown_by, stand_of}
 use Rattle.erm_core_view.proofs.Chained.{goes, three_taken}
 use Rattle.erm_core_view.proofs.Parts.{current_stands}
 use Rattle.erm_core_view.proofs.Shown.{work_active}
-use Rattle.erm_core_view.proofs.Snapshots.{starts_new, new_work, shown_safe, snapshots_new}
+use Rattle.erm_core_view.proofs.Snapshots.{starts_new, shown_safe}
 use Rattle.erm_machine.specs.declared.attempt.Attempt.{Attempt}
 use Rattle.erm_machine.specs.declared.task.Task.{Task}
 use Rattle.erm_world.specs.Safe.{DidMark}
-use Rattle.erm_machine.proofs.Backs.{safe_seals, safe_snapshot, start_seals, start_unsafe}
+use Rattle.erm_machine.proofs.Backs.{safe_seals, start_seals}
+use Rattle.erm_core_view.proofs.Marks.{marked_snapshot, seal_bit, sealed_mark, sealed_transaction, sealed_work}
 
 -- the part after the state word is 1, after the draw, after the stamp is stored
 abbrev sealing : ℕ → Part → Part
@@ -75,6 +75,11 @@ is_sessions : (seat : ℕ) (place : Place) → (is_seat seat ≡ false → place
 is_sessions seat place vacant active other = true_from_ne_false (is_session seat) (λ none.
     let gone : is_active place ≡ false = ap is_active (vacant (or_from (is_session seat) (is_flusher seat) none other)) in
     false≢true (sym gone ∙ active))
+
+-- an active session shows what its task says
+pub stands_shown : (pl : Place) (u : Task) (t : Attempt) → is_active pl ≡ true → stand_of pl u t ≡ shown_by u t
+stands_shown (Active tail) u t e = refl
+stands_shown _ u t e = absurd (cc)
 
 -- a block of the rows claimed is no greater than blocks may be
 module _ (short : (row : List ℕ) → stored_length row ≤ length row) where
@@ -149,30 +154,15 @@ module _ (short : (row : List ℕ) → stored_length row ≤ length row) where
         put_other (put (put c.seats seat (sealing begin x)) seat (drawn begin size c.shared.tail x)) seat (sealed begin size c.shared.tail x) q other
         ∙ put_other (put c.seats seat (sealing begin x)) seat (drawn begin size c.shared.tail x) q other ∙ put_other c.seats seat (sealing begin x) q other
 
-    -- with its transaction, or with the mark of its safe snapshot
-    abbrev sealed_work : Work
-    sealed_work = record (work_of (c.seats seat).current) { is_mark = is_safe (c.seats seat).task }
-
-    mark_bit : ((is_safe (c.seats seat).task || (c.seats seat).current.is_mark) && nat_lt 0 c.shared.tail) ≡ is_safe (c.seats seat).task
-    mark_bit =
-        let onward = sound.common.log.gathered.onward in
-        let opened = sound.common.ranges.positive in
-        let low = onward.0 in
-        let between = onward.1 in
-        let high = onward.2 in
-        by (is_safe (c.seats seat).task) (c.seats seat).current.is_mark (nat_lt 0 c.shared.tail) ((sound.own seat).back.unmarked active) (lt-ltb 0 c.shared.tail (omega (arith, opened, low, between, high)))
-      where
-        by : (a b p : Bool) → b ≡ false → p ≡ true → ((a || b) && p) ≡ a
-        by true b p none some = some
-        by false b p none some = ap (λ (z : Bool). z && p) none
-
-    pub seals_as : (sessions : ℕ) → Seals (view_of sessions c) seat sealed_work c.shared.tail (view_of sessions (run_from c (seal_steps seat size c.shared.tail)))
+    pub seals_as : (sessions : ℕ) → Seals (view_of sessions c) seat (sealed_work (c.seats seat)) c.shared.tail (view_of sessions (run_from c (seal_steps seat size c.shared.tail)))
     seals_as sessions =
         let v = view_of sessions c in
-        let shows : Seals v seat sealed_work c.shared.tail (view_of sessions after_seal) = record {
+        let x : Part = c.seats seat in
+        let shows : Seals v seat (sealed_work x) c.shared.tail (view_of sessions after_seal) = record {
           stamp_is = refl;
-          own = ap session_of own_sealed
-              ∙ ap (λ (b : Bool). let s : Session = record { over = map finished_of (c.seats seat).over; stand = world.sealed (record (work_of (c.seats seat).current) { is_mark = b }) c.shared.tail } in s) mark_bit;
+          own =
+              ap session_of own_sealed
+              ∙ ap (λ (b : Bool). let s : Session = record { over = map finished_of x.over; stand = world.sealed (record (work_of x.current) { is_mark = b }) c.shared.tail } in s) (seal_bit c seat sound active);
           others = λ q other. ap session_of (others_sealed q other);
           opening = refl;
           tail = refl;
@@ -182,7 +172,7 @@ module _ (short : (row : List ℕ) → stored_length row ≤ length row) where
           given_up = refl;
           saves = λ q other. refl;
         } in
-        subst (λ (d : Core). Seals v seat sealed_work c.shared.tail (view_of sessions d)) (sym runs) shows
+        subst (λ (d : Core). Seals v seat (sealed_work x) c.shared.tail (view_of sessions d)) (sym runs) shows
 
     pub seal_rests : RestsAt seat (Sealed (begin_of (c.seats seat).place) c.shared.tail) (run_from c (seal_steps seat size c.shared.tail))
     seal_rests =
@@ -203,11 +193,8 @@ module _ (short : (row : List ℕ) → stored_length row ≤ length row) where
       let v = view_of sessions c in
       let tail : ℕ = c.shared.tail in
       let work : work_at v seat ≡ work_of x.current = work_active x.place x.task x.current active (starts_new x.task x.current starts) in
-      let none : (x.current.is_mark && nat_lt 0 x.current.stamp) ≡ false = ap (λ (b : Bool). b && nat_lt 0 x.current.stamp) ((sound.own seat).back.unmarked active) in
-      let as : (let w : Work = record (work_of x.current) { is_mark = is_safe x.task } in w) ≡ work_at v seat =
-      ap (λ (b : Bool). let w : Work = record (work_of x.current) { is_mark = b } in w) (start_unsafe x.task starts ∙ sym none) ∙ sym work in
-      subst (λ (w : Work). Seals v seat w tail (view_of sessions (run_from c (seal_steps seat (world.size_of (work_at v seat)) tail)))) as
-      (subst (λ (w : Work). Seals v seat (record (work_of x.current) { is_mark = is_safe x.task }) tail (view_of sessions (run_from c (seal_steps seat (world.size_of w) tail)))) (sym work)
+      subst (λ (w : Work). Seals v seat w tail (view_of sessions (run_from c (seal_steps seat (world.size_of (work_at v seat)) tail)))) (sealed_transaction c seat sound active starts ∙ sym work)
+      (subst (λ (w : Work). Seals v seat (sealed_work x) tail (view_of sessions (run_from c (seal_steps seat (world.size_of w) tail)))) (sym work)
       (seals_as seat c sound session active (start_seals x.task starts) sessions))
 
   -- a safe snapshot, whose mark has done nothing
@@ -216,20 +203,13 @@ module _ (short : (row : List ℕ) → stored_length row ≤ length row) where
   marks seat c sound session active safe sessions =
       let x : Part = c.seats seat in
       let tail : ℕ = c.shared.tail in
-      let s : Snapshot = record { number = x.current.number; begin = x.current.begin; is_safe = true } in
-      let new = snapshots_new c seat sound (safe_snapshot x.task safe) in
-      let as : (let w : Work = record (work_of x.current) { is_mark = is_safe x.task } in w) ≡ marking s =
-      ap (λ (b : Bool). let w : Work = record (work_of x.current) { is_mark = b } in w) safe ∙ ap (λ (w : Work). let z : Work = record w { is_mark = true } in z) (new_work x.current new.0 new.1) in
-      let size : world.size_of (work_of x.current) ≡ LEAST_BLOCK = ap world.size_of (new_work x.current new.0 new.1) in
+      let as = sealed_mark c seat sound safe in
+      let size : world.size_of (work_of x.current) ≡ LEAST_BLOCK = ap world.size_of as in
       record {
-        snapshot = s;
+        snapshot = marked_snapshot x.current;
         stands = stands_shown x.place x.task x.current active ∙ shown_safe x.task x.current safe;
         safe = refl;
         seals = subst (λ (w : Work). Seals (view_of sessions c) seat w tail (view_of sessions (run_from c (seal_steps seat LEAST_BLOCK tail)))) as
-            (subst (λ (n : ℕ). Seals (view_of sessions c) seat (record (work_of x.current) { is_mark = is_safe x.task }) tail (view_of sessions (run_from c (seal_steps seat n tail)))) size
+            (subst (λ (n : ℕ). Seals (view_of sessions c) seat (sealed_work x) tail (view_of sessions (run_from c (seal_steps seat n tail)))) size
             (seals_as seat c sound session active (safe_seals x.task safe) sessions));
       }
-    where
-      stands_shown : (pl : Place) (u : Task) (t : Attempt) → is_active pl ≡ true → stand_of pl u t ≡ shown_by u t
-      stands_shown (Active tail) u t e = refl
-      stands_shown _ u t e = absurd (cc)

@@ -17,7 +17,7 @@ use Rattle.erm_machine.specs.Seat.{is_active, is_safe, is_snapshot, may_start, w
 use Rattle.erm_machine.specs.Sound.{Sound}
 use Rattle.erm_machine.specs.Step.{after_event}
 use Rattle.erm_machine.specs.Words.{is_session}
-use Rattle.erm_machine.proofs.Backs.{new_is, safe_snapshot, snapshot_ends}
+use Rattle.erm_machine.proofs.Backs.{new_is, safe_snapshot, snapshot_ends, safe_seals}
 use Rattle.erm_machine.proofs.QuietKinds.{moves}
 use Rattle.erm_world.specs.Calls.{Becomes}
 use Rattle.erm_world.proofs.Saves.{without}
@@ -34,6 +34,7 @@ use Rattle.erm_core_steps.proofs.Loads.{word_leaves}
 use Rattle.erm_core_steps.proofs.Quiet.{quiet_after, session_of_few}
 use Rattle.erm_core_steps.proofs.Unseen.{others_stay, same_view}
 use Rattle.erm_lists.specs.Snapshots.{IsPendingOrSafe, IsSafeReader, OnlyLooks}
+use Rattle.erm_core_steps.proofs.Stamps.{MaySeal}
 
 -- LOADS. One of a word that leads its seat to another task leaves all else.
 pub record Looked (seat : ℕ) (u : Task) (c d : Core) : Type 0 where
@@ -180,6 +181,10 @@ safe_seat sessions seat c quiet session safe =
 
 pub reader_has : (seat : ℕ) (c : Core) → IsSafeReader seat c → IsPendingOrSafe seat c
 reader_has seat c at = record { session = at.session; active = at.active; snapshot = safe_snapshot (c.seats seat).task at.safe }
+
+-- THE SEAL of a safe snapshot, whose mark is sealed
+pub reader_seals : (seat : ℕ) (c : Core) → IsSafeReader seat c → MaySeal seat c
+reader_seals seat c at = record { session = at.session; active = at.active; seals = safe_seals (c.seats seat).task at.safe }
 
 -- THE END. A snapshot has nothing to release and nothing to clear.
 pub snapshot_cleared : (seat : ℕ) (c : Core) → Sound c → IsPendingOrSafe seat c → HasCleared seat c

@@ -3,7 +3,7 @@ use Rattle.std.proofs.Common.{ℕ, List, ap}
 use Rattle.erm_model.specs.declared.history.VersionRead.{VersionRead}
 use Rattle.erm_model.specs.declared.history.VersionWritten.{VersionWritten}
 use Rattle.erm_model.specs.declared.outcome.Outcome.{Outcome}
-use Rattle.erm_model.specs.declared.outcome.Outcome.TheVariants.{Committed, Excluded}
+use Rattle.erm_model.specs.declared.outcome.Outcome.TheVariants.{Committed, Excluded, Marked}
 use Rattle.erm_model.specs.declared.row_stop.RowStop.{RowStop}
 use Rattle.erm_model.specs.declared.row_stop.RowStop.TheVariants as stop
 use Rattle.erm_model.specs.RowTransaction.{Law}
@@ -12,7 +12,7 @@ use Rattle.erm_world.specs.declared.stops.BeginStop.TheVariants as begin
 use Rattle.erm_world.specs.declared.stops.Wait.{Wait}
 use Rattle.erm_world.specs.declared.stops.Wait.TheVariants as wait
 use Rattle.erm_world.specs.Calls as calls
-use Rattle.erm_world.specs.Calls.{Becomes, DidAbort, DidBegin, DidClaim, DidMake, DidNotClaim, DidNotMake, DidNotRead, DidNotSettle, DidRead, DidSeal, DidSettle, DidWrite, HasNoNewer, IsAhead, IsClaimReady, IsInTheWay, IsNewer, IsOwned, IsReadReady, IsSealedBelow, IsShut, IsUnowned, MayHaveRead, MayNotBegin, MayOverwrite, Settled, Waits}
+use Rattle.erm_world.specs.Calls.{Becomes, DidAbort, DidBegin, DidClaim, DidMake, DidNotClaim, DidNotMake, DidNotRead, DidNotSettle, DidRead, DidSeal, DidSettle, DidWrite, HasNoNewer, IsAhead, IsClaimReady, IsInTheWay, IsNewer, IsOwned, IsReadReady, IsSealedBelow, IsShut, IsUnowned, MayHaveRead, MayNotBegin, MayOverwrite, Settled, Waits, Seals}
 use Rattle.erm_block.specs.declared.block.Block.{Block}
 use Rattle.erm_world.specs.Laws.{IsSerializable, SeesSnapshot}
 use Rattle.erm_world.specs.Log.{Log, Undecided}
@@ -148,8 +148,8 @@ module _ (n : ℕ) where
   }
 
   -- SEAL, SETTLE, ABORT
-  pub did_seal : (v t : View) (seat stamp : ℕ) → DidSeal v seat stamp t → DidSeal (cut v) seat stamp (cut t)
-  did_seal v t seat stamp did = record {
+  pub seals : (v t : View) (seat : ℕ) (w : Work) (stamp : ℕ) → Seals v seat w stamp t → Seals (cut v) seat w stamp (cut t)
+  seals v t seat w stamp did = record {
     stamp_is = did.stamp_is;
     own = did.own;
     others = did.others;
@@ -161,6 +161,9 @@ module _ (n : ℕ) where
     given_up = did.given_up;
     saves = did.saves;
   }
+
+  pub did_seal : (v t : View) (seat stamp : ℕ) → DidSeal v seat stamp t → DidSeal (cut v) seat stamp (cut t)
+  did_seal v t seat stamp did = seals v t seat (work_at v seat) stamp did
 
   sealed : (v : View) (seat bound other seen : ℕ) (w : Work) → IsSealedBelow v seat bound other seen w → IsSealedBelow (cut v) seat bound other seen w
   sealed v seat bound other seen w is = record { session = is.session; another = is.another; stand = is.stand; below = is.below }
@@ -222,8 +225,9 @@ module _ (n : ℕ) where
       (reader v seat bound c other seen may)
 
   settled : (v t : View) (seat : ℕ) (w : Work) (stamp : ℕ) (outcome : Outcome) → Settled v seat w stamp outcome t → Settled (cut v) seat w stamp outcome (cut t)
-  settled v t seat w stamp (Committed r) did = (became v t seat _ did.0, did.1, did.2, did.3, did.4, did.5, did.6)
-  settled v t seat w stamp (Excluded at succ pred) did = (became v t seat _ did.0, did.1, did.2, did.3, did.4)
+  settled v t seat w stamp (Committed r) did = (became v t seat _ did.0, did.1, did.2, did.3, did.4, did.5, did.6, did.7)
+  settled v t seat w stamp (Excluded at succ pred) did = (became v t seat _ did.0, did.1, did.2, did.3, did.4, did.5)
+  settled v t seat w stamp (Marked at named) did = (became v t seat _ did.0, did.1, did.2, did.3)
 
   pub did_settle : (v t : View) (seat : ℕ) (outcome : Outcome) → DidSettle v seat outcome t → DidSettle (cut v) seat outcome (cut t)
   did_settle v t seat outcome did = (
@@ -263,6 +267,9 @@ module _ (n : ℕ) where
     once = is.once;
     saves = is.saves;
     few_saves = is.few_saves;
+    unmarked = is.unmarked;
+    marks = is.marks;
+    marked = is.marked;
     opening_meets = is.opening_meets;
     opening_reach = is.opening_reach;
     lawful = is.lawful;

@@ -4,7 +4,7 @@ use Rattle.std.proofs.Math.Path.{fun_ext}
 use Rattle.std.proofs.lemmas.Bool.{cases_eq}
 use Rattle.erm_model.specs.declared.history.VersionWritten.{VersionWritten}
 use Rattle.erm_model.specs.declared.outcome.Outcome.{Outcome}
-use Rattle.erm_model.specs.declared.outcome.Outcome.TheVariants.{Committed, Excluded}
+use Rattle.erm_model.specs.declared.outcome.Outcome.TheVariants.{Committed, Excluded, Marked}
 use Rattle.erm_model.specs.declared.outcome.Phase.TheVariants.{Active}
 use Rattle.erm_model.specs.declared.row_stop.RowStop.{RowStop}
 use Rattle.erm_model.specs.declared.row_stop.RowStop.TheVariants as stop
@@ -12,9 +12,9 @@ use Rattle.erm_world.specs.declared.stops.BeginStop.{BeginStop}
 use Rattle.erm_world.specs.declared.stops.BeginStop.TheVariants as begin
 use Rattle.erm_world.specs.declared.stops.SafeStop.{SafeStop}
 use Rattle.erm_world.specs.declared.stops.Wait.{Wait}
-use Rattle.erm_world.specs.Calls.{Becomes, DidAbort, DidClaim, DidMake, DidNotClaim, DidNotMake, DidNotRead, DidNotSettle, DidRead, DidSeal, DidSettle, DidWrite, IsDone, KeepsOwnSaves, MayNotBegin, Settled, Works}
+use Rattle.erm_world.specs.Calls.{Becomes, DidAbort, DidClaim, DidMake, DidNotClaim, DidNotMake, DidNotRead, DidNotSettle, DidRead, DidSeal, DidSettle, DidWrite, IsDone, KeepsOwnSaves, MayNotBegin, Settled, Works, Seals}
 use Rattle.erm_world.specs.Calls as calls
-use Rattle.erm_world.specs.Safe.{DidBeginSafe, DidNotSafe, DidSafe}
+use Rattle.erm_world.specs.Safe.{DidBeginSafe, DidNotSafe, DidSafe, DidMark}
 use Rattle.erm_world.specs.Saves.{with_saves}
 use Rattle.erm_world.specs.World.{Fate, Session, View, Work, phase_at, phase_of}
 use Rattle.erm_world.proofs.WithSaves as kept
@@ -127,8 +127,8 @@ module _ (f g : ℕ → List (List VersionWritten)) (v t : View) (seat : ℕ) (o
       by (stop.OidsFull drawn) is = is
 
   -- SEAL, SETTLE, ABORT
-  pub did_seal : (stamp : ℕ) → DidSeal v seat stamp t → DidSeal (with_saves f v) seat stamp (with_saves g t)
-  did_seal stamp did = record {
+  seals : (w : Work) (stamp : ℕ) → Seals v seat w stamp t → Seals (with_saves f v) seat w stamp (with_saves g t)
+  seals w stamp did = record {
     stamp_is = did.stamp_is;
     own = did.own;
     others = did.others;
@@ -141,9 +141,13 @@ module _ (f g : ℕ → List (List VersionWritten)) (v t : View) (seat : ℕ) (o
     saves = others;
   }
 
+  pub did_seal : (stamp : ℕ) → DidSeal v seat stamp t → DidSeal (with_saves f v) seat stamp (with_saves g t)
+  did_seal stamp did = seals (work_at v seat) stamp did
+
   settled : (w : Work) (stamp : ℕ) (outcome : Outcome) → Settled (with_saves f v) seat w stamp outcome (with_saves f t) → Settled (with_saves f v) seat w stamp outcome (with_saves g t)
-  settled w stamp (Committed r) is = (done _ _ is.0, is.1, is.2, is.3, is.4, is.5, is.6)
-  settled w stamp (Excluded at succ pred) is = (done _ _ is.0, is.1, is.2, is.3, is.4)
+  settled w stamp (Committed r) is = (done _ _ is.0, is.1, is.2, is.3, is.4, is.5, is.6, is.7)
+  settled w stamp (Excluded at succ pred) is = (done _ _ is.0, is.1, is.2, is.3, is.4, is.5)
+  settled w stamp (Marked at named) is = (done _ _ is.0, is.1, is.2, is.3)
 
   pub did_settle : (outcome : Outcome) → DidSettle v seat outcome t → DidSettle (with_saves f v) seat outcome (with_saves g t)
   did_settle outcome did = let is = kept.did_settle f v t seat outcome did in (is.0, is.1, is.2, is.3, settled is.0 is.1 outcome is.4)
@@ -168,3 +172,6 @@ module _ (f g : ℕ → List (List VersionWritten)) (v t : View) (seat : ℕ) (o
 
     pub did_not_safe : (why : SafeStop) → DidNotSafe v seat why t → DidNotSafe (with_saves f v) seat why (with_saves g t)
     did_not_safe why did = to_same (λ (u : View). DidNotSafe (with_saves f v) seat why u) (λ on. absurd (none on)) (kept.did_not_safe f v t seat why did)
+
+  pub did_mark : (stamp : ℕ) → DidMark v seat stamp t → DidMark (with_saves f v) seat stamp (with_saves g t)
+  did_mark stamp did = record { snapshot = did.snapshot; stands = did.stands; safe = did.safe; seals = seals (marking did.snapshot) stamp did.seals }

@@ -19,7 +19,7 @@ use Rattle.erm_machine.proofs.QuietKinds.{moves}
 use Rattle.erm_record.specs.Stored.{block_words}
 use Rattle.erm_core_view.specs.Views.{IsQuiet, view_of}
 use Rattle.erm_core_steps.proofs.Quiet.{IsActive, active_seat}
-use Rattle.erm_core_steps.proofs.Stamps.{IsSealing, draws_lawfully, is_drawn, is_sealing, seal_done, sealing, size_shown}
+use Rattle.erm_core_steps.proofs.Stamps.{IsSealing, draws_lawfully, is_drawn, is_sealing, seal_done, sealing, size_shown, active_seals}
 use Rattle.erm_rule.specs.declared.view.Book.{Book}
 use Rattle.erm_rule.specs.Went.{core_of}
 use Rattle.erm_seats.specs.Took.{TookSeal}
@@ -67,7 +67,7 @@ module _ (law : Law) (sessions seat : ℕ) (b : Book) (at : StandsAt law session
       let one = runs law b seat (kind.StoreState 1) took.first steps.1.0 first at.state in
       let two = runs law steps.1.0 seat (kind.AddTail size) stamp steps.0 steps.1.2 one.state in
       let three = runs law steps.0 seat (kind.StoreState stamp) took.last e steps.2 two.state in
-      let sealing = is_sealing seat (core_of b) (core_of steps.1.0) is_active one.event in
+      let sealing = is_sealing seat (core_of b) (core_of steps.1.0) (active_seals seat (core_of b) is_active) one.event in
       let range = is_range seat size (core_of b) (core_of steps.1.0) (core_of steps.0) sealing two.event in
       let drawn = is_drawn seat size (core_of b) (core_of steps.1.0) (core_of steps.0) sealing range.0 range.1 two.event in
       let found : (core_of steps.1.0).shared.tail ≡ stamp = two.met in

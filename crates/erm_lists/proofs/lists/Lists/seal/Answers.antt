@@ -10,7 +10,7 @@ use Rattle.erm_lists.specs.Stands.{lists_view}
 use Rattle.erm_core_steps.specs.Steps.{IsTaken, found_in}
 use Rattle.erm_core_steps.proofs.Quiet.{active_seat}
 use Rattle.erm_lists.proofs.Room.{draw_few}
-use Rattle.erm_core_steps.proofs.Stamps.{draw_taken, draws_lawfully, is_drawn, is_sealing, seal_done, sealing_taken, size_shown, stamp_taken}
+use Rattle.erm_core_steps.proofs.Stamps.{draw_taken, draws_lawfully, is_drawn, is_sealing, seal_done, sealing_taken, size_shown, stamp_taken, active_seals}
 use Rattle.erm_lists.proofs.lists.Lists.seal.Goals as goal
 
 pub size-size-requires : goal.size-size-requires
@@ -29,7 +29,7 @@ go-requires g c =
     let before = core_of c.args.self.now.state in
     let stands = c.requires.stands in
     let at = active_seat sessions seat before stands.quiet c.requires.session c.requires.active in
-    record { sound = stands.sound; free = record { one = tt; ranges = refl; none = tt }; taken = sealing_taken seat before at }
+    record { sound = stands.sound; free = record { one = tt; ranges = refl; none = tt }; taken = sealing_taken seat before (active_seals seat before at) }
 
 pub take-requires : goal.take-requires
 take-requires g c =
@@ -44,7 +44,7 @@ take-requires g c =
     let least = c.size-size.ensures.least in
     let greatest : size ≤ GREATEST_BLOCK = omega (arith, few, most) in
     let one = core_of c.go.new.self.state in
-    let sealing = is_sealing seat before one at c.go.ensures.after in
+    let sealing = is_sealing seat before one (active_seals seat before at) c.go.ensures.after in
     record {
       sound = c.go.ensures.sound;
       room =
@@ -67,7 +67,7 @@ go-requires-2 g c =
     let least = c.size-size.ensures.least in
     let greatest : size ≤ GREATEST_BLOCK = omega (arith, few, most) in
     let one = core_of c.go.new.self.state in
-    let sealing = is_sealing seat before one at c.go.ensures.after in
+    let sealing = is_sealing seat before one (active_seals seat before at) c.go.ensures.after in
     let two = core_of c.take.new.self.state in
     let drawn = is_drawn seat size before one two sealing least greatest c.take.ensures.after in
     let stamp : c.found-stamp.result ≡ one.shared.tail = c.found-stamp.ensures ∙ ap found_in c.take.ensures.answer in
@@ -90,7 +90,7 @@ returns g c =
     let least = c.size-size.ensures.least in
     let greatest : size ≤ GREATEST_BLOCK = omega (arith, few, most) in
     let one = core_of c.go.new.self.state in
-    let sealing = is_sealing seat before one at c.go.ensures.after in
+    let sealing = is_sealing seat before one (active_seals seat before at) c.go.ensures.after in
     let two = core_of c.take.new.self.state in
     let drawn = is_drawn seat size before one two sealing least greatest c.take.ensures.after in
     let stamp : c.found-stamp.result ≡ one.shared.tail = c.found-stamp.ensures ∙ ap found_in c.take.ensures.answer in
