@@ -7,7 +7,7 @@ use Rattle.erm_model.proofs.Members.{none_in_nil}
 use Rattle.erm_machine.specs.declared.limits.TheConstants.{ANNOUNCERS}
 use Rattle.erm_machine.specs.declared.attempt.Attempt.{Attempt}
 use Rattle.erm_machine.specs.declared.attempt.Decision.{Decision}
-use Rattle.erm_machine.specs.declared.attempt.Decision.TheVariants.{Undecided, Commit, Skip, Abort}
+use Rattle.erm_machine.specs.declared.attempt.Decision.TheVariants.{Undecided, Commit, Skip, Abort, Mark}
 use Rattle.erm_machine.specs.declared.part.Part.{Part}
 use Rattle.erm_machine.specs.Decided.{record_of, committed_of, history_below, history_of}
 use Rattle.erm_machine.specs.Facts.{all_of}
@@ -19,6 +19,7 @@ commit_is Commit e = refl
 commit_is Undecided e = absurd (cc)
 commit_is Skip e = absurd (cc)
 commit_is Abort e = absurd (cc)
+commit_is Mark e = absurd (cc)
 
 -- a committed transaction of a seat, as the history has it
 pub record Committed (seats : ℕ → Part) (n : ℕ) (u : TransactionRecord) : Type 0 where

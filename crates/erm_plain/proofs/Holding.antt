@@ -7,7 +7,7 @@ use Rattle.std.proofs.lemmas.Option.{slice_get-get_or}
 use Rattle.erm_model.specs.declared.limits.TheConstants.{SAVES}
 use Rattle.erm_model.specs.declared.history.VersionWritten.{VersionWritten}
 use Rattle.erm_model.specs.declared.outcome.Outcome.{Outcome}
-use Rattle.erm_model.specs.declared.outcome.Outcome.TheVariants.{Committed, Excluded}
+use Rattle.erm_model.specs.declared.outcome.Outcome.TheVariants.{Committed, Excluded, Marked}
 use Rattle.erm_model.specs.declared.outcome.Phase.TheVariants.{Active, Idle}
 use Rattle.erm_model.specs.declared.row_stop.RowStop.{RowStop}
 use Rattle.erm_model.proofs.Members.{slice_get-push}
@@ -18,15 +18,15 @@ use Rattle.erm_world.specs.declared.stops.BeginStop.TheVariants as begin
 use Rattle.erm_world.specs.declared.stops.SafeStop.{SafeStop}
 use Rattle.erm_world.specs.declared.stops.SafeStop.TheVariants as safe
 use Rattle.erm_world.specs.declared.stops.Wait.{Wait}
-use Rattle.erm_world.specs.Calls.{Becomes, DidNotSettle, DidSeal, DidSettle, MayNotBegin}
+use Rattle.erm_world.specs.Calls.{Becomes, DidNotSettle, DidSeal, DidSettle, MayNotBegin, Seals}
 use Rattle.erm_world.specs.Face.{Answered, Goes, Grows, WasRefused, ends, same, works}
 use Rattle.erm_world.specs.Going.{Extends}
 use Rattle.erm_world.specs.Laws.{IsSerializable}
 use Rattle.erm_world.specs.Saves.{restored, with_claims}
-use Rattle.erm_world.specs.Safe.{DidBeginSafe, DidNotSafe, DidSafe}
+use Rattle.erm_world.specs.Safe.{DidBeginSafe, DidNotSafe, DidSafe, DidMark}
 use Rattle.erm_world.specs.Snapshots.{snapshot_not_active, snapshot_not_idle}
 use Rattle.erm_world.specs.Whole.{KeepsSessions}
-use Rattle.erm_world.specs.World.{IsCurrent, IsSession, Opening, Session, Stand, View, Work, phase_at, phase_of, work_at, work_of}
+use Rattle.erm_world.specs.World.{IsCurrent, IsSession, Opening, Session, Stand, View, Work, phase_at, phase_of, work_at, work_of, marking}
 use Rattle.erm_world.specs.World as world
 use Rattle.erm_world.proofs.Restored.{AreSavesOf-extended, AreSavesOf-front, AreSavesOf-more, AreSavesOf-none, AreSavesOf-restored}
 use Rattle.erm_world.proofs.Txns.{stopped, went}
@@ -137,11 +137,17 @@ module _ (v t : View) (seat : ℕ) (held : ℕ → List (List VersionWritten)) w
     all = change_held v t seat held held now.opening now.others (λ q another. refl) (λ w session stand. absurd (inactive (ap (λ (x : Session). phase_of x.stand) (sym now.own) ∙ ap phase_of stand)));
   }
 
-  pub seal_keeps : (stamp : ℕ) → DidSeal v seat stamp t → Keeps v t held
-  seal_keeps stamp now = record {
+  pub seals_keep : (w : Work) (stamp : ℕ) → Seals v seat w stamp t → Keeps v t held
+  seals_keep w stamp now = record {
     opening = now.opening;
     all = change_held v t seat held held now.opening now.others (λ q another. refl) (λ w session stand. let sealed = ap (λ (x : Session). x.stand) (sym now.own) ∙ stand in absurd (cc));
   }
+
+  pub seal_keeps : (stamp : ℕ) → DidSeal v seat stamp t → Keeps v t held
+  seal_keeps stamp now = seals_keep (work_at v seat) stamp now
+
+  pub mark_keeps : (stamp : ℕ) → DidMark v seat stamp t → Keeps v t held
+  mark_keeps stamp did = seals_keep (marking did.snapshot) stamp did.seals
 
   -- nothing happened
   pub same_keeps : t ≡ v → Keeps v t held
@@ -162,6 +168,7 @@ module _ (v t : View) (seat : ℕ) (held : ℕ → List (List VersionWritten)) w
   pub settle_keeps : (r : Result Outcome Wait) → IfOk r (λ outcome. DidSettle v seat outcome t) → IfErr r (λ why. DidNotSettle v seat why t) → Keeps v t held
   settle_keeps (Ok (Committed receipt)) did waits = becomes_keeps _ (λ active. absurd (cc)) did.4.0
   settle_keeps (Ok (Excluded at succ pred)) did waits = becomes_keeps _ (λ active. absurd (cc)) did.4.0
+  settle_keeps (Ok (Marked at named)) did waits = becomes_keeps _ (λ active. absurd (cc)) did.4.0
   settle_keeps (Err why) did waits = same_keeps waits.0
 
   -- A SNAPSHOT

@@ -45,11 +45,11 @@ may_either false t u e f = f
 pub pre_with : (pre new : Pre) (x : Part) (t : Task) (succ from pred : ℕ) (notes : List ℕ) → IsPre pre x → new ≡ record pre { succ = succ; pred = pred } → IsPre new (reached_part t succ from pred notes x)
 pre_with pre new x t succ from pred notes is e =
     subst (λ (n : Pre). IsPre n (reached_part t succ from pred notes x)) (sym e)
-    (record { stamp = is.stamp; size = is.size; read_count = is.read_count; reads = is.reads; claim_count = is.claim_count; claims = is.claims; succ = refl; pred = refl })
+    (record { stamp = is.stamp; size = is.size; read_count = is.read_count; reads = is.reads; claim_count = is.claim_count; claims = is.claims; succ = refl; pred = refl; mark = is.mark })
 
 pub pre_same : (pre : Pre) (x : Part) (t : Task) (from : ℕ) (notes : List ℕ) → IsPre pre x → IsPre pre (reached_part t x.current.succ from x.current.pred notes x)
 pre_same pre x t from notes is =
-    record { stamp = is.stamp; size = is.size; read_count = is.read_count; reads = is.reads; claim_count = is.claim_count; claims = is.claims; succ = is.succ; pred = is.pred }
+    record { stamp = is.stamp; size = is.size; read_count = is.read_count; reads = is.reads; claim_count = is.claim_count; claims = is.claims; succ = is.succ; pred = is.pred; mark = is.mark }
 
 -- A step that leads to this task and these numbers.
 pub record Leads (v : View) (who : ℕ) (t : Task) (succ from pred : ℕ) (notes : List ℕ) (w : View) : Type 0 where

@@ -1,5 +1,5 @@
 -- What the session keeps follows the machine's part.
-use Rattle.std.proofs.Common.{Box, ◌≡◌, ℕ, ◌<◌, ◌≤◌, ⊎_elim, Bool, true, false, List, [], ◌∷◌, ◌++◌, length, get_or, max, Option, Some, None, refl, sym, ap, ◌∙◌, subst, eqb, arith}
+use Rattle.std.proofs.Common.{Box, ◌≡◌, ℕ, ◌<◌, ◌≤◌, ⊎_elim, Bool, true, false, List, [], ◌∷◌, ◌++◌, length, get_or, max, Option, Some, None, refl, sym, ap, ◌∙◌, subst, eqb, arith, ◌||◌}
 use Rattle.std.specs.Prelude.{if◌then◌else◌}
 use Rattle.std.proofs.lemmas.Bool.{cases_lt}
 use Rattle.std.proofs.lemmas.List.{get_or_append_left, get_or_push, length_push}
@@ -11,7 +11,7 @@ use Rattle.erm_machine.specs.declared.part.Part.{Part}
 use Rattle.erm_machine.specs.declared.task.Task.TheVariants as task
 use Rattle.erm_machine.specs.declared.version.Cell.{Cell}
 use Rattle.erm_machine.specs.Core.{claim_at}
-use Rattle.erm_machine.specs.Seat.{no_read, with_pred, with_succ}
+use Rattle.erm_machine.specs.Seat.{no_read, with_pred, with_succ, is_safe}
 use Rattle.erm_precommit.specs.declared.pre.KeptClaim.{KeptClaim}
 use Rattle.erm_precommit.specs.declared.pre.KeptRead.{KeptRead}
 use Rattle.erm_precommit.specs.Pre.{IsClaimKept, IsPre, IsReadKept, no_claim_kept, no_read_kept}
@@ -32,6 +32,7 @@ kept_same t x y same is = record {
   claims = subst (λ (n : Attempt). (k : ℕ) → k < length n.writes → IsClaimKept (get_or t.claims.value.items k no_claim_kept) (claim_at n k)) same is.claims;
   succ = is.succ ∙ ap (λ (n : Attempt). n.succ) same;
   pred = is.pred ∙ ap (λ (n : Attempt). n.pred) same;
+  unmarked = sym (ap (λ (n : Attempt). n.is_mark) same) ∙ is.unmarked;
 }
 
 -- it has nothing of what was given up
@@ -47,12 +48,18 @@ kept_given t x y given same is =
       claims = is.claims;
       succ = is.succ;
       pred = is.pred;
+      unmarked = is.unmarked;
     })
 
--- once it is sealed
-pub seals : (t : Active) (x : Part) (stamp size : ℕ) → IsActive t x
-    → IsPre (record { stamp = stamp; size = size; reads = t.reads; claims = t.claims; succ = least_with (Some stamp) t.succ; pred = t.pred }) (sealed_part size stamp x)
-seals t x stamp size is = record {
+-- once it is sealed, it is no mark still, where its task isn't that of a safe snapshot
+unmarked_by : (safe mark : Bool) (begin : ℕ) → safe ≡ false → mark ≡ false → ◌≡◌ {A = Option ℕ} None (if safe || mark then Some begin else None)
+unmarked_by true mark begin none plain = absurd (cc)
+unmarked_by false true begin none plain = absurd (cc)
+unmarked_by false false begin none plain = refl
+
+pub seals : (t : Active) (x : Part) (stamp size : ℕ) → IsActive t x → is_safe x.task ≡ false
+    → IsPre (record { stamp = stamp; size = size; reads = t.reads; claims = t.claims; succ = least_with (Some stamp) t.succ; pred = t.pred; mark = None }) (sealed_part size stamp x)
+seals t x stamp size is plain = record {
   stamp = refl;
   size = refl;
   read_count = is.read_count;
@@ -61,6 +68,7 @@ seals t x stamp size is = record {
   claims = is.claims;
   succ = ap (λ (n : ℕ). least_with (Some stamp) n) is.succ;
   pred = is.pred;
+  mark = unmarked_by (is_safe x.task) x.current.is_mark x.current.begin plain is.unmarked;
 }
 
 -- one more read
@@ -118,6 +126,7 @@ module _ (old new : Active) (x : Part) (r : Read) (words : Cell) (notes : List �
     claims = claims_are;
     succ = adds.succ_is ∙ ap (λ (o : Option ℕ). least_with o old.succ) found ∙ is.succ;
     pred = pred_so;
+    unmarked = is.unmarked;
   }
   by_case false found = record {
     begin = adds.begin ∙ is.begin;
@@ -128,6 +137,7 @@ module _ (old new : Active) (x : Part) (r : Read) (words : Cell) (notes : List �
     claims = claims_are;
     succ = adds.succ_is ∙ ap (λ (o : Option ℕ). least_with o old.succ) found ∙ ap (λ (n : ℕ). least_with (Some words.overwriter_succ) n) is.succ;
     pred = pred_so;
+    unmarked = is.unmarked;
   }
 
   pub kept_read : succ ≡ overwriter_succ words → IsActive new (read_part r words notes x)

@@ -93,6 +93,7 @@ kept_claim old new x claim spare tail readers kept is adds one = record {
       (push_claim old.claims.value.items x.current.writes kept claim is.claim_count is.claims one k within);
   succ = adds.succ_is ∙ is.succ;
   pred = let e = is.pred in let f = adds.pred_is in grind (arith, e, f);
+  unmarked = is.unmarked;
 }
 
 module _ (v : View) (who oid : ℕ) (active : is_active (part_of v who).place ≡ true) (head : ℕ) (a : View) (took : DidTakeEntry v who oid head a) where

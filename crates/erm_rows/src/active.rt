@@ -1,6 +1,7 @@
 //! An active transaction as its session keeps it.
-ghost use Rattle.std.specs.Prelude.{◌≡◌, ◌<◌, length};
+ghost use Rattle.std.specs.Prelude.{◌≡◌, ◌<◌, false, length};
 ghost use Rattle.erm_machine.specs.declared.part.Part.{Part};
+ghost use Rattle.erm_machine.specs.Seat.{is_safe};
 ghost use Rattle.erm_precommit.specs.Pre.{IsPre};
 ghost use Rattle.erm_rows.specs.Active.{Adds, AddsClaim, IsActive, closed_window, least_with};
 ghost use Rattle.erm_seats.specs.Calls.{sealed_part};
@@ -39,7 +40,7 @@ fn least_with(found: Option<Stamp>, least: Stamp) -> Stamp
 impl Active {
     /// The transaction once it is sealed, with a range of this size that begins at its commit stamp.
     pub fn seal(self, stamp: Stamp, size: u64) -> Pre
-        ensures { (x : Part) → IsActive self x → IsPre result (sealed_part size stamp x) }
+        ensures { (x : Part) → IsActive self x → is_safe x.task ≡ false → IsPre result (sealed_part size stamp x) }
     {
         let succ = least_with(Some(stamp), self.succ);
         Pre {

@@ -69,6 +69,7 @@ new_active t x who announced begin begin_is number_is reads claims succ pred = r
   claims = λ k within. absurd (omega (arith, within));
   succ = succ;
   pred = pred;
+  unmarked = refl;
 }
 
 module _ (s : Session) (v : View) (is : IsSession s (part_of v s.seat)) (idle : phase_of s.stage ≡ phase.Idle) where

@@ -5,13 +5,13 @@ use Rattle.std.specs.List.{All, AllPairs}
 use Rattle.std.proofs.lemmas.Bool.{and_parts, leb-true, ltb-true}
 use Rattle.std.proofs.lemmas.List.{get_or-map, length-map}
 use Rattle.erm_model.specs.declared.history.VersionWritten.{VersionWritten}
-use Rattle.erm_model.specs.declared.header.TheConstants.{COMMIT_KIND, RUN_UNIT, SIZE_UNIT, SKIP_KIND}
+use Rattle.erm_model.specs.declared.header.TheConstants.{RUN_UNIT, SIZE_UNIT}
 use Rattle.erm_model.specs.declared.limits.TheConstants.{LAST_RUN, LOG_END}
 use Rattle.erm_model.proofs.Members.{∈-at}
 use Rattle.erm_machine.specs.declared.attempt.Attempt.{Attempt}
 use Rattle.erm_machine.specs.declared.attempt.Claim.{Claim}
 use Rattle.erm_machine.specs.declared.attempt.Decision.{Decision}
-use Rattle.erm_machine.specs.declared.attempt.Decision.TheVariants.{Undecided, Commit, Skip}
+use Rattle.erm_machine.specs.declared.attempt.Decision.TheVariants.{Undecided, Commit, Skip, Mark}
 use Rattle.erm_machine.specs.declared.limits.TheConstants.{GREATEST_BLOCK, LEAST_BLOCK, SESSIONS, WRITE_LIMIT}
 use Rattle.erm_machine.specs.declared.part.Part.{Part}
 use Rattle.erm_machine.specs.declared.place.Place.{Place}
@@ -22,7 +22,7 @@ use Rattle.erm_machine.specs.Decided.{MayCommit, written_of}
 use Rattle.erm_machine.specs.Facts.{IsCurrent}
 use Rattle.erm_machine.specs.Life.{is_header}
 use Rattle.erm_machine.specs.Lives.{in_progress}
-use Rattle.erm_machine.specs.Seat.{decision_of, is_commit, is_sealed}
+use Rattle.erm_machine.specs.Seat.{decision_of, is_sealed, header_kind}
 use Rattle.erm_machine.specs.Sound.{Sound}
 use Rattle.erm_machine.specs.Words.{is_session}
 use Rattle.erm_core_calls.proofs.GoesSettled.{header_fits}
@@ -33,13 +33,15 @@ use Rattle.erm_block.specs.declared.block.Block.{Block}
 use Rattle.erm_block.specs.declared.block.Form.TheVariants.{Stored}
 use Rattle.erm_block.specs.Block.{AreEntries, Entry, IsBlock, IsEntry, KeepsRulesOf, NamesTransaction, size_with}
 use Rattle.erm_block.specs.Spelling.{code_of, header_word}
-use Rattle.erm_core_blocks.specs.Spelled.{IsBlockOf, decided_by, entries_of, kind_of}
+use Rattle.erm_core_blocks.specs.Spelled.{IsBlockOf, decided_by, entries_of, kind_of, turn_of}
 use Rattle.erm_record.specs.Stored.{block_words}
+use Rattle.erm_block.specs.declared.block.TheConstants.{LEAST_SAFE}
+use Rattle.erm_machine.proofs.Backs.{new_is}
+use Rattle.erm_machine.proofs.Decisions.{each_decision}
 
 -- a block's header is the machine's
-same_code : (opened : Bool) → code_of (kind_of (if opened then Commit else Skip)) ≡ (if is_commit (if opened then Commit else Skip) then COMMIT_KIND else SKIP_KIND)
-same_code true = refl
-same_code false = refl
+same_code : (t : Attempt) → code_of (kind_of (decision_of t)) ≡ header_kind (decision_of t)
+same_code t = each_decision (λ (d : Decision). code_of (kind_of d) ≡ header_kind d) t refl refl refl
 
 same_header : (header code size run kind own now : ℕ) → header ≡ code + SIZE_UNIT * size + RUN_UNIT * run → code ≡ kind → size ≡ own → run ≡ now
     → header ≡ kind + own * SIZE_UNIT + now * RUN_UNIT
@@ -75,9 +77,14 @@ commit_at : (pl : Place) (u : Task) → is_sealed pl ≡ true → MayCommit pl u
 commit_at (Sealed tail stamp) u e = tt
 commit_at _ u e = absurd (cc)
 
--- Of a sealed transaction with a range of its block's size.
+no_claims : (ws : List Claim) → length ws ≡ 0 → ws ≡ []
+no_claims [] e = refl
+no_claims (w ∷ ws) e = absurd (omega (arith, e))
+
+-- Of a sealed transaction with a range of its block's size, which began at a stamp of the log.
 module _ (c : Core) (seat : ℕ) (sound : Sound c) (session : is_session seat ≡ true) (sealed : is_sealed (c.seats seat).place ≡ true)
-    (size_is : (c.seats seat).current.size ≡ block_words (map (λ (w : Claim). w.row) (c.seats seat).current.writes)) (short : (c.seats seat).run ≤ LAST_RUN) where
+    (size_is : (c.seats seat).current.size ≡ block_words (map (λ (w : Claim). w.row) (c.seats seat).current.writes)) (short : (c.seats seat).run ≤ LAST_RUN)
+    (begins : LEAST_SAFE ≤ (c.seats seat).current.begin) where
   abbrev x : Part
   x = c.seats seat
 
@@ -103,6 +110,17 @@ module _ (c : Core) (seat : ℕ) (sound : Sound c) (session : is_session seat �
       let all = (sound.own seat).lives.number (session_not_flusher seat session) in
       omega (arith, now, all, busy)
 
+  begun : (0 < t.begin) × (t.begin ≤ t.stamp)
+  begun = (sound.own seat).lives.sealed t (last_member x.over t) current.0
+
+  succeeds : (0 < t.succ) × (t.succ ≤ t.stamp)
+  succeeds = (sound.common.decided.running seat current.1 (commit_at x.place x.task sealed)).succ_own current.0
+
+  -- the stamp that the block names, by the decision
+  turn_fits : (d : Decision) → (0 < turn_of d t) × (turn_of d t ≤ t.stamp)
+  turn_fits Mark = begun
+  turn_fits d = succeeds
+
   names : (b : Block) → IsBlockOf x.run seat (decided_by 0 t) b → b.number < 2 ^ 32 → NamesTransaction b
   names b is low =
       let parts = and_parts (ltb 0 seat) (leb seat SESSIONS) session in
@@ -112,10 +130,10 @@ module _ (c : Core) (seat : ℕ) (sound : Sound c) (session : is_session seat �
       let number = is.number in
       let count = is.count in
       let writes = (sound.own seat).ranges.few in
-      let succ = (sound.common.decided.running seat current.1 (commit_at x.place x.task sealed)).succ_own current.0 in
-      let first = succ.0 in
-      let last = succ.1 in
-      let succ_is = is.succ in
+      let turn = turn_fits (decision_of t) in
+      let first : 0 < turn_of (decision_of t) t = turn.0 in
+      let last : turn_of (decision_of t) t ≤ t.stamp = turn.1 in
+      let succ_is : b.succ ≡ turn_of (decision_of t) t = is.succ in
       let stamp = is.stamp in
       let known = numbered in
       record {
@@ -159,12 +177,31 @@ module _ (c : Core) (seat : ℕ) (sound : Sound c) (session : is_session seat �
   sized : t.size ≡ size_with Stored entries
   sized = size_is ∙ sized_with t.writes
 
-  decided_as : (b : Bool) → ltb t.pred t.succ ≡ b → decision_of t ≡ (if b then Commit else Skip)
-  decided_as b e = ap (λ (o : Bool). let d : Decision = if o then Commit else Skip in d) e
+  decided_as : (m opened : Bool) → t.is_mark ≡ m → ltb t.pred t.succ ≡ opened → decision_of t ≡ (if m then Mark else if opened then Commit else Skip)
+  decided_as m opened mark at =
+      ap (λ (o : Bool). let d : Decision = if o then Mark else if ltb t.pred t.succ then Commit else Skip in d) mark
+      ∙ ap (λ (o : Bool). let d : Decision = if m then Mark else if o then Commit else Skip in d) at
 
-  rules : (b : Block) (opened : Bool) → ltb t.pred t.succ ≡ opened → IsBlockOf x.run seat (decided_by 0 t) b → NamesTransaction b → KeepsRulesOf (kind_of (if opened then Commit else Skip)) b x.run
-  rules b true at is names =
-      let rows : b.rows.items ≡ entries = is.rows ∙ ap (λ d. entries_of d (map written_of t.writes)) (decided_as true at) in
+  -- a mark has claimed nothing
+  unwritten : t.is_mark ≡ true → t.writes ≡ []
+  unwritten mark = no_claims t.writes (new_is t (((sound.own seat).back.marks t (last_member x.over t)).new mark)).writes
+
+  rules : (b : Block) (m opened : Bool) → t.is_mark ≡ m → ltb t.pred t.succ ≡ opened → IsBlockOf x.run seat (decided_by 0 t) b → NamesTransaction b
+      → KeepsRulesOf (kind_of (if m then Mark else if opened then Commit else Skip)) b x.run
+  rules b true opened mark at is names =
+      let how = decided_as true opened mark at in
+      let none = unwritten mark in
+      let succ : b.succ ≡ t.begin = is.succ ∙ ap (λ d. turn_of d t) how in
+      record {
+        snapshot = names;
+        run = is.run_is;
+        size = is.size ∙ size_is ∙ ap (λ (ws : List Claim). block_words (map (λ (w : Claim). w.row) ws)) none;
+        no_count = is.count ∙ ap (λ (ws : List Claim). length ws) none;
+        safe = omega (arith, succ, begins);
+        no_rows = is.rows ∙ ap (λ d. entries_of d (map written_of t.writes)) how;
+      }
+  rules b false true mark at is names =
+      let rows : b.rows.items ≡ entries = is.rows ∙ ap (λ d. entries_of d (map written_of t.writes)) (decided_as false true mark at) in
       record {
         transaction = names;
         run = is.run_is;
@@ -172,11 +209,11 @@ module _ (c : Core) (seat : ℕ) (sound : Sound c) (session : is_session seat �
         count = ap (λ (es : List Entry). length es) rows ∙ many ∙ sym is.count;
         rows = subst AreEntries (sym rows) (record { each = are_entries; distinct = distinct });
       }
-  rules b false at is names = record {
+  rules b false false mark at is names = record {
     transaction = names;
     run = is.run_is;
     size = record { entries = entries; each = are_entries; count = many ∙ sym is.count; size_is = is.size ∙ sized };
-    no_rows = is.rows ∙ ap (λ d. entries_of d (map written_of t.writes)) (decided_as false at);
+    no_rows = is.rows ∙ ap (λ d. entries_of d (map written_of t.writes)) (decided_as false false mark at);
   }
 
   pub block_keeps : (b : Block) → IsBlockOf x.run seat (decided_by 0 t) b → b.number < 2 ^ 32 → IsBlock b t.stamp x.run
@@ -189,16 +226,16 @@ module _ (c : Core) (seat : ℕ) (sound : Sound c) (session : is_session seat �
         end = omega (arith, size, end);
         run = omega (arith, run, short);
         rules =
-            subst (λ k. KeepsRulesOf k b x.run) (sym (is.kind_is ∙ ap kind_of (decided_as (ltb t.pred t.succ) refl)))
-            (rules b (ltb t.pred t.succ) refl is (names b is low));
+            subst (λ k. KeepsRulesOf k b x.run) (sym (is.kind_is ∙ ap kind_of (decided_as t.is_mark (ltb t.pred t.succ) refl refl)))
+            (rules b t.is_mark (ltb t.pred t.succ) refl refl is (names b is low));
       }
 
   -- the header that its spelling begins with is one that decides it
   pub header_is : (b : Block) → IsBlockOf x.run seat (decided_by 0 t) b → (header : ℕ) → header ≡ header_word b.kind b.size b.run → is_header t x.run header ≡ true
   header_is b is header same =
-      let code = ap code_of is.kind_is ∙ ap (λ (d : Decision). code_of (kind_of d)) (decided_as (ltb t.pred t.succ) refl) ∙ same_code (ltb t.pred t.succ) in
+      let code = ap code_of is.kind_is ∙ same_code t in
       subst (λ (h : ℕ). is_header t x.run h ≡ true)
-      (sym (same_header header (code_of b.kind) b.size b.run (if is_commit (decision_of t) then COMMIT_KIND else SKIP_KIND) t.size x.run same code is.size is.run_is))
+      (sym (same_header header (code_of b.kind) b.size b.run (header_kind (decision_of t)) t.size x.run same code is.size is.run_is))
       (header_fits t x.run sizes.1)
 
 -- what a seat's part says of its block, where its transaction is sealed
@@ -211,16 +248,17 @@ pub record HasOwnBlock (seat : ℕ) (x : Part) : Type 0 where
   pub header_is : (b : Block) → IsBlockOf x.run seat (decided_by 0 x.current) b → (header : ℕ) → header ≡ header_word b.kind b.size b.run → is_header x.current x.run header ≡ true
 
 pub has_own_block : (c : Core) (seat : ℕ) (x : Part) → c.seats seat ≡ x → Sound c → is_session seat ≡ true → is_sealed x.place ≡ true
-    → x.current.size ≡ block_words (map (λ (w : Claim). w.row) x.current.writes) → x.run ≤ LAST_RUN → HasOwnBlock seat x
-has_own_block c seat x at sound session sealed size_is short =
+    → x.current.size ≡ block_words (map (λ (w : Claim). w.row) x.current.writes) → x.run ≤ LAST_RUN → LEAST_SAFE ≤ x.current.begin → HasOwnBlock seat x
+has_own_block c seat x at sound session sealed size_is short begins =
     let there = subst (λ (z : Part). is_sealed z.place ≡ true) (sym at) sealed in
     let size = subst (λ (z : Part). z.current.size ≡ block_words (map (λ (w : Claim). w.row) z.current.writes)) (sym at) size_is in
     let low = subst (λ (z : Part). z.run ≤ LAST_RUN) (sym at) short in
+    let opened = subst (λ (z : Part). LEAST_SAFE ≤ z.current.begin) (sym at) begins in
     subst (HasOwnBlock seat) at (record {
-      least = (sizes c seat sound session there size low).0;
-      most = (sizes c seat sound session there size low).1;
-      ends_low = ends_low c seat sound session there size low;
+      least = (sizes c seat sound session there size low opened).0;
+      most = (sizes c seat sound session there size low opened).1;
+      ends_low = ends_low c seat sound session there size low opened;
       few = (sound.own seat).ranges.few;
-      keeps = block_keeps c seat sound session there size low;
-      header_is = header_is c seat sound session there size low;
+      keeps = block_keeps c seat sound session there size low opened;
+      header_is = header_is c seat sound session there size low opened;
     })

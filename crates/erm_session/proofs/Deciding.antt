@@ -1,17 +1,17 @@
 -- A sealed transaction that has passed all versions is decided, and ends.
-use Rattle.std.proofs.Common.{◌≡◌, ℕ, ◌≤◌, ◌+◌, Bool, true, false, ltb, List, [], length, Some, sym, ap, ◌∙◌, subst, arith}
-use Rattle.std.specs.Prelude.{if◌then◌else◌, vec_capacity}
-use Rattle.erm_block.specs.declared.block.TheConstants.{BLOCK_WORDS}
+use Rattle.std.proofs.Common.{◌≡◌, ℕ, ◌≤◌, ◌+◌, Bool, true, false, ltb, List, [], length, Some, sym, ap, ◌∙◌, subst, arith, Option, None}
+use Rattle.std.specs.Prelude.{if◌then◌else◌, vec_capacity, is_some}
+use Rattle.erm_block.specs.declared.block.TheConstants.{BLOCK_WORDS, LEAST_SAFE}
 use Rattle.erm_cells.specs.Spare.{SpareIs}
 use Rattle.erm_machine.specs.declared.attempt.Decision.{Decision}
-use Rattle.erm_machine.specs.declared.attempt.Decision.TheVariants.{Commit, Skip}
+use Rattle.erm_machine.specs.declared.attempt.Decision.TheVariants.{Commit, Skip, Mark}
 use Rattle.erm_machine.specs.declared.part.Part.{Part}
-use Rattle.erm_machine.specs.Seat.{is_sealed}
+use Rattle.erm_machine.specs.Seat.{is_sealed, decision_of}
 use Rattle.erm_machine.specs.Settling.{may_settle}
 use Rattle.erm_machine.specs.Words.{is_session}
 use Rattle.erm_model.specs.declared.limits.TheConstants.{LOG_END}
 use Rattle.erm_model.specs.declared.outcome.Outcome.{Outcome}
-use Rattle.erm_model.specs.declared.outcome.Outcome.TheVariants.{Committed, Excluded}
+use Rattle.erm_model.specs.declared.outcome.Outcome.TheVariants.{Committed, Excluded, Marked}
 use Rattle.erm_model.specs.declared.outcome.Phase.TheVariants as phase
 use Rattle.erm_precommit.specs.declared.pre.Pre.{Pre}
 use Rattle.erm_precommit.specs.Pre.{IsPre}
@@ -27,10 +27,11 @@ use Rattle.erm_session.specs.declared.session.Session.{Session}
 use Rattle.erm_session.specs.declared.session.Stage.{Stage}
 use Rattle.erm_session.specs.declared.session.Stage.TheVariants as stage
 use Rattle.erm_session.specs.Session.{IsSession, StageIs, phase_of}
-use Rattle.erm_session.specs.Settle.{EndsAs, Finishes, MayBeDecided, MayEnd, StoresBlock}
+use Rattle.erm_session.specs.Settle.{EndsAs, Finishes, MayBeDecided, MayEnd, StoresBlock, kept_decision, kept_outcome, outcome_of}
 use Rattle.erm_session.proofs.Goes.{has_room}
 use Rattle.erm_session.proofs.Ending.{HasLeft, Leaves, leaves, left_session}
 use Rattle.erm_session.proofs.Storing.{decided_is, ends_low, may_end}
+use Rattle.std.specs.Option.{option_map_or}
 
 -- the ends of the exclusion window are those of the part
 window_is : (v : View) (who succ pred : ℕ) (known : IsKnown v) → is_sealed (part_of v who).place ≡ true → IsReady v who succ pred
@@ -47,10 +48,20 @@ window_is v who succ pred known sealed ready =
 pub sealed_stage : (s : Session) (t : Pre) (x : Part) → IsSession s x → s.stage ≡ stage.Sealed t → StageIs (stage.Sealed t) x
 sealed_stage s t x stands at = subst (λ st. StageIs st x) at stands.kept.stage
 
+-- it is decided by what is kept of it
+kept_decides : (t : Pre) (x : Part) (opens : Bool) → IsPre t x → opens ≡ ltb x.current.pred x.current.succ → kept_decision t opens ≡ decision_of x.current
+kept_decides t x opens kept is =
+    ap (λ (o : Option ℕ). let d : Decision = if is_some o then Mark else if opens then Commit else Skip in d) kept.mark ∙ by x.current.is_mark
+    ∙ ap (λ (b : Bool). let d : Decision = if x.current.is_mark then Mark else if b then Commit else Skip in d) is
+  where
+    by : (m : Bool) → ◌≡◌ {A = Decision} (if is_some (if m then Some x.current.begin else None) then Mark else if opens then Commit else Skip) (if m then Mark else if opens then Commit else Skip)
+    by true = refl
+    by false = refl
+
 -- so it may be decided
 pub may_be_decided : (s : Session) (t : Pre) (v : View) (succ pred : ℕ) (known : IsKnown v) → IsSession s (part_of v s.seat) → s.stage ≡ stage.Sealed t → IsReady v s.seat succ pred
-    → MayBeDecided s.seat s.run s.number t s.rows_claimed.items (ltb pred succ) (part_of v s.seat)
-may_be_decided s t v succ pred known stands at ready =
+    → LEAST_SAFE ≤ (part_of v s.seat).current.begin → MayBeDecided s.seat s.run s.number t s.rows_claimed.items (kept_decision t (ltb pred succ)) (part_of v s.seat)
+may_be_decided s t v succ pred known stands at ready begins =
     let x = part_of v s.seat in
     let here = sealed_stage s t x stands at in
     record {
@@ -63,7 +74,8 @@ may_be_decided s t v succ pred known stands at ready =
       kept = here.2;
       rows_are = stands.rows_claimed;
       sized = here.4;
-      commits_is = window_is v s.seat succ pred known here.0 ready;
+      decision_is = kept_decides t x (ltb pred succ) here.2 (window_is v s.seat succ pred known here.0 ready);
+      begins = begins;
     }
 
 -- what becomes of it
@@ -77,13 +89,28 @@ outcome_by false false number t x e same kept = let a = kept.stamp in let b = ke
 outcome_by true false number t x e same kept = absurd (cc)
 outcome_by false true number t x e same kept = absurd (cc)
 
+kept_becomes : (number : ℕ) (t : Pre) (x : Part) (opens : Bool) → number ≡ x.current.number → IsPre t x → opens ≡ ltb x.current.pred x.current.succ → kept_outcome number t opens ≡ outcome_of x.current
+kept_becomes number t x opens same kept is = ap (λ (o : Option ℕ). option_map_or (λ begin. Marked t.stamp begin) o plain) kept.mark ∙ by x.current.is_mark
+  where
+    abbrev plain : Outcome
+    plain = if opens then Committed (record { number = number; stamp = t.stamp; end = t.stamp + t.size; succ = t.succ; pred = t.pred }) else Excluded t.stamp t.succ t.pred
+
+    abbrev decided : Outcome
+    decided =
+        if ltb x.current.pred x.current.succ
+        then Committed (record { number = x.current.number; stamp = x.current.stamp; end = x.current.stamp + x.current.size; succ = x.current.succ; pred = x.current.pred })
+        else Excluded x.current.stamp x.current.succ x.current.pred
+
+    by : (m : Bool) → option_map_or (λ begin. Marked t.stamp begin) (if m then Some x.current.begin else None) plain ≡ (if m then Marked x.current.stamp x.current.begin else decided)
+    by true = ap (λ (n : ℕ). Marked n x.current.begin) kept.stamp
+    by false = outcome_by opens (ltb x.current.pred x.current.succ) number t x is same kept
+
 -- its block was stored, and it was ended
-pub did_finish : (v : View) (who run number : ℕ) (t : Pre) (rows : List (List ℕ)) (commits : Bool) → MayBeDecided who run number t rows commits (part_of v who)
-    → (u : View) (stored : StoresBlock v who u) → (part_of u who).current.decision ≡ (if commits then Commit else Skip)
-    → (w : View) → EndsAs (if commits then Commit else Skip) u who w → (outcome : Outcome)
-    → outcome ≡ (if commits then Committed (record { number = number; stamp = t.stamp; end = t.stamp + t.size; succ = t.succ; pred = t.pred }) else Excluded t.stamp t.succ t.pred)
-    → Finishes v who outcome w
-did_finish v who run number t rows commits may u stored decision w ends outcome is = record {
+pub did_finish : (v : View) (who run number : ℕ) (t : Pre) (rows : List (List ℕ)) (opens : Bool) → MayBeDecided who run number t rows (kept_decision t opens) (part_of v who)
+    → opens ≡ ltb (part_of v who).current.pred (part_of v who).current.succ
+    → (u : View) (stored : StoresBlock v who u) → (part_of u who).current.decision ≡ kept_decision t opens
+    → (w : View) → EndsAs (kept_decision t opens) u who w → (outcome : Outcome) → outcome ≡ kept_outcome number t opens → Finishes v who outcome w
+did_finish v who run number t rows opens may window u stored decision w ends outcome is = record {
   words = stored.words;
   filled = stored.filled;
   fill = stored.fill;
@@ -92,7 +119,7 @@ did_finish v who run number t rows commits may u stored decision w ends outcome 
   decide = stored.decide;
   spelled = stored.spelled;
   ends = subst (λ (d : Decision). EndsAs d u who w) (sym decision) ends;
-  outcome_is = is ∙ outcome_by commits _ number t (part_of v who) may.commits_is may.number_is may.kept;
+  outcome_is = is ∙ kept_becomes number t (part_of v who) opens may.number_is may.kept window;
 }
 
 -- a settle that went on leaves what the session keeps
@@ -127,32 +154,39 @@ went_session s t u v w stands at went now =
     })
 
 -- Of a session's sealed transaction, whose settle has passed all versions.
-module _ (s : Session) (t : Pre) (v : View) (succ pred : ℕ) (known : IsKnown v) (stands : IsSession s (part_of v s.seat)) (at : s.stage ≡ stage.Sealed t) (ready : IsReady v s.seat succ pred) where
-  may : MayBeDecided s.seat s.run s.number t s.rows_claimed.items (ltb pred succ) (part_of v s.seat)
-  may = may_be_decided s t v succ pred known stands at ready
+module _ (s : Session) (t : Pre) (v : View) (succ pred : ℕ) (known : IsKnown v) (stands : IsSession s (part_of v s.seat)) (at : s.stage ≡ stage.Sealed t) (ready : IsReady v s.seat succ pred)
+    (begins : LEAST_SAFE ≤ (part_of v s.seat).current.begin) where
+  abbrev how : Decision
+  how = kept_decision t (ltb pred succ)
+
+  may : MayBeDecided s.seat s.run s.number t s.rows_claimed.items how (part_of v s.seat)
+  may = may_be_decided s t v succ pred known stands at ready begins
+
+  window : ltb pred succ ≡ ltb (part_of v s.seat).current.pred (part_of v s.seat).current.succ
+  window = window_is v s.seat succ pred known (sealed_stage s t (part_of v s.seat) stands at).0 ready
 
   pub block_ends : t.stamp + t.size ≤ LOG_END
-  block_ends = ends_low v s.seat s.run s.number t s.rows_claimed.items (ltb pred succ) known may
+  block_ends = ends_low v s.seat s.run s.number t s.rows_claimed.items how known may
 
   -- its block was stored, and it is decided: then a is kept
   module _ (st : Stage) (a : Session) (first : a ≡ record s { stage = st; decided = a.decided; block = a.block }) (u : View) (stored : StoresBlock v s.seat u) where
     seat : a.seat ≡ s.seat
     seat = ap (λ (z : Session). z.seat) first
 
-    may_leave_own : MayEnd s.seat t s.spare (ltb pred succ) (part_of u s.seat)
-    may_leave_own = may_end v s.seat s.run s.number t s.rows_claimed.items (ltb pred succ) known may u stored s.spare stands.kept.spare
+    may_leave_own : MayEnd s.seat t s.spare how (part_of u s.seat)
+    may_leave_own = may_end v s.seat s.run s.number t s.rows_claimed.items how known may u stored s.spare stands.kept.spare
 
-    pub may_leave : MayEnd a.seat t a.spare (ltb pred succ) (part_of u a.seat)
-    may_leave = subst (λ (z : Session). MayEnd z.seat t z.spare (ltb pred succ) (part_of u z.seat)) (sym first) may_leave_own
+    pub may_leave : MayEnd a.seat t a.spare how (part_of u a.seat)
+    may_leave = subst (λ (z : Session). MayEnd z.seat t z.spare how (part_of u z.seat)) (sym first) may_leave_own
 
     -- it was ended: then n is kept
-    module _ (w : View) (ended : EndsAs (if ltb pred succ then Commit else Skip) u a.seat w) (n : Session)
+    module _ (w : View) (ended : EndsAs how u a.seat w) (n : Session)
         (last : n ≡ record a { spare = n.spare; rows_read = n.rows_read; rows_claimed = n.rows_claimed }) where
-      ends : EndsAs (if ltb pred succ then Commit else Skip) u s.seat w
-      ends = subst (λ (q : ℕ). EndsAs (if ltb pred succ then Commit else Skip) u q w) seat ended
+      ends : EndsAs how u s.seat w
+      ends = subst (λ (q : ℕ). EndsAs how u q w) seat ended
 
       left : Leaves u s.seat w
-      left = leaves (if ltb pred succ then Commit else Skip) u s.seat w may_leave_own.decided ends
+      left = leaves how u s.seat w may_leave_own.decided ends
 
       pub known_left : IsKnown w
       known_left = left.known
@@ -161,15 +195,13 @@ module _ (s : Session) (t : Pre) (v : View) (succ pred : ℕ) (known : IsKnown v
       number = ap (λ (z : Session). z.number) last ∙ ap (λ (z : Session). z.number) first
 
       decided_so : part_of u s.seat ≡ decided_part stored.header (filled_part stored.words (part_of v s.seat))
-      decided_so = decided_is v s.seat s.run s.number t s.rows_claimed.items (ltb pred succ) known may u stored
+      decided_so = decided_is v s.seat s.run s.number t s.rows_claimed.items how known may u stored
 
-      pub finished : (outcome : Outcome)
-          → outcome ≡ (if ltb pred succ then Committed (record { number = n.number; stamp = t.stamp; end = t.stamp + t.size; succ = t.succ; pred = t.pred }) else Excluded t.stamp t.succ t.pred)
-          → Finishes v s.seat outcome w
+      pub finished : (outcome : Outcome) → outcome ≡ kept_outcome n.number t (ltb pred succ) → Finishes v s.seat outcome w
       finished outcome is =
           did_finish v s.seat s.run n.number t s.rows_claimed.items (ltb pred succ)
-          (subst (λ (q : ℕ). MayBeDecided s.seat s.run q t s.rows_claimed.items (ltb pred succ) (part_of v s.seat)) (sym number) may)
-          u stored may_leave_own.decision w ends outcome is
+          (subst (λ (q : ℕ). MayBeDecided s.seat s.run q t s.rows_claimed.items how (part_of v s.seat)) (sym number) may) window
+          u stored may_leave_own.decision_is w ends outcome is
 
       pub stands_idle : (room : Room) → st ≡ stage.Idle → SpareIs n.spare (part_of w a.seat) → vec_capacity n.rows_read ≡ vec_capacity a.rows_read
           → vec_capacity n.rows_claimed ≡ vec_capacity a.rows_claimed → length a.block.items ≡ BLOCK_WORDS → n.rows_read.items ≡ [] → n.rows_claimed.items ≡ []

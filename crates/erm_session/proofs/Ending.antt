@@ -8,7 +8,7 @@ use Rattle.erm_ends.specs.Ends.{left_part, released_all}
 use Rattle.erm_machine.specs.declared.attempt.Attempt.{Attempt}
 use Rattle.erm_machine.specs.declared.attempt.Claim.{Claim}
 use Rattle.erm_machine.specs.declared.attempt.Decision.{Decision}
-use Rattle.erm_machine.specs.declared.attempt.Decision.TheVariants.{Commit, Skip}
+use Rattle.erm_machine.specs.declared.attempt.Decision.TheVariants.{Commit, Skip, Mark}
 use Rattle.erm_machine.specs.declared.attempt.Read.{Read}
 use Rattle.erm_machine.specs.declared.limits.TheConstants.{READ_LIMIT, WRITE_LIMIT}
 use Rattle.erm_machine.specs.declared.part.Part.{Part}
@@ -66,6 +66,7 @@ leaves Skip v who w decided did =
       left = subst (HasLeft x) (sym (part_of-changed v who w y x (decided_held v who decided) did.view_is)) (record { place = refl; run = refl; number = refl; current = refl });
       known = did.known;
     }
+leaves Mark v who w decided did = leaves Skip v who w decided did
 leaves _ v who w decided did = absurd did
 
 -- a commit leaves the spare cells

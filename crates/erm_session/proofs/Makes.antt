@@ -91,6 +91,7 @@ made_stage (stage.Active a) t made x e anew is = (
     claims = is.2.claims;
     succ = is.2.succ;
     pred = is.2.pred;
+    unmarked = is.2.unmarked;
   },
   is.3,
 )

@@ -122,6 +122,7 @@ module _ (v : View) (who : ℕ) (active : is_active (part_of v who).place ≡ tr
           claims = claims_kept t.claims.value.items x.current.writes place c is.claims claim_now;
           succ = is.succ;
           pred = is.pred;
+          unmarked = is.unmarked;
         })
 
     pub rows_set : (old new : List (List ℕ)) → old ≡ map (λ (u : Claim). u.row) x.current.writes → new ≡ set old place row → new ≡ map (λ (u : Claim). u.row) (part_of w who).current.writes

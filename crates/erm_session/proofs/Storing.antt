@@ -1,5 +1,5 @@
 -- The words of a block are stored, and then its header.
-use Rattle.std.proofs.Common.{◌≡◌, ℕ, zero, suc, ◌+◌, ◌-◌, ◌^◌, ◌<◌, ◌≤◌, Bool, true, false, List, [], ◌∷◌, ◌++◌, drop, get_or, length, map, take, Some, refl, sym, ap, ◌∙◌, subst, arith}
+use Rattle.std.proofs.Common.{◌≡◌, ℕ, zero, suc, ◌+◌, ◌-◌, ◌^◌, ◌<◌, ◌≤◌, Bool, true, false, List, [], ◌∷◌, ◌++◌, drop, get_or, length, map, take, Some, refl, sym, ap, ◌∙◌, subst, arith, Option, None}
 use Rattle.std.specs.Prelude.{if◌then◌else◌}
 use Rattle.std.proofs.Math.Seq.{take-append_seam}
 use Rattle.erm_block.specs.declared.block.Block.{Block}
@@ -8,17 +8,17 @@ use Rattle.erm_block.specs.declared.block.Kind.TheVariants as block_kind
 use Rattle.erm_block.specs.declared.block.TheConstants.{BLOCK_WORDS}
 use Rattle.erm_block.specs.Block.{Entry, IsBlock}
 use Rattle.erm_block.specs.Spelling.{header_word, spelling}
-use Rattle.erm_core_blocks.specs.Spelled.{IsBlockOf, IsSpelled, decided_by, entries_of, kind_of}
+use Rattle.erm_core_blocks.specs.Spelled.{IsBlockOf, IsSpelled, decided_by, entries_of, kind_of, HasBlock, turn_of}
 use Rattle.erm_machine.specs.declared.attempt.Claim.{Claim}
 use Rattle.erm_machine.specs.declared.attempt.Decision.{Decision}
-use Rattle.erm_machine.specs.declared.attempt.Decision.TheVariants.{Commit, Skip}
+use Rattle.erm_machine.specs.declared.attempt.Decision.TheVariants.{Commit, Skip, Mark}
 use Rattle.erm_machine.specs.declared.limits.TheConstants.{LEAST_BLOCK, WRITE_LIMIT}
 use Rattle.erm_machine.specs.declared.part.Part.{Part}
 use Rattle.erm_machine.specs.declared.place.Place.{Place}
 use Rattle.erm_machine.specs.declared.place.Place.TheVariants.{Sealed}
 use Rattle.erm_machine.specs.Core.{no_claim}
 use Rattle.erm_machine.specs.Decided.{written_of}
-use Rattle.erm_machine.specs.Seat.{decision_of, is_decided, is_sealed}
+use Rattle.erm_machine.specs.Seat.{decision_of, is_decided, is_sealed, is_commit}
 use Rattle.erm_model.specs.declared.limits.TheConstants.{LOG_END}
 use Rattle.erm_precommit.specs.declared.pre.KeptClaim.{KeptClaim}
 use Rattle.erm_precommit.specs.declared.pre.Pre.{Pre}
@@ -32,6 +32,9 @@ use Rattle.erm_rule.proofs.Telling.{changed_here, held_part, part_of-changed}
 use Rattle.erm_cells.specs.Spare.{SpareIs}
 use Rattle.erm_session.specs.Settle.{MayBeDecided, MayEnd, StoresBlock, entries_kept, own_block}
 use Rattle.erm_session.proofs.Blocks.{HasOwnBlock, entry, has_own_block, sized_with}
+use Rattle.std.specs.Option.{option_map_or}
+use Rattle.erm_machine.specs.declared.attempt.Attempt.{Attempt}
+use Rattle.erm_machine.proofs.Decisions.{each_decision}
 
 -- the entries kept are those of the claims
 same_entries : (kept : List KeptClaim) (ws : List Claim) → length kept ≡ length ws
@@ -66,14 +69,18 @@ entries_more claims rows k less e =
     up_to claims rows k less e ∙ ap (λ (n : ℕ). entries_kept (take n claims) (take n rows)) up
 
 -- by the decision
-same_kind : (commits : Bool) → ◌≡◌ {A = block.Kind} (if commits then block_kind.Commit else block_kind.Skip) (kind_of (if commits then Commit else Skip))
-same_kind true = refl
-same_kind false = refl
+rows_by : (d : Decision) (entries : List Entry) (ws : List Claim) → entries ≡ map entry (map written_of ws)
+    → ◌≡◌ {A = List Entry} (if is_commit d then entries else []) (entries_of d (map written_of ws))
+rows_by Commit entries ws e = e
+rows_by Mark entries ws e = refl
+rows_by d entries ws e = refl
 
-rows_by : (commits : Bool) (entries : List Entry) (ws : List Claim) → entries ≡ map entry (map written_of ws)
-    → ◌≡◌ {A = List Entry} (if commits then entries else []) (entries_of (if commits then Commit else Skip) (map written_of ws))
-rows_by true entries ws e = e
-rows_by false entries ws e = refl
+-- the stamp that is named: that of a mark is its begin stamp
+named_by : (m opened : Bool) (begin succ kept : ℕ) (t : Attempt) → t.begin ≡ begin → t.succ ≡ succ → kept ≡ succ
+    → option_map_or (λ n. n) (if m then Some begin else None) kept ≡ turn_of (if m then Mark else if opened then Commit else Skip) t
+named_by true opened begin succ kept t begin_is succ_is e = sym begin_is
+named_by false true begin succ kept t begin_is succ_is e = e ∙ sym succ_is
+named_by false false begin succ kept t begin_is succ_is e = e ∙ sym succ_is
 
 -- words and the first of them
 front : (ws : List ℕ) (n : ℕ) → 0 < n → n ≤ length ws → get_or ws 0 0 ∷ take (n - 1) (drop 1 ws) ≡ take n ws
@@ -95,7 +102,7 @@ decided_at : (pl : Place) → is_sealed pl ≡ true → is_decided (decided_plac
 decided_at (Sealed tail stamp) e = refl
 decided_at _ e = absurd (cc)
 
-module _ (v : View) (who run number : ℕ) (t : Pre) (rows : List (List ℕ)) (commits : Bool) (known : IsKnown v) (may : MayBeDecided who run number t rows commits (part_of v who)) where
+module _ (v : View) (who run number : ℕ) (t : Pre) (rows : List (List ℕ)) (decision : Decision) (known : IsKnown v) (may : MayBeDecided who run number t rows decision (part_of v who)) where
   abbrev x : Part
   x = part_of v who
 
@@ -106,7 +113,7 @@ module _ (v : View) (who run number : ℕ) (t : Pre) (rows : List (List ℕ)) (c
   facts =
       let short = may.low in
       let run_is = may.run_is in
-      has_own_block known.core who x (known.is_view who x has) known.sound may.session may.sealed may.sized (omega (arith, short, run_is))
+      has_own_block known.core who x (known.is_view who x has) known.sound may.session may.sealed may.sized (omega (arith, short, run_is)) may.begins
 
   -- the sizes kept
   pub size_most : t.size ≤ BLOCK_WORDS
@@ -118,31 +125,33 @@ module _ (v : View) (who run number : ℕ) (t : Pre) (rows : List (List ℕ)) (c
   pub ends_low : t.stamp + t.size ≤ LOG_END
   ends_low = let a = facts.ends_low in let b = may.kept.stamp in let d = may.kept.size in omega (arith, a, b, d)
 
-  decision_is : decision_of x.current ≡ (if commits then Commit else Skip)
-  decision_is = ap (λ (o : Bool). let d : Decision = if o then Commit else Skip in d) (sym may.commits_is)
+  named : option_map_or (λ n. n) t.mark t.succ ≡ turn_of (decision_of x.current) x.current
+  named =
+      ap (λ (o : Option ℕ). option_map_or (λ n. n) o t.succ) may.kept.mark
+      ∙ named_by x.current.is_mark (ltb x.current.pred x.current.succ) x.current.begin x.current.succ t.succ x.current refl refl may.kept.succ
 
-  own_is : IsBlockOf x.run who (decided_by 0 x.current) (own_block who run number t rows commits)
+  own_is : IsBlockOf x.run who (decided_by 0 x.current) (own_block who run number t rows decision)
   own_is = record {
-    kind_is = same_kind commits ∙ sym (ap kind_of decision_is);
+    kind_is = ap kind_of may.decision_is;
     run_is = may.run_is;
     stamp = may.kept.stamp;
-    succ = may.kept.succ;
+    succ = named;
     of_seat = refl;
     number = may.number_is;
     count = may.kept.claim_count;
     size = may.kept.size;
     rows =
-        rows_by commits (entries_kept t.claims.value.items rows) x.current.writes
+        rows_by decision (entries_kept t.claims.value.items rows) x.current.writes
         (ap (entries_kept t.claims.value.items) may.rows_are ∙ same_entries t.claims.value.items x.current.writes may.kept.claim_count may.kept.claims)
-        ∙ sym (ap (λ (d : Decision). entries_of d (map written_of x.current.writes)) decision_is);
+        ∙ ap (λ (d : Decision). entries_of d (map written_of x.current.writes)) may.decision_is;
   }
 
   -- the block that is written, from these rows
-  module _ (b : Block) (from : List (List ℕ)) (is : b ≡ own_block who run number t from commits) (from_is : from ≡ rows) (low : b.number < 2 ^ 32) where
+  module _ (b : Block) (from : List (List ℕ)) (is : b ≡ own_block who run number t from decision) (from_is : from ≡ rows) (low : b.number < 2 ^ 32) where
     block_is : IsBlockOf x.run who (decided_by 0 x.current) b
     block_is =
         subst (IsBlockOf x.run who (decided_by 0 x.current))
-        (sym (is ∙ ap (λ (rs : List (List ℕ)). own_block who run number t rs commits) from_is)) own_is
+        (sym (is ∙ ap (λ (rs : List (List ℕ)). own_block who run number t rs decision) from_is)) own_is
 
     keeps : IsBlock b x.current.stamp x.run
     keeps = facts.keeps b block_is low
@@ -269,13 +278,14 @@ module _ (v : View) (who run number : ℕ) (t : Pre) (rows : List (List ℕ)) (c
         (changed_here v who stored.filled (filled_part stored.words x) x has stored.fill.view_is) stored.decide.view_is
         ∙ ap (decided_part stored.header) filled_so
 
-    pub may_end : (spare : List ℕ) → SpareIs spare x → MayEnd who t spare commits (part_of w who)
+    pub may_end : (spare : List ℕ) → SpareIs spare x → MayEnd who t spare decision (part_of w who)
     may_end spare is =
-        subst (MayEnd who t spare commits) (sym decided_is)
+        subst (MayEnd who t spare decision) (sym decided_is)
         (record {
           session = may.session;
           decided = decided_at x.place may.sealed;
-          decision = decision_is;
+          decision_is = sym may.decision_is;
+          has_block = subst HasBlock (sym may.decision_is) (each_decision HasBlock x.current tt tt tt);
           ends = refl;
           kept = record {
             stamp = may.kept.stamp;
@@ -286,6 +296,7 @@ module _ (v : View) (who run number : ℕ) (t : Pre) (rows : List (List ℕ)) (c
             claims = may.kept.claims;
             succ = may.kept.succ;
             pred = may.kept.pred;
+            mark = may.kept.mark;
           };
           spare_is = is;
         })

@@ -138,6 +138,7 @@ module _ (s : Session) (p : Part) (is : IsSession s p) (active : phase_of s.stag
         claims = claims_kept t.claims.value.items p.current.writes place w old.claims (record { oid = one.oid; overwritten = one.overwritten; own = one.own });
         succ = old.succ;
         pred = old.pred;
+        unmarked = old.unmarked;
       }
 
   rows_are : s.rows_claimed.items ≡ map (λ (u : Claim). u.row) q.current.writes

@@ -1,5 +1,5 @@
 -- The end of a settle: the block that is written, the decision, and the end of the transaction.
-use Rattle.std.specs.Prelude.{◌≡◌, ℕ, ◌+◌, ◌≤◌, true, if◌then◌else◌, nat_lt, List, [], length, map}
+use Rattle.std.specs.Prelude.{◌≡◌, ℕ, ◌+◌, ◌≤◌, true, if◌then◌else◌, nat_lt, List, [], length, map, Bool, is_some}
 use Rattle.std.specs.List.{zip}
 use Rattle.std.specs.Option.{option_map_or}
 use Rattle.erm_block.specs.declared.block.Block.{Block}
@@ -28,6 +28,7 @@ use Rattle.erm_ring.specs.Block.{DidDecide, DidFill}
 use Rattle.erm_rule.specs.declared.view.View.{View}
 use Rattle.erm_rule.specs.Hands.{IsKnown}
 use Rattle.erm_rule.specs.Views.{part_of}
+use Rattle.erm_block.specs.declared.block.TheConstants.{LEAST_SAFE}
 
 -- what becomes of a mark: it is marked with its begin stamp; and of a transaction by the Serial Safety Net: it commits where its exclusion
 -- window is open
@@ -37,6 +38,15 @@ outcome_of t =
     else if nat_lt t.pred t.succ
     then Committed (record { number = t.number; stamp = t.stamp; end = t.stamp + t.size; succ = t.succ; pred = t.pred })
     else Excluded t.stamp t.succ t.pred
+
+-- how a transaction that is kept so is decided, and what becomes of it: a mark is marked, and else it commits where its window is open
+abbrev pub kept_decision : Pre → Bool → Decision
+kept_decision t opens = if is_some t.mark then Mark else if opens then Commit else Skip
+
+abbrev pub kept_outcome : ℕ → Pre → Bool → Outcome
+kept_outcome number t opens =
+    option_map_or (λ begin. Marked t.stamp begin) t.mark
+    (if opens then Committed (record { number = number; stamp = t.stamp; end = t.stamp + t.size; succ = t.succ; pred = t.pred }) else Excluded t.stamp t.succ t.pred)
 
 -- the end of a transaction that was decided so
 abbrev pub EndsAs : Decision → View → ℕ → View → Type 0
@@ -87,7 +97,7 @@ own_block seat run number t rows decision = record {
 }
 
 -- What a session keeps is its seat's sealed transaction, with the rows of its claims, or its mark. Its settle has passed all versions, and it
--- is decided so: it commits where its exclusion window is open, and a mark is marked.
+-- is decided so: it commits where its exclusion window is open, and a mark is marked. Its begin stamp is one of the log.
 pub record MayBeDecided (seat run number : ℕ) (t : Pre) (rows : List (List ℕ)) (decision : Decision) (x : Part) : Type 0 where
   pub session : is_session seat ≡ true
   pub run_is : run ≡ x.run
@@ -99,6 +109,7 @@ pub record MayBeDecided (seat run number : ℕ) (t : Pre) (rows : List (List ℕ
   pub rows_are : rows ≡ map (λ (w : Claim). w.row) x.current.writes
   pub sized : x.current.size ≡ block_words (map (λ (w : Claim). w.row) x.current.writes)
   pub decision_is : decision ≡ decision_of x.current
+  pub begins : LEAST_SAFE ≤ x.current.begin
 
 -- The words of the transaction's block were stored, which are its spelling, and then its header, which decides it.
 pub record StoresBlock (v : View) (who : ℕ) (w : View) : Type 0 where

@@ -1,17 +1,15 @@
 //! The end of a sealed transaction whose settle has passed all versions: its block, the decision, and what follows from it.
-ghost use Rattle.std.specs.Prelude.{◌≡◌, ◌≤◌, ◌<◌, ◌+◌, ◌^◌, ℕ, [], length, if◌then◌else◌, is_some, nat_lt, Some, None, vec_capacity};
-ghost use Rattle.erm_block.specs.declared.block.TheConstants.{BLOCK_WORDS};
+ghost use Rattle.std.specs.Prelude.{◌≡◌, ◌≤◌, ◌<◌, ◌+◌, ◌^◌, ℕ, [], length, vec_capacity};
+ghost use Rattle.erm_block.specs.declared.block.TheConstants.{BLOCK_WORDS, LEAST_SAFE};
 ghost use Rattle.erm_cells.specs.Spare.{SpareIs};
 ghost use Rattle.erm_core_blocks.specs.Spelled.{kind_of};
-ghost use Rattle.erm_machine.specs.declared.attempt.Decision.TheVariants.{Commit, Mark, Skip};
 ghost use Rattle.erm_machine.specs.declared.limits.TheConstants.{GREATEST_BLOCK, WRITE_LIMIT};
-ghost use Rattle.erm_model.specs.declared.outcome.Outcome.TheVariants.{Committed, Excluded, Marked};
 ghost use Rattle.erm_model.specs.declared.outcome.Phase.TheVariants.{Idle, Sealed};
 ghost use Rattle.erm_precommit.specs.Settle.{IsReady};
 ghost use Rattle.erm_rule.specs.Hands.{IsKnown};
 ghost use Rattle.erm_rule.specs.Steps.{Fits, Booked};
 ghost use Rattle.erm_rule.specs.Views.{view, part_of};
-ghost use Rattle.erm_session.specs.Settle.{EndsAs, Finishes, MayBeDecided, MayEnd, StoresBlock, entries_kept, own_block};
+ghost use Rattle.erm_session.specs.Settle.{EndsAs, Finishes, MayBeDecided, MayEnd, StoresBlock, entries_kept, kept_decision, kept_outcome, own_block};
 ghost use Rattle.erm_session.specs.Session.{IsSession, phase_of};
 ghost use Rattle.erm_cells.specs.Took.{IsEndStep};
 ghost use Rattle.erm_machine.specs.declared.event.Kind.TheVariants.{Decide};
@@ -56,13 +54,13 @@ fn kind_of(decision: Decision) -> Kind
     }
 }
 
-// How a sealed transaction with these ends of its exclusion window is decided: a mark is marked.
-fn decision_of(pre: &Pre, succ: Stamp, pred: Stamp) -> Decision
-    ensures { result ≡ (if is_some pre.now.mark then Mark else if nat_lt pred succ then Commit else Skip) }
+// How a sealed transaction is decided, whose exclusion window is open or not: a mark is marked.
+fn decision_of(pre: &Pre, commits: bool) -> Decision
+    ensures { result ≡ kept_decision pre.now commits }
 {
     if pre.mark.is_some() {
         Decision::Mark
-    } else if pred < succ {
+    } else if commits {
         Decision::Commit
     } else {
         Decision::Skip
@@ -100,13 +98,9 @@ fn set_block(
 }
 
 // What becomes of the transaction, or of the mark.
-fn outcome_of(number: u32, pre: &Pre, succ: Stamp, pred: Stamp) -> Outcome
+fn outcome_of(number: u32, pre: &Pre, commits: bool) -> Outcome
     requires end { pre.now.stamp + pre.now.size < 2 ^ 64 }
-    requires ends { (pre.now.succ ≡ succ) × (pre.now.pred ≡ pred) }
-    ensures marked { (begin : ℕ) → pre.now.mark ≡ Some begin → result ≡ Marked pre.now.stamp begin }
-    ensures decided { pre.now.mark ≡ None → result ≡ (if nat_lt pred succ
-        then Committed (record { number = number; stamp = pre.now.stamp; end = pre.now.stamp + pre.now.size; succ = pre.now.succ; pred = pre.now.pred })
-        else Excluded pre.now.stamp pre.now.succ pre.now.pred) }
+    ensures { result ≡ kept_outcome number pre.now commits }
 {
     if let Some(safe) = pre.mark {
         return Outcome::Marked {
@@ -114,7 +108,7 @@ fn outcome_of(number: u32, pre: &Pre, succ: Stamp, pred: Stamp) -> Outcome
             safe,
         };
     }
-    if pred < succ {
+    if commits {
         Outcome::Committed(Receipt {
             number,
             stamp: pre.stamp,
@@ -145,6 +139,7 @@ impl Session {
         requires stands { IsSession self.old (part_of (view p.old) self.old.seat) }
         requires sealed { phase_of self.old.stage ≡ Sealed }
         requires ready { IsReady (view p.old) self.old.seat succ pred }
+        requires begins { LEAST_SAFE ≤ (part_of (view p.old) self.old.seat).current.begin }
         ensures fits { Fits t.now.words.shared.table_id p.new }
         ensures known { IsKnown (view p.new) }
         ensures seat { self.new.seat ≡ self.old.seat }
@@ -156,10 +151,11 @@ impl Session {
         let Stage::Sealed(pre) = mem::replace(&mut self.stage, Stage::Idle) else {
             unreachable!()
         };
-        let decision = decision_of(&pre, succ, pred);
+        let commits = pred < succ;
+        let decision = decision_of(&pre, commits);
         self.store_block(t, p, &pre, decision);
         self.leave(t, p, &pre, decision);
-        let outcome = outcome_of(self.number, &pre, succ, pred);
+        let outcome = outcome_of(self.number, &pre, commits);
         self.room = Some(Room {
             reads: pre.reads,
             claims: pre.claims,

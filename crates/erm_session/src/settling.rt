@@ -1,5 +1,6 @@
 //! A session's settle.
-ghost use Rattle.std.specs.Prelude.{◌≡◌, IfErr, IfOk};
+ghost use Rattle.std.specs.Prelude.{◌≡◌, ◌≤◌, IfErr, IfOk};
+ghost use Rattle.erm_block.specs.declared.block.TheConstants.{LEAST_SAFE};
 ghost use Rattle.erm_model.specs.declared.outcome.Phase.TheVariants.{Idle, Sealed};
 ghost use Rattle.erm_precommit.specs.Settle.{WaitsFor, WasWait, WentOn};
 ghost use Rattle.erm_rule.specs.Books.{book};
@@ -18,12 +19,13 @@ use erm_precommit::{Settled, Wait};
 use erm_rule::{Pass, Table};
 
 impl Session {
-    /// Decides the sealed transaction by the Serial Safety Net, and ends it: it commits where its exclusion window is open. Or it says for
-    /// what it waits: then it may be called again.
+    /// Decides the sealed transaction by the Serial Safety Net, and ends it: it commits where its exclusion window is open. A mark is marked,
+    /// and its begin stamp is one of the log. Or it says for what it waits: then it may be called again.
     pub fn settle<L: RowLaw>(&mut self, t: &Table<L>, p: &mut Pass) -> Result<Outcome, Wait>
         requires fits { Fits t.now.words.shared.table_id p.old }
         requires stands { IsSession self.old (part_of (view p.old) self.old.seat) }
         requires sealed { phase_of self.old.stage ≡ Sealed }
+        requires begins { LEAST_SAFE ≤ (part_of (view p.old) self.old.seat).current.begin }
         ensures fits { Fits t.now.words.shared.table_id p.new }
         ensures known { IsKnown (view p.new) }
         ensures seat { self.new.seat ≡ self.old.seat }

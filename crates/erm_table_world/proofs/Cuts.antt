@@ -17,7 +17,7 @@ use Rattle.erm_block.specs.declared.block.Block.{Block}
 use Rattle.erm_world.specs.Laws.{IsSerializable, SeesSnapshot}
 use Rattle.erm_world.specs.Log.{Log, Undecided}
 use Rattle.erm_world.specs.Whole.{IsBlockOf, IsLogOf, IsSealedAt}
-use Rattle.erm_world.specs.World.{Session, View, Work}
+use Rattle.erm_world.specs.World.{Session, View, Work, work_at}
 use Rattle.erm_world.specs.World as world
 use Rattle.erm_table_world.specs.Stands.{with_cuts}
 

@@ -16,7 +16,7 @@ use Rattle.erm_world.specs.Calls.{Becomes, DidAbort, DidClaim, DidMake, DidNotCl
 use Rattle.erm_world.specs.Calls as calls
 use Rattle.erm_world.specs.Safe.{DidBeginSafe, DidNotSafe, DidSafe, DidMark}
 use Rattle.erm_world.specs.Saves.{with_saves}
-use Rattle.erm_world.specs.World.{Fate, Session, View, Work, phase_at, phase_of}
+use Rattle.erm_world.specs.World.{Fate, Session, View, Work, phase_at, phase_of, work_at, marking}
 use Rattle.erm_world.proofs.WithSaves as kept
 
 module _ (f g : ℕ → List (List VersionWritten)) (v t : View) (seat : ℕ) (own : (phase_at v seat ≡ Active → phase_at t seat ≡ Active) → g seat ≡ f seat) (others : (q : ℕ) → q ≢ seat → g q ≡ f q) where

@@ -11,7 +11,7 @@ use Rattle.erm_world.specs.declared.stops.BeginStop.{BeginStop}
 use Rattle.erm_world.specs.declared.stops.SafeStop.{SafeStop}
 use Rattle.erm_world.specs.declared.stops.Wait.{Wait}
 use Rattle.erm_world.specs.Calls.{DidAbort, DidBegin, DidClaim, DidMake, DidNotClaim, DidNotMake, DidNotRead, DidNotSettle, DidRead, DidSeal, DidSettle, DidWrite, MayNotBegin}
-use Rattle.erm_world.specs.Safe.{DidBeginSafe, DidNotSafe, DidSafe}
+use Rattle.erm_world.specs.Safe.{DidBeginSafe, DidNotSafe, DidSafe, DidMark}
 use Rattle.erm_world.specs.World.{Stand, View, phase_at, phase_of}
 use Rattle.erm_world.specs.World as world
 use Rattle.erm_world.proofs.WithSaves as kept
@@ -95,3 +95,6 @@ module _ {L : Type 0} (w n : TableWorld L) (seat : ℕ) (keeps : KeepsSaves w se
 
   pub did_not_safe : (why : SafeStop) → (phase_at (table_view w) seat ≡ Active → ⊥) → DidNotSafe (table_view w) seat why (table_view n) → DidNotSafe (world_view w) seat why (world_view n)
   did_not_safe why none did = lifts.did_not_safe (table_saves w) (table_saves n) v t seat keeps.own keeps.others none why (safe_cuts.did_not_safe TABLE_CELLS (table_view w) (table_view n) seat why did)
+
+  pub did_mark : (stamp : ℕ) → DidMark (table_view w) seat stamp (table_view n) → DidMark (world_view w) seat stamp (world_view n)
+  did_mark stamp did = lifts.did_mark (table_saves w) (table_saves n) v t seat keeps.own keeps.others stamp (safe_cuts.did_mark TABLE_CELLS (table_view w) (table_view n) seat stamp did)

@@ -24,6 +24,11 @@ impl<L: RowLaw> SafeWorld for TableWorld<L> {
         self.safe_read(seat, oid)
     }
 
+    fn mark(&mut self, seat: Seat) -> Stamp {
+        standing_worlds_have_laws::<L>();
+        self.mark(seat)
+    }
+
     fn end_safe(&mut self, seat: Seat) {
         standing_worlds_have_laws::<L>();
         self.end_safe(seat)

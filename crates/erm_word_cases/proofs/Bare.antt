@@ -1,5 +1,5 @@
 -- A transaction that has read and claimed nothing begins and seals: it may settle.
-use Rattle.std.proofs.Common.{◌≡◌, ℕ, ◌<◌, true, [], length, refl, sym, ap, ◌∙◌, subst, arith}
+use Rattle.std.proofs.Common.{◌≡◌, ℕ, ◌<◌, true, [], length, refl, sym, ap, ◌∙◌, subst, arith, None}
 use Rattle.erm_machine.specs.declared.part.Part.{Part}
 use Rattle.erm_machine.specs.declared.place.Place.TheVariants.{Idle}
 use Rattle.erm_machine.specs.Seat.{is_sealed, is_vacant}
@@ -29,8 +29,8 @@ module _ (v w1 w2 : View) (who begin size stamp : ℕ) (idle : (part_of v who).p
   pub bare_starts : may_settle (part_of w2 who).task ≡ true
   bare_starts = ap (λ (z : Part). may_settle z.task) sealed_is
 
-  pub bare_kept : (pre : Pre) → pre.stamp ≡ stamp → pre.size ≡ size → pre.reads.value.items ≡ [] → pre.claims.value.items ≡ [] → pre.succ ≡ stamp → pre.pred ≡ 0 → IsPre pre (part_of w2 who)
-  bare_kept pre at words reads claims succ pred =
+  pub bare_kept : (pre : Pre) → pre.stamp ≡ stamp → pre.size ≡ size → pre.reads.value.items ≡ [] → pre.claims.value.items ≡ [] → pre.succ ≡ stamp → pre.pred ≡ 0 → pre.mark ≡ None → IsPre pre (part_of w2 who)
+  bare_kept pre at words reads claims succ pred mark =
       subst (λ (z : Part). IsPre pre z) (sym sealed_is) (record {
         stamp = at;
         size = words;
@@ -40,4 +40,5 @@ module _ (v w1 w2 : View) (who begin size stamp : ℕ) (idle : (part_of v who).p
         claims = λ k low. absurd (none_below k 0 refl low);
         succ = succ;
         pred = pred;
+        mark = mark;
       })

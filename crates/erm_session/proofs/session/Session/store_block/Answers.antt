@@ -6,26 +6,26 @@ pub set_block-requires-clause-size : goal.set_block-requires-clause-size
 set_block-requires-clause-size g c =
     let s = c.args.self.now in
     let v = view c.args.p.now in
-    size_most v s.seat s.run s.number c.args.pre.now s.rows_claimed.items c.args.commits c.requires.known c.requires.may
+    size_most v s.seat s.run s.number c.args.pre.now s.rows_claimed.items c.args.decision c.requires.known c.requires.may
 
 pub set_block-requires-clause-few : goal.set_block-requires-clause-few
 set_block-requires-clause-few g c =
     let s = c.args.self.now in
     let v = view c.args.p.now in
-    claims_few v s.seat s.run s.number c.args.pre.now s.rows_claimed.items c.args.commits c.requires.known c.requires.may
+    claims_few v s.seat s.run s.number c.args.pre.now s.rows_claimed.items c.args.decision c.requires.known c.requires.may
 
 pub encode_into-size-requires-clause-block : goal.encode_into-size-requires-clause-block
 encode_into-size-requires-clause-block g c =
     let s = c.args.self.now in
     let v = view c.args.p.now in
-    may_encode v s.seat s.run s.number c.args.pre.now s.rows_claimed.items c.args.commits c.requires.known c.requires.may
+    may_encode v s.seat s.run s.number c.args.pre.now s.rows_claimed.items c.args.decision c.requires.known c.requires.may
     c.set_block.new.block c.as_slice-rows.result.now c.set_block.ensures.is c.as_slice-rows.ensures.value c.set_block.ensures.number
 
 pub encode_into-size-requires-clause-room : goal.encode_into-size-requires-clause-room
 encode_into-size-requires-clause-room g c =
     let s = c.args.self.now in
     let v = view c.args.p.now in
-    may_write v s.seat s.run s.number c.args.pre.now s.rows_claimed.items c.args.commits c.requires.known c.requires.may
+    may_write v s.seat s.run s.number c.args.pre.now s.rows_claimed.items c.args.decision c.requires.known c.requires.may
     c.set_block.new.block c.as_slice-rows.result.now c.set_block.ensures.is c.as_slice-rows.ensures.value c.set_block.ensures.number
     s.block.items c.deref_mut.result.now c.deref_mut.ensures.value c.requires.room
 
@@ -33,7 +33,7 @@ pub slice_bounds-fill-end : goal.slice_bounds-fill-end
 slice_bounds-fill-end g c =
     let s = c.args.self.now in
     let v = view c.args.p.now in
-    within v s.seat s.run s.number c.args.pre.now s.rows_claimed.items c.args.commits c.requires.known c.requires.may
+    within v s.seat s.run s.number c.args.pre.now s.rows_claimed.items c.args.decision c.requires.known c.requires.may
     c.set_block.new.block c.as_slice-rows.result.now c.set_block.ensures.is c.as_slice-rows.ensures.value c.set_block.ensures.number
     s.block.items c.deref_mut.result.now c.encode_into-size.new.out c.as_slice-words.result.now _ c.encode_into-size.result c.deref_mut.ensures.value c.requires.room
     c.deref_mut.ensures.len c.encode_into-size.auto.out c.as_slice-words.ensures.value c.encode_into-size.ensures.size c.encode_into-size.ensures.spelled
@@ -42,7 +42,7 @@ pub fill-requires-clause-may : goal.fill-requires-clause-may
 fill-requires-clause-may g c =
     let s = c.args.self.now in
     let v = view c.args.p.now in
-    may_fill v s.seat s.run s.number c.args.pre.now s.rows_claimed.items c.args.commits c.requires.known c.requires.may
+    may_fill v s.seat s.run s.number c.args.pre.now s.rows_claimed.items c.args.decision c.requires.known c.requires.may
     c.set_block.new.block c.as_slice-rows.result.now c.set_block.ensures.is c.as_slice-rows.ensures.value c.set_block.ensures.number
     s.block.items c.deref_mut.result.now c.encode_into-size.new.out c.as_slice-words.result.now _ c.encode_into-size.result c.deref_mut.ensures.value c.requires.room
     c.deref_mut.ensures.len c.encode_into-size.auto.out c.as_slice-words.ensures.value c.encode_into-size.ensures.size c.encode_into-size.ensures.spelled
@@ -51,7 +51,7 @@ pub decide-requires-clause-may : goal.decide-requires-clause-may
 decide-requires-clause-may g c =
     let s = c.args.self.now in
     let v = view c.args.p.now in
-    may_decide v s.seat s.run s.number c.args.pre.now s.rows_claimed.items c.args.commits c.requires.known c.requires.may
+    may_decide v s.seat s.run s.number c.args.pre.now s.rows_claimed.items c.args.decision c.requires.known c.requires.may
     c.set_block.new.block c.as_slice-rows.result.now c.set_block.ensures.is c.as_slice-rows.ensures.value c.set_block.ensures.number
     s.block.items c.deref_mut.result.now c.encode_into-size.new.out c.as_slice-words.result.now _ c.encode_into-size.result c.deref_mut.ensures.value c.requires.room
     c.deref_mut.ensures.len c.encode_into-size.auto.out c.as_slice-words.ensures.value c.encode_into-size.ensures.size c.encode_into-size.ensures.spelled
@@ -61,7 +61,7 @@ pub returns-clause-stored : goal.returns-clause-stored
 returns-clause-stored g c =
     let s = c.args.self.now in
     let v = view c.args.p.now in
-    did_store v s.seat s.run s.number c.args.pre.now s.rows_claimed.items c.args.commits c.requires.known c.requires.may
+    did_store v s.seat s.run s.number c.args.pre.now s.rows_claimed.items c.args.decision c.requires.known c.requires.may
     c.set_block.new.block c.as_slice-rows.result.now c.set_block.ensures.is c.as_slice-rows.ensures.value c.set_block.ensures.number
     s.block.items c.deref_mut.result.now c.encode_into-size.new.out c.as_slice-words.result.now _ c.encode_into-size.result c.deref_mut.ensures.value c.requires.room
     c.deref_mut.ensures.len c.encode_into-size.auto.out c.as_slice-words.ensures.value c.encode_into-size.ensures.size c.encode_into-size.ensures.spelled
