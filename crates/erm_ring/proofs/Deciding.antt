@@ -4,7 +4,7 @@ use Rattle.std.specs.Prelude.{if◌then◌else◌, nat_lt, IsSome}
 use Rattle.std.proofs.lemmas.Bool.{cases_lt, eq-eqb, lt-ltb}
 use Rattle.std.proofs.lemmas.Option.{same_Some}
 use Rattle.erm_machine.specs.declared.attempt.Attempt.{Attempt}
-use Rattle.erm_machine.specs.declared.attempt.Decision.TheVariants.{Commit, Skip}
+use Rattle.erm_machine.specs.declared.attempt.Decision.TheVariants.{Commit, Skip, Mark}
 use Rattle.erm_machine.specs.declared.event.Kind.TheVariants as kind
 use Rattle.erm_machine.specs.declared.limits.TheConstants.{FLUSH_SEAT, RING_WORDS}
 use Rattle.erm_machine.specs.declared.part.Flushing.{Flushing}
@@ -35,13 +35,15 @@ use Rattle.erm_cells.proofs.Views.{both, told_is, when_true}
 use Rattle.erm_ring.specs.Block.{decided_part, decided_place, DidDecide, MayDecide}
 use Rattle.erm_ring.proofs.Filling.{sealed_drawn, sealed_taken}
 
-commit_open : (b : Bool) → (if b then Commit else Skip) ≡ Commit → b ≡ true
-commit_open true e = refl
-commit_open false e = absurd (cc)
+commit_open : (m b : Bool) → (if m then Mark else if b then Commit else Skip) ≡ Commit → b ≡ true
+commit_open true b e = absurd (cc)
+commit_open false true e = refl
+commit_open false false e = absurd (cc)
 
-open_commit : (b : Bool) → b ≡ true → (if b then Commit else Skip) ≡ Commit
-open_commit true e = refl
-open_commit false e = absurd (cc)
+open_commit : (m b : Bool) → m ≡ false → b ≡ true → (if m then Mark else if b then Commit else Skip) ≡ Commit
+open_commit true b plain e = absurd (cc)
+open_commit false true plain e = refl
+open_commit false false plain e = absurd (cc)
 
 -- a settle that stores words has found room
 fills_room : (pl : Place) (t : Task) (n : ℕ) → is_sealed pl ≡ true → t ≡ task.Fills n → HasRoom pl t
@@ -188,8 +190,8 @@ module _ (v : View) (who at header : ℕ) (may : MayDecide who at header (part_o
     pub did_decide : DidDecide v who header w
     did_decide = record {
       view_is = view_is;
-      commits = λ e. commit_open (nat_lt x.current.pred x.current.succ) (sym (ap (λ (z : Part). z.current.decision) part_is) ∙ e);
-      skips = λ e. ap (λ (z : Part). z.current.decision) part_is ∙ open_commit (nat_lt x.current.pred x.current.succ) e;
+      commits = λ e. commit_open x.current.is_mark (nat_lt x.current.pred x.current.succ) (sym (ap (λ (z : Part). z.current.decision) part_is) ∙ e);
+      skips = λ plain e. ap (λ (z : Part). z.current.decision) part_is ∙ open_commit x.current.is_mark (nat_lt x.current.pred x.current.succ) plain e;
       known = now_known;
       whole = whole;
     }

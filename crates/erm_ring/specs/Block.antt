@@ -1,5 +1,5 @@
 -- What the stores of a block ask of a seat's part, and what they leave of a pass's view.
-use Rattle.std.specs.Prelude.{◌≡◌, ℕ, ◌+◌, ◌<◌, true, List, length, nat_lt}
+use Rattle.std.specs.Prelude.{◌≡◌, ℕ, ◌+◌, ◌<◌, true, List, length, nat_lt, false}
 use Rattle.erm_machine.specs.declared.attempt.Decision.TheVariants.{Commit}
 use Rattle.erm_machine.specs.declared.part.Part.{Part}
 use Rattle.erm_machine.specs.declared.place.Place.{Place}
@@ -31,7 +31,7 @@ pub record DidFill (v : View) (who : ℕ) (words : List ℕ) (w : View) : Type 0
   pub known : IsKnown w
 
 -- The seat's transaction is sealed, with this stamp, all words of its block behind the header are stored, and this is its header:
--- of a commit where the exclusion window is open, else of one that is skipped. As this header decides it, the transaction is spelled.
+-- of a mark, of a commit where the exclusion window is open, else of one that is skipped. As this header decides it, the transaction is spelled.
 pub record MayDecide (who at header : ℕ) (x : Part) : Type 0 where
   pub words : ℕ
   pub sealed : is_sealed x.place ≡ true
@@ -46,7 +46,7 @@ abbrev pub decided_place : Place → Place
 decided_place (Sealed tail stamp) = Decided tail stamp
 decided_place p = p
 
--- the part of a seat that has decided its transaction, by the exclusion window
+-- the part of a seat that has decided its transaction, by the exclusion window, or its mark
 abbrev pub decided_part : ℕ → Part → Part
 decided_part header x = record x {
   place = decided_place x.place;
@@ -54,11 +54,11 @@ decided_part header x = record x {
   current = record x.current { decision = decision_of x.current; header = header };
 }
 
--- The transaction is decided, a commit exactly where its exclusion window is open, and in the state that is known the ring has
--- each word of its block at its place of the log.
+-- The transaction is decided, and but for a mark a commit exactly where its exclusion window is open, and in the state that is known the ring
+-- has each word of its block at its place of the log.
 pub record DidDecide (v : View) (who header : ℕ) (w : View) : Type 0 where
   pub view_is : w ≡ with_part who (decided_part header (part_of v who)) v
   pub commits : (part_of w who).current.decision ≡ Commit → nat_lt (part_of v who).current.pred (part_of v who).current.succ ≡ true
-  pub skips : nat_lt (part_of v who).current.pred (part_of v who).current.succ ≡ true → (part_of w who).current.decision ≡ Commit
+  pub skips : (part_of v who).current.is_mark ≡ false → nat_lt (part_of v who).current.pred (part_of v who).current.succ ≡ true → (part_of w who).current.decision ≡ Commit
   pub known : IsKnown w
   pub whole : (k : ℕ) → k < (part_of w who).current.size → ring_at known.core.shared ((part_of w who).current.stamp + k) ≡ block_word (part_of w who).current k

@@ -122,7 +122,14 @@ did_finish v who run number t rows opens may window u stored decision w ends out
   outcome_is = is ∙ kept_becomes number t (part_of v who) opens may.number_is may.kept window;
 }
 
--- a settle that went on leaves what the session keeps
+-- a settle that went on leaves the begin stamp, and what the session keeps
+pub went_begins : (s : Session) (t : Pre) (v w : View) → IsSession s (part_of v s.seat) → s.stage ≡ stage.Sealed t → WentOn v s.seat w → LEAST_SAFE ≤ (part_of v s.seat).current.begin
+    → LEAST_SAFE ≤ (part_of w s.seat).current.begin
+went_begins s t v w stands at went begins =
+    let x = part_of v s.seat in
+    let y = reached_part went.task went.succ went.from went.pred went.notes x in
+    subst (λ (z : Part). LEAST_SAFE ≤ z.current.begin) (sym (part_of-changed v s.seat w y x (held_part v s.seat (sealed_taken x.place (sealed_stage s t x stands at).0)) went.view_is)) begins
+
 pub went_session : (s : Session) (t u : Pre) (v w : View) → IsSession s (part_of v s.seat) → s.stage ≡ stage.Sealed t → WentOn v s.seat w → Stands u w s.seat
     → IsSession (record s { stage = stage.Sealed u }) (part_of w s.seat)
 went_session s t u v w stands at went now =

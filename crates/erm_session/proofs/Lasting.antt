@@ -9,7 +9,7 @@ use Rattle.erm_ends.specs.Ends.{claims_over, left_part, released_all}
 use Rattle.erm_machine.specs.declared.attempt.Attempt.{Attempt}
 use Rattle.erm_machine.specs.declared.attempt.Claim.{Claim}
 use Rattle.erm_machine.specs.declared.attempt.Decision.{Decision}
-use Rattle.erm_machine.specs.declared.attempt.Decision.TheVariants.{Abort, Commit, Skip, Undecided}
+use Rattle.erm_machine.specs.declared.attempt.Decision.TheVariants.{Abort, Commit, Skip, Undecided, Mark}
 use Rattle.erm_machine.specs.declared.attempt.Read.{Read}
 use Rattle.erm_machine.specs.declared.part.Part.{Part}
 use Rattle.erm_machine.specs.declared.task.Task.TheVariants as task
@@ -19,7 +19,7 @@ use Rattle.erm_machine.specs.Reading.{new_claim}
 use Rattle.erm_machine.specs.Seat.{is_sealed, no_read, with_pred, with_succ, with_task}
 use Rattle.erm_machine.specs.Settling.{has_room, load_flushed_to_settle, may_settle}
 use Rattle.erm_model.specs.declared.outcome.Outcome.{Outcome}
-use Rattle.erm_model.specs.declared.outcome.Outcome.TheVariants.{Committed, Excluded}
+use Rattle.erm_model.specs.declared.outcome.Outcome.TheVariants.{Committed, Excluded, Marked}
 use Rattle.erm_model.specs.declared.outcome.Receipt.{Receipt}
 use Rattle.erm_model.specs.Member.{◌∈◌}
 use Rattle.erm_precommit.specs.Settle.{reached_part, WentOn}
@@ -321,18 +321,26 @@ ends_left Skip v who w ends = record {
   keeps = claims_over_keeps (part_of v who).current;
   view_is = ends.view_is;
 }
+ends_left Mark v who w ends = record {
+  decision = (part_of v who).current.decision;
+  part = released_all (part_of v who);
+  commits = λ is. absurd (cc);
+  keeps = claims_over_keeps (part_of v who).current;
+  view_is = ends.view_is;
+}
 ends_left Abort v who w ends = absurd ends
 
 last_there : (ts : List Attempt) (t : Attempt) → t ∈ (ts ++ t ∷ [])
 last_there ts t = in_other ts (t ∷ []) t (zero, refl)
 
--- an outcome by the exclusion window is a commit where the window is open
-open_by : (b : Bool) (receipt : Receipt) (stamp succ pred : ℕ) → IsCommitted (if b then Committed receipt else Excluded stamp succ pred) → b ≡ true
-open_by true receipt stamp succ pred commit = refl
-open_by false receipt stamp succ pred commit = absurd commit
+-- an outcome is a commit where the transaction is no mark and its exclusion window is open
+open_by : (m b : Bool) (receipt : Receipt) (stamp begin succ pred : ℕ) → IsCommitted (if m then Marked stamp begin else if b then Committed receipt else Excluded stamp succ pred) → (m ≡ false) × (b ≡ true)
+open_by true b receipt stamp begin succ pred commit = absurd commit
+open_by false true receipt stamp begin succ pred commit = (refl, refl)
+open_by false false receipt stamp begin succ pred commit = absurd commit
 
-open_window : (t : Attempt) → IsCommitted (outcome_of t) → ltb t.pred t.succ ≡ true
-open_window t commit = open_by (ltb t.pred t.succ) _ t.stamp t.succ t.pred commit
+open_window : (t : Attempt) → IsCommitted (outcome_of t) → (t.is_mark ≡ false) × (ltb t.pred t.succ ≡ true)
+open_window t commit = open_by t.is_mark (ltb t.pred t.succ) _ t.stamp t.begin t.succ t.pred commit
 
 module _ (v : View) (who : ℕ) (outcome : Outcome) (w : View) (held : part_in v who ≡ Some (part_of v who)) (finishes : Finishes v who outcome w) where
   abbrev t : Attempt
@@ -361,9 +369,9 @@ module _ (v : View) (who : ℕ) (outcome : Outcome) (w : View) (held : part_in v
   decides : IsCommitted outcome → (part_of finishes.decided who).current.decision ≡ Commit
   unfolding filled_lasts
   decides commit =
-      finishes.decide.skips
-      (ap (λ (z : Part). ltb z.current.pred z.current.succ) (part_after v who held finishes.filled filled_lasts)
-      ∙ open_window t (subst IsCommitted finishes.outcome_is commit))
+      let there = part_after v who held finishes.filled filled_lasts in
+      let opened = open_window t (subst IsCommitted finishes.outcome_is commit) in
+      finishes.decide.skips (ap (λ (z : Part). z.current.is_mark) there ∙ opened.0) (ap (λ (z : Part). ltb z.current.pred z.current.succ) there ∙ opened.1)
 
   left_over : IsOver finishes.decided who outcome w
   left_over = record {

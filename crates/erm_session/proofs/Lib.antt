@@ -9,6 +9,7 @@ pub mod Lasting
 pub mod Listed
 pub mod Looks
 pub mod Makes
+pub mod Marks
 pub mod Players
 pub mod Readers
 pub mod Rests

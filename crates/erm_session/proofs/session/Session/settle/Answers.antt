@@ -1,5 +1,5 @@
 use Rattle.erm_rule.specs.Views.{view}
-use Rattle.erm_session.proofs.Deciding.{went_session}
+use Rattle.erm_session.proofs.Deciding.{went_begins, went_session}
 use Rattle.erm_session.proofs.session.Session.settle.Goals as goal
 use Rattle.erm_precommit.proofs.Took.{was_wait}
 use Rattle.erm_session.proofs.Took.{decision_still, wait_still}
@@ -8,6 +8,10 @@ pub finish-requires-clause-stands : goal.finish-requires-clause-stands
 finish-requires-clause-stands g c =
     went_session c.args.self.now c.in-Sealed.pre c.settle.new.pre (view c.args.p.now) (view c.settle.new.p) c.requires.stands c.in-Sealed.is c.settle.ensures.went
     c.settle.ensures.stands
+
+pub finish-requires-clause-begins : goal.finish-requires-clause-begins
+finish-requires-clause-begins g c =
+    went_begins c.args.self.now c.in-Sealed.pre (view c.args.p.now) (view c.settle.new.p) c.requires.stands c.in-Sealed.is c.settle.ensures.went c.requires.begins
 
 pub returns-in-Wait-clause-stands : goal.returns-in-Wait-clause-stands
 returns-in-Wait-clause-stands g c =
