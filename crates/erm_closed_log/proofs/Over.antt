@@ -5,7 +5,7 @@ use Rattle.std.proofs.lemmas.List.{length-map}
 use Rattle.erm_block.specs.declared.block.Block.{Block}
 use Rattle.erm_closed_log.proofs.Apart.{rows_of_entries}
 use Rattle.erm_closed_log.proofs.Shown.{block_shown}
-use Rattle.erm_core_blocks.specs.Spelled.{HasBlock}
+use Rattle.erm_core_blocks.specs.Spelled.{HasBlock, turn_of}
 use Rattle.erm_core_blocks.specs.Spelled as spelled
 use Rattle.erm_core_shown.specs.Shown.{shown_of}
 use Rattle.erm_core_turns.proofs.Blocks.{is_over}
@@ -13,7 +13,7 @@ use Rattle.erm_core_view.specs.Views.{IsQuiet, fate_of, finished_of, view_of}
 use Rattle.erm_log_list.specs.LogOf.{AreBlocksIn, IsBlockIn}
 use Rattle.erm_machine.specs.declared.attempt.Attempt.{Attempt}
 use Rattle.erm_machine.specs.declared.attempt.Decision.{Decision}
-use Rattle.erm_machine.specs.declared.attempt.Decision.TheVariants.{Commit, Skip}
+use Rattle.erm_machine.specs.declared.attempt.Decision.TheVariants.{Commit, Skip, Mark}
 use Rattle.erm_machine.specs.declared.limits.TheConstants.{FLUSH_SEAT}
 use Rattle.erm_machine.specs.declared.version.Span.{Span}
 use Rattle.erm_machine.specs.Core.{Core}
@@ -32,19 +32,22 @@ abbrev F : ℕ
 F = FLUSH_SEAT
 
 -- what a decision says of a transaction's end
-stamps_by : (d : Decision) (t : Attempt) → HasBlock d → HasStamps (fate_of d t) t.stamp t.succ
+stamps_by : (d : Decision) (t : Attempt) → HasBlock d → HasStamps (fate_of d t) t.stamp (turn_of d t)
 stamps_by Commit t has = (refl, refl)
 stamps_by Skip t has = (refl, refl)
+stamps_by Mark t has = (refl, refl)
 stamps_by _ t has = absurd has
 
 kind_by : (d : Decision) (t : Attempt) → HasBlock d → spelled.kind_of d ≡ kind_of (fate_of d t)
 kind_by Commit t has = refl
 kind_by Skip t has = refl
+kind_by Mark t has = refl
 kind_by _ t has = absurd has
 
 entries_by : (d : Decision) (t : Attempt) (ws : List VersionWritten) → HasBlock d → spelled.entries_of d ws ≡ entries_of (fate_of d t) ws
 entries_by Commit t ws has = refl
 entries_by Skip t ws has = refl
+entries_by Mark t ws has = refl
 entries_by _ t ws has = absurd has
 
 -- each of the blocks of ranges is that of one of them

@@ -1,7 +1,8 @@
 -- A seal: the state word is 1, a range of the block's size is drawn, and the state word is its start.
-use Rattle.std.proofs.Common.{◌≡◌, ◌≢◌, ℕ, ◌+◌, ◌≤◌, true, List, [], ◌∷◌, map, Some, refl, sym, ap, ◌∙◌, subst, arith, Bool, ◌||◌, ◌&&◌}
+use Rattle.std.proofs.Common.{◌≡◌, ◌≢◌, ℕ, ◌+◌, ◌≤◌, true, List, [], ◌∷◌, map, Some, refl, sym, ap, ◌∙◌, subst, arith, Bool, ◌||◌, ◌&&◌, false}
 use Rattle.std.proofs.lemmas.Bool.{and_from, eq-eqb, le-leb}
 use Rattle.erm_model.specs.declared.history.VersionWritten.{VersionWritten}
+use Rattle.erm_model.specs.declared.outcome.Phase.TheVariants as phase
 use Rattle.erm_model.specs.RowTransaction.{Law}
 use Rattle.erm_model.specs.Lawful.{IsLawfulRecord}
 use Rattle.erm_machine.specs.declared.attempt.Attempt.{Attempt}
@@ -33,11 +34,11 @@ use Rattle.erm_world.specs.World.{Finished, IsSession, Opening, Session, Work, s
 use Rattle.erm_world.specs.World as world
 use Rattle.erm_core_steps.specs.Steps.{IsTaken}
 use Rattle.erm_core_steps.proofs.Aborts.{no_flusher}
-use Rattle.erm_core_steps.proofs.Quiet.{IsActive, quiet_after}
+use Rattle.erm_core_steps.proofs.Quiet.{IsActive, quiet_after, session_of_few}
 use Rattle.erm_core_steps.proofs.Unseen.{others_stay}
 use Rattle.erm_core_turns.proofs.Turns.{part_stepped}
-use Rattle.std.specs.Prelude.{nat_lt}
-use Rattle.erm_machine.proofs.Backs.{start_seals}
+use Rattle.std.specs.Prelude.{nat_lt, if◌then◌else◌}
+use Rattle.erm_machine.proofs.Backs.{start_seals, safe_seals}
 use Rattle.erm_world.specs.Safe.{DidMark}
 use Rattle.erm_core_view.proofs.Marks.{marked_snapshot, seal_bit, sealed_mark, sealed_transaction, sealed_work}
 use Rattle.erm_core_view.proofs.Seals.{stands_shown}
@@ -69,6 +70,24 @@ pub record MaySeal (seat : ℕ) (c : Core) : Type 0 where
 
 pub active_seals : (seat : ℕ) (c : Core) → IsActive seat c → MaySeal seat c
 active_seals seat c at = record { session = at.session; active = at.active; seals = start_seals (c.seats seat).task at.starts }
+
+-- a session that shows a safe snapshot has one
+safe_if : (b safe : Bool) (t : Attempt)
+    → world.phase_of (if b then world.snapshot (record { number = t.number; begin = t.begin; is_safe = safe }) else world.active (work_of t)) ≡ phase.Safe → safe ≡ true
+safe_if true true t e = refl
+safe_if true false t e = absurd (cc)
+safe_if false safe t e = absurd (cc)
+
+pub safe_there : (pl : Place) (u : Task) (t : Attempt) → world.phase_of (stand_of pl u t) ≡ phase.Safe → (is_active pl ≡ true) × (is_safe u ≡ true)
+safe_there (Active tail) u t e = (refl, safe_if (is_snapshot u) (is_safe u) t e)
+safe_there _ u t e = absurd (cc)
+
+pub safe_may_seal : (sessions seat : ℕ) (c : Core) → IsQuiet sessions c → IsSession (view_of sessions c) seat → world.phase_at (view_of sessions c) seat ≡ phase.Safe
+    → MaySeal seat c × (is_safe (c.seats seat).task ≡ true)
+safe_may_seal sessions seat c quiet session shows =
+    let x = c.seats seat in
+    let at = safe_there x.place x.task x.current shows in
+    (record { session = session_of_few sessions seat c quiet session.0 session.1; active = at.0; seals = safe_seals x.task at.1 }, at.1)
 
 sealing_steps : (seat : ℕ) (c : Core) → MaySeal seat c → (a : IsActiveAt (c.seats seat).place)
     → after_event c seat (kind.StoreState 1) ≡ Some (stepped c seat (kind.StoreState 1) (sealing a.tail (c.seats seat)))

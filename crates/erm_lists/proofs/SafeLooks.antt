@@ -22,7 +22,7 @@ use Rattle.erm_machine.proofs.QuietKinds.{moves}
 use Rattle.erm_world.specs.Calls.{Becomes}
 use Rattle.erm_world.proofs.Saves.{without}
 use Rattle.erm_world.specs.Safe.{HasSnapshot}
-use Rattle.erm_world.specs.World.{IsSession, Opening, Session, Snapshot, Stand, View, Work, phase_at, phase_of, size_of}
+use Rattle.erm_world.specs.World.{IsSession, Opening, Session, Snapshot, Stand, View, Work, phase_at, size_of}
 use Rattle.erm_world.specs.World as world
 use Rattle.erm_core_view.specs.Steps.{MeetsOne, snapshot_session}
 use Rattle.erm_core_view.specs.Views.{IsBetween, IsQuiet, finished_of, is_standing, pin_of, session_of, stand_of, view_of, work_of}
@@ -34,7 +34,7 @@ use Rattle.erm_core_steps.proofs.Loads.{word_leaves}
 use Rattle.erm_core_steps.proofs.Quiet.{quiet_after, session_of_few}
 use Rattle.erm_core_steps.proofs.Unseen.{others_stay, same_view}
 use Rattle.erm_lists.specs.Snapshots.{IsPendingOrSafe, IsSafeReader, OnlyLooks}
-use Rattle.erm_core_steps.proofs.Stamps.{MaySeal}
+use Rattle.erm_core_steps.proofs.Stamps.{MaySeal, safe_there}
 
 -- LOADS. One of a word that leads its seat to another task leaves all else.
 pub record Looked (seat : ℕ) (u : Task) (c d : Core) : Type 0 where
@@ -163,16 +163,6 @@ snapshot_seat sessions seat c quiet session has =
     record { session = session_of_few sessions seat c quiet session.0 session.1; active = at.0; snapshot = at.1 }
 
 -- one that shows a safe one has a safe one
-safe_if : (b safe : Bool) (t : Attempt)
-    → phase_of (if b then world.snapshot (record { number = t.number; begin = t.begin; is_safe = safe }) else world.active (work_of t)) ≡ phase.Safe → safe ≡ true
-safe_if true true t e = refl
-safe_if true false t e = absurd (cc)
-safe_if false safe t e = absurd (cc)
-
-safe_there : (pl : Place) (u : Task) (t : Attempt) → phase_of (stand_of pl u t) ≡ phase.Safe → (is_active pl ≡ true) × (is_safe u ≡ true)
-safe_there (Active tail) u t e = (refl, safe_if (is_snapshot u) (is_safe u) t e)
-safe_there _ u t e = absurd (cc)
-
 pub safe_seat : (sessions seat : ℕ) (c : Core) → IsQuiet sessions c → IsSession (view_of sessions c) seat → phase_at (view_of sessions c) seat ≡ phase.Safe → IsSafeReader seat c
 safe_seat sessions seat c quiet session safe =
     let x = c.seats seat in

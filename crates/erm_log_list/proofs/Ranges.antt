@@ -6,7 +6,7 @@ use Rattle.erm_model.specs.Member.{◌∈◌}
 use Rattle.erm_model.proofs.Members.{none_in_nil, ∈-behind, ∈-push}
 use Rattle.erm_machine.specs.declared.attempt.Attempt.{Attempt}
 use Rattle.erm_machine.specs.declared.attempt.Decision.{Decision}
-use Rattle.erm_machine.specs.declared.attempt.Decision.TheVariants.{Undecided, Commit, Skip, Abort}
+use Rattle.erm_machine.specs.declared.attempt.Decision.TheVariants.{Undecided, Commit, Skip, Abort, Mark}
 use Rattle.erm_machine.specs.declared.place.Place.{Place}
 use Rattle.erm_machine.specs.declared.place.Place.TheVariants.{Vacant, Idle, Begun, Announced, Active, Sealing, Drawn, Sealed, Decided, Leaving}
 use Rattle.erm_machine.specs.declared.version.Span.{Span}
@@ -96,6 +96,7 @@ decided_block : (d : Decision) → d ≢ Undecided → d ≢ Abort → HasBlock 
 decided_block Undecided decided kept = absurd (decided refl)
 decided_block Commit decided kept = tt
 decided_block Skip decided kept = tt
+decided_block Mark decided kept = tt
 decided_block Abort decided kept = absurd (kept refl)
 
 current_kept : (pl : Place) (t : Attempt) → IsCurrent pl t → 0 < t.stamp → t.decision ≢ Abort

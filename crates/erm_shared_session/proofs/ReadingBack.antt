@@ -12,7 +12,7 @@ use Rattle.erm_model.specs.Member.{◌∈◌}
 use Rattle.erm_model.specs.RowTransaction.{Law}
 use Rattle.erm_machine.specs.declared.attempt.Attempt.{Attempt}
 use Rattle.erm_machine.specs.declared.attempt.Decision.{Decision}
-use Rattle.erm_machine.specs.declared.attempt.Decision.TheVariants.{Abort, Commit, Skip, Undecided}
+use Rattle.erm_machine.specs.declared.attempt.Decision.TheVariants.{Abort, Commit, Skip, Undecided, Mark}
 use Rattle.erm_machine.proofs.Listed.{∈-map}
 use Rattle.erm_core_view.specs.Views.{fate_of, finished_of}
 use Rattle.erm_rule.specs.declared.view.Book.{Book}
@@ -128,6 +128,7 @@ current_active (world.snapshot s) active = absurd (snapshot_not_active s active)
 stamp_in : (d : Decision) (a : Attempt) (stamp succ pred : ℕ) → fate_of d a ≡ world.commits stamp succ pred → a.stamp ≡ stamp
 stamp_in Commit a stamp succ pred same = same_Some a.stamp stamp (ap (λ (fate : Fate). stamp_of fate) same)
 stamp_in Skip a stamp succ pred same = absurd (cc)
+stamp_in Mark a stamp succ pred same = absurd (cc)
 stamp_in Abort a stamp succ pred same = absurd (cc)
 stamp_in Undecided a stamp succ pred same = absurd (cc)
 

@@ -5,7 +5,7 @@ use Rattle.erm_model.specs.declared.history.VersionWritten.{VersionWritten}
 use Rattle.erm_model.specs.RowTransaction.{Law}
 use Rattle.erm_machine.specs.declared.attempt.Attempt.{Attempt}
 use Rattle.erm_machine.specs.declared.attempt.Decision.{Decision}
-use Rattle.erm_machine.specs.declared.attempt.Decision.TheVariants.{Abort, Commit, Skip, Undecided}
+use Rattle.erm_machine.specs.declared.attempt.Decision.TheVariants.{Abort, Commit, Skip, Undecided, Mark}
 use Rattle.erm_machine.specs.declared.part.Part.{Part}
 use Rattle.erm_machine.specs.declared.place.Place.{Place}
 use Rattle.erm_machine.specs.declared.place.Place.TheVariants.{Idle, Sealed}
@@ -90,6 +90,11 @@ ends_as who x v w Commit is how ends = record {
   view_is = ends.view_is ∙ ap (λ (y : Part). with_part who (left_part Commit (with_back (installed_all y))) v) is;
 }
 ends_as who x v w Skip is how ends = record {
+  part = left_part x.current.decision (released_all x);
+  left = left_as x x.current.decision refl;
+  view_is = ends.view_is ∙ ap (λ (y : Part). with_part who (left_part y.current.decision (released_all y)) v) is;
+}
+ends_as who x v w Mark is how ends = record {
   part = left_part x.current.decision (released_all x);
   left = left_as x x.current.decision refl;
   view_is = ends.view_is ∙ ap (λ (y : Part). with_part who (left_part y.current.decision (released_all y)) v) is;

@@ -1,5 +1,5 @@
 -- A settle: it decides the transaction, or waits for the ring or for another session.
-use Rattle.std.proofs.Common.{◌≡◌, ◌≢◌, ℕ, ◌≤◌, true, false, List, [], ◌∷◌, length, Some, refl, sym, ap, ◌∙◌, subst}
+use Rattle.std.proofs.Common.{◌≡◌, ◌≢◌, ℕ, ◌≤◌, true, false, List, [], ◌∷◌, length, Some, refl, sym, ap, ◌∙◌, subst, arith}
 use Rattle.std.specs.Int.{trailing_zeros, w64}
 use Rattle.std.proofs.lemmas.Bool.{and_from, eq-eqb, lt-ltb}
 use Rattle.erm_model.specs.declared.outcome.Outcome.{Outcome}
@@ -58,6 +58,8 @@ use Rattle.erm_table_world.proofs.Settled.{between, has_decided, has_left, rests
 use Rattle.erm_table_world.proofs.Still.{still_drawn, still_flushed, went_ran, went_stayed}
 use Rattle.erm_table_world.proofs.Wholly.{Ran, part_is, part_set, ran_one, runs, took_ran}
 use Rattle.erm_cells.proofs.Took.{ends_still}
+use Rattle.erm_machine.specs.Lives.{in_progress}
+use Rattle.erm_block.specs.declared.block.TheConstants.{LEAST_SAFE}
 
 -- a sealed session doesn't load the tail to begin
 no_begin : (seat found : ℕ) (x y : Part) (pl : Place) → is_sealed pl ≡ true → load_tail_to_begin seat found x pl ≡ Some y → ⊥
@@ -172,6 +174,19 @@ looks_at c seat other y (task.ReadersLeft write bits) sound at same looks =
     at_reader write bits (same ∙ at)
     (and_from _ _ (eq-eqb (trailing_zeros w64 bits) other (sym looks.0)) (lt-ltb other ANNOUNCERS (of_seat other (b.2 other looks.1).has_words)))
 looks_at c seat other y _ sound at same looks = absurd looks
+
+sealed_progress : (pl : Place) → is_sealed pl ≡ true → in_progress pl ≡ 1
+sealed_progress (Sealed tail stamp) e = refl
+sealed_progress _ e = absurd (cc)
+
+-- it began at a stamp of the log
+pub settle_begins : (law : Law) (sessions seat : ℕ) (b : Book) → StandsAt law sessions b → IsSession (view_of sessions (core_of b)) seat → phase_at (view_of sessions (core_of b)) seat ≡ phase.Sealed
+    → LEAST_SAFE ≤ ((core_of b).seats seat).current.begin
+settle_begins law sessions seat b at session phased =
+    let may = settle_may sessions seat (core_of b) at.state.sound.sound at.quiet session phased in
+    let opened = at.quiet.opened in
+    let low = (at.state.sound.sound.own seat).lives.opened_now (sealed_progress ((core_of b).seats seat).place may.sealed) in
+    omega (arith, opened, low)
 
 module _ (law : Law) (sessions seat : ℕ) (b e : Book) (at : StandsAt law sessions b) (session : IsSession (view_of sessions (core_of b)) seat) (phased : phase_at (view_of sessions (core_of b)) seat ≡ phase.Sealed) (seated : is_seat seat ≡ true)
     (ran : Ran law sessions seat b e) where

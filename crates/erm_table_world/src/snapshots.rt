@@ -6,7 +6,7 @@ ghost use Rattle.erm_table_world.specs.Saves.{KeepsSaves};
 ghost use Rattle.erm_table_world.specs.Stands.{Stands, table_view};
 ghost use Rattle.erm_world.specs.declared.stops.BeginStop.TheVariants.{Memory};
 ghost use Rattle.erm_world.specs.Calls.{DidAbort, MayNotBegin};
-ghost use Rattle.erm_world.specs.Safe.{DidBeginSafe, DidNotSafe, DidSafe, DidSafeRead, HasSnapshot};
+ghost use Rattle.erm_world.specs.Safe.{DidBeginSafe, DidMark, DidNotSafe, DidSafe, DidSafeRead, HasSnapshot};
 ghost use Rattle.erm_world.specs.World.{IsSession, phase_at, work_at};
 
 use crate::TableWorld;
@@ -66,6 +66,18 @@ impl<L: RowLaw> TableWorld<L> {
     {
         erm_rows::safe_rows_are_snapshots();
         self.sessions[seat as usize - 1].safe_read(&self.table, &mut self.pass, oid)
+    }
+
+    /// Seals the safe snapshot: its mark has the place of the log, in words, where its block begins.
+    pub fn mark(&mut self, seat: Seat) -> Stamp
+        requires stands { Stands L.law self.old }
+        requires session { IsSession (table_view self.old) seat }
+        requires safe { phase_at (table_view self.old) seat ≡ Safe }
+        ensures stands { Stands L.law self.new }
+        ensures saves { KeepsSaves self.old seat self.new }
+        ensures sealed { DidMark (table_view self.old) seat result (table_view self.new) }
+    {
+        self.sessions[seat as usize - 1].mark(&self.table, &mut self.pass)
     }
 
     /// Ends the snapshot, safe or not.

@@ -23,9 +23,11 @@ use Rattle.erm_session.proofs.Saved.{stays_past}
 use Rattle.erm_table_world.proofs.Held.{keeps_saves}
 use Rattle.erm_table_world.proofs.Sessions.{called, here, is_now, quiet_still}
 use Rattle.erm_table_world.proofs.Still.{went_ran, went_stayed}
-use Rattle.erm_table_world.proofs.Waiting.{decides, waits_ring, waits_seat}
+use Rattle.erm_table_world.proofs.Waiting.{decides, settle_begins, waits_ring, waits_seat}
 use Rattle.erm_table_world.proofs.Wholly.{Ran}
 use Rattle.erm_table_world.proofs.table_world.TableWorld.settle.Goals as goal
+use Rattle.erm_machine.specs.declared.part.Part.{Part}
+use Rattle.erm_block.specs.declared.block.TheConstants.{LEAST_SAFE}
 
 -- whatever a settle waits for
 waits : (law : Law) (sessions seat : ℕ) (b e : Book) → StandsAt law sessions b → IsSession (view_of sessions (core_of b)) seat → phase_at (view_of sessions (core_of b)) seat ≡ phase.Sealed → is_seat seat ≡ true
@@ -38,7 +40,13 @@ waits law sessions seat b e at session phased seated ran short (found.Seat other
 pub settle-requires : goal.settle-requires
 settle-requires g c =
     let at = here g.L.RowLaw.law c.args.self.now c.args.seat c.index_mut.result.now c.requires.stands c.requires.session c.index_mut.ensures.value in
-    record { fits = c.requires.stands.fits; stands = at.stands; sealed = at.phase ∙ c.requires.sealed }
+    record {
+      fits = c.requires.stands.fits;
+      stands = at.stands;
+      sealed = at.phase ∙ c.requires.sealed;
+      begins = subst (λ (x : Part). LEAST_SAFE ≤ x.current.begin) (sym at.part)
+          (settle_begins g.L.RowLaw.law c.args.self.now.count c.args.seat (book c.args.self.now.pass) c.requires.stands.at c.requires.session c.requires.sealed);
+    }
 
 pub returns-in-Ok-clause-stands : goal.returns-in-Ok-clause-stands
 returns-in-Ok-clause-stands g c =
