@@ -165,7 +165,7 @@ pub draws_lawfully : (law : Law) (sessions seat : ℕ) (b c : Core) → IsActive
 draws_lawfully law sessions seat b c active at lawful = sealing_lawful law seat b c at (subst (IsLawfulWork law) (work_is sessions seat b active) lawful)
 
 -- so does a mark, which has written nothing
-bare_lawful : (law : Law) (number begin : ℕ) → IsLawfulWork law (world.begun number begin)
+pub bare_lawful : (law : Law) (number begin : ℕ) → IsLawfulWork law (world.begun number begin)
 bare_lawful law number begin = record { meets = λ rows fits. fits.meets; reach = λ rows x fits. omega arith }
 
 pub marks_lawfully : (law : Law) (seat : ℕ) (b c : Core) → Sound b → is_snapshot (b.seats seat).task ≡ true → IsSealing seat b c → IsLawfulRecord law (record_of seat (c.seats seat).current)

@@ -153,7 +153,7 @@ module _ (law : Law) (seat tail flushed : ℕ) (b : Book) (may : MayCall law sea
       → IsBetween (part_of e.view seat).place (part_of e.view seat).task → ((c : Core) → IsBookOf e c → (then_tail ≤ c.shared.tail) × (then_flushed ≤ c.shared.flushed)) → MayCall law seat then_tail then_flushed e
   again_took begins then_tail then_flushed [] e same start between seen = record {
     session = may.session;
-    opened = subst (λ (n : ℕ). 1 < n) (sym (ap (λ (s : Start). s.tail) start)) may.opened;
+    opened = subst (λ (n : ℕ). 8 ≤ n) (sym (ap (λ (s : Start). s.tail) start)) may.opened;
     lone = lone_took law seat [] b e same may.lone;
     known = subst (λ (z : Book). IsKnown z.view) (sym same) may.known;
     between = between;
@@ -168,7 +168,7 @@ module _ (law : Law) (seat tail flushed : ℕ) (b : Book) (may : MayCall law sea
       let is : IsBookOf e told.after = record { sound = told.sound_after; is_view = told.is_view_after; course = took.2.course_after } in
       record {
         session = may.session;
-        opened = subst (λ (n : ℕ). 1 < n) (sym (ap (λ (s : Start). s.tail) start)) may.opened;
+        opened = subst (λ (n : ℕ). 8 ≤ n) (sym (ap (λ (s : Start). s.tail) start)) may.opened;
         lone = lone_took law seat (s ∷ steps) b e took may.lone;
         known = known_after took.0.view seat s.0 s.1 e.view told;
         between = between;

@@ -57,7 +57,7 @@ pub record EndsIn (law : Law) (seat : ℕ) (b : Book) (own f : View) : Type 0 wh
 -- each state of the book the log has come as far, and is synced as far, as the own view says.
 pub record MayCall (law : Law) (seat tail flushed : ℕ) (b : Book) : Type 0 where
   pub session : is_session seat ≡ true
-  pub opened : 1 < b.start.tail
+  pub opened : 8 ≤ b.start.tail
   pub lone : b.view ≡ one_seat seat (part_of b.view seat)
   pub known : IsKnown b.view
   pub between : IsBetween (part_of b.view seat).place (part_of b.view seat).task

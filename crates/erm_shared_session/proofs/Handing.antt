@@ -211,7 +211,7 @@ module _ (law : Law) (o : Opening) (given : ℕ) (b : Book) (none : o.sessions �
         ap (λ (v : View). part_of v (given + 1)) right
         ∙ ap (λ (t : Bool). unwrap_or (if t then Some mine else None) (fresh_part Vacant 0 0)) (eq-eqb (given + 1) (given + 1) refl)
 
-    pub may_call : 1 < o.tail → MayCall law (given + 1) o.tail o.tail (right_book b)
+    pub may_call : 8 ≤ o.tail → MayCall law (given + 1) o.tail o.tail (right_book b)
     may_call behind =
         let starts : b.start.tail ≡ o.tail = ap (λ s. s.tail) has.start in
         record {

@@ -2,12 +2,12 @@
 use Rattle.std.proofs.Common.{◌≡◌, ℕ, List, [], sym, ap, ◌∙◌}
 use Rattle.erm_beside.specs.Calls.{After, DidBeginBeside, DidSettleBeside, GivesUp, MayNotBeginBeside, NotClaimedBeside, NotMadeBeside, NotReadBeside, NotSettledBeside, Passes, SettledBeside}
 use Rattle.erm_beside.specs.Ends.{MetBeside, MetOf}
-use Rattle.erm_beside.specs.Safe.{DidBeginSafeBeside, DidSafeBeside, NotSafeBeside, NotSafeMet}
+use Rattle.erm_beside.specs.Safe.{DidBeginSafeBeside, DidSafeBeside, NotSafeBeside, NotSafeMet, DidMarkBeside}
 use Rattle.erm_beside.proofs.Saved as beside
 use Rattle.erm_beside.proofs.Saved.{active_then, after_with}
 use Rattle.erm_model.specs.declared.history.VersionWritten.{VersionWritten}
 use Rattle.erm_model.specs.declared.outcome.Outcome.{Outcome}
-use Rattle.erm_model.specs.declared.outcome.Outcome.TheVariants.{Committed, Excluded}
+use Rattle.erm_model.specs.declared.outcome.Outcome.TheVariants.{Committed, Excluded, Marked}
 use Rattle.erm_model.specs.declared.outcome.Phase.TheVariants as phase
 use Rattle.erm_model.specs.declared.row_stop.RowStop.{RowStop}
 use Rattle.erm_model.specs.declared.row_stop.RowStop.TheVariants as stop
@@ -132,8 +132,9 @@ module _ {L : Type 0} (s t : TableSession L) (keeps : KeepsOwn s t) where
     claimed_by oid (stop.OidsFull drawn) is = is
 
     settled_by : (w : Work) (stamp : ℕ) (outcome : Outcome) → SettledBeside (with_saves f u) seat w stamp outcome (with_saves f end) → SettledBeside (with_saves f u) seat w stamp outcome (with_saves g end)
-    settled_by w stamp (Committed r) is = (done _ _ is.0, is.1, is.2, is.3, is.4)
-    settled_by w stamp (Excluded at succ pred) is = (done _ _ is.0, is.1, is.2)
+    settled_by w stamp (Committed r) is = (done _ _ is.0, is.1, is.2, is.3, is.4, is.5)
+    settled_by w stamp (Excluded at succ pred) is = (done _ _ is.0, is.1, is.2, is.3)
+    settled_by w stamp (Marked at named) is = (done _ _ is.0, is.1, is.2, is.3)
 
     same_by : (P : View → Type 0) → (phase_at v seat ≡ phase.Active → ⊥) → P (with_saves f end) → P (with_saves g end)
     same_by P none is =
@@ -188,6 +189,10 @@ module _ {L : Type 0} (s t : TableSession L) (keeps : KeepsOwn s t) where
   pub did_seal : (stamp : ℕ) → After seat (λ u z. DidSeal u seat stamp z) v end → After seat (λ u z. DidSeal u seat stamp z) (own_of s) (own_of t)
   did_seal stamp did =
       after_with f g seat (λ u z. DidSeal u seat stamp z) (λ u z. DidSeal u seat stamp z) v end (λ u passes was. lifts.did_seal f g u end seat (own_at u passes) keeps.others stamp was) did
+
+  pub did_mark : (stamp : ℕ) → After seat (DidMarkBeside seat stamp) v end → After seat (DidMarkBeside seat stamp) (own_of s) (own_of t)
+  did_mark stamp did =
+      after_with f g seat (DidMarkBeside seat stamp) (DidMarkBeside seat stamp) v end (λ u passes was. lifts.did_mark f g u end seat (own_at u passes) keeps.others stamp was) did
 
   pub did_settle : (outcome : Outcome) → After seat (DidSettleBeside seat outcome) v end → After seat (DidSettleBeside seat outcome) (own_of s) (own_of t)
   did_settle outcome did =

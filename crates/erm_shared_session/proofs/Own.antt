@@ -78,19 +78,22 @@ module _ (law : Law) (seat tail flushed : ℕ) (b : Book) (may : MayCall law sea
   pub own : Own may.core.shared seat x
   own = subst (λ (y : Part). Own may.core.shared seat y) here (may.under.sound.own seat)
 
-  -- the log begins above 1, and so does each transaction
-  opened : 1 < may.core.shared.opening
+  -- the log begins at 8 or later, and so does each transaction
+  opened : 8 ≤ may.core.shared.opening
   opened =
       let kept = opening_kept (λ sessions q c d k sound meets event. changes_one sessions q c d k sound meets event) b may.core (was_itself b may.core may.is) in
       let is : may.core.shared.opening ≡ b.start.tail = ap (λ (o : Opening). o.tail) kept in
       let above = may.opened in
       omega (arith, is, above)
 
-  pub begun_high : in_progress x.place ≡ 1 → 1 < x.current.begin
-  begun_high busy =
+  pub begun_there : in_progress x.place ≡ 1 → 8 ≤ x.current.begin
+  begun_there busy =
       let low = own.lives.opened_now busy in
       let above = opened in
       omega (arith, low, above)
+
+  pub begun_high : in_progress x.place ≡ 1 → 1 < x.current.begin
+  begun_high busy = let low = begun_there busy in omega (arith, low)
 
   shown_phase : (p : Phase) → phase_at (own_view seat tail flushed b) seat ≡ p → world.phase_of (stand_of x.place x.task x.current) ≡ p
   shown_phase p is = sym (ap (λ (r : Session). world.phase_of r.stand) (own_is seat tail flushed b)) ∙ is
@@ -116,6 +119,9 @@ module _ (law : Law) (seat tail flushed : ℕ) (b : Book) (may : MayCall law sea
   module _ (sealed : phase_at (own_view seat tail flushed b) seat ≡ phase.Sealed) where
     pub place_sealed : is_sealed x.place ≡ true
     place_sealed = sealed_place x.place x.task x.current (shown_phase phase.Sealed sealed)
+
+    pub own_begins : 8 ≤ x.current.begin
+    own_begins = begun_there (sealed_busy x.place place_sealed)
 
     pub own_drawn : 0 < x.current.stamp
     own_drawn = sealed_drawn x.place x.current place_sealed own.ranges.current

@@ -1,17 +1,17 @@
 -- A settle of a session of the word table, beside others.
-use Rattle.std.proofs.Common.{◌≡◌, ℕ, ◌+◌, ◌≤◌, ◌<◌, Bool, true, false, ltb, List, [], ◌∷◌, ◌++◌, length, map, Some, Result, Ok, Err, IfOk, IfErr, refl, sym, ap, ◌∙◌, subst, arith}
+use Rattle.std.proofs.Common.{◌≡◌, ℕ, ◌+◌, ◌≤◌, ◌<◌, Bool, true, false, ltb, List, [], ◌∷◌, ◌++◌, length, map, Some, Result, Ok, Err, IfOk, IfErr, refl, sym, ap, ◌∙◌, subst, arith, ◌&&◌}
 use Rattle.std.specs.Prelude.{if◌then◌else◌}
-use Rattle.std.proofs.lemmas.Bool.{ltb-false, ltb-true}
+use Rattle.std.proofs.lemmas.Bool.{ltb-false, ltb-true, and_from, lt-ltb}
 use Rattle.std.proofs.lemmas.List.{map-append}
 use Rattle.erm_model.specs.declared.history.VersionWritten.{VersionWritten}
 use Rattle.erm_model.specs.declared.outcome.Outcome.{Outcome}
-use Rattle.erm_model.specs.declared.outcome.Outcome.TheVariants.{Committed, Excluded}
+use Rattle.erm_model.specs.declared.outcome.Outcome.TheVariants.{Committed, Excluded, Marked}
 use Rattle.erm_model.specs.declared.outcome.Phase.TheVariants as phase
 use Rattle.erm_model.specs.RowTransaction.{Law}
 use Rattle.erm_machine.specs.declared.attempt.Attempt.{Attempt}
 use Rattle.erm_machine.specs.declared.attempt.Claim.{Claim}
 use Rattle.erm_machine.specs.declared.attempt.Decision.{Decision}
-use Rattle.erm_machine.specs.declared.attempt.Decision.TheVariants.{Abort, Commit, Skip, Undecided}
+use Rattle.erm_machine.specs.declared.attempt.Decision.TheVariants.{Abort, Commit, Skip, Undecided, Mark}
 use Rattle.erm_machine.specs.declared.event.Kind.{Kind}
 use Rattle.erm_machine.specs.declared.limits.TheConstants.{GREATEST_BLOCK, RING_WORDS}
 use Rattle.erm_machine.specs.declared.part.Part.{Part}
@@ -70,6 +70,7 @@ fate_kept Commit t ws = refl
 fate_kept Skip t ws = refl
 fate_kept Abort t ws = refl
 fate_kept Undecided t ws = refl
+fate_kept Mark t ws = refl
 
 abbrev over_with : Part → Decision → Session
 over_with y d = record { over = map finished_of y.over ++ record { work = work_of y.current; fate = fate_of d y.current } ∷ []; stand = world.idle }
@@ -135,6 +136,12 @@ module _ (seat : ℕ) (b e : Book) (held : part_in b.view seat ≡ Some (part_of
       ends.view_is)
       ∙ ap (λ (d : Decision). session_of (left_part d (released_all (part_of settles.finishes.decided seat)))) how
       ∙ ap (λ (p : Part). session_of (left_part Skip (released_all p))) decided ∙ left_shown z Skip (length z.current.writes)
+  ended Mark how ends =
+      ap session_of
+      (part_of-changed settles.finishes.decided seat e.view (left_part (part_of settles.finishes.decided seat).current.decision (released_all (part_of settles.finishes.decided seat))) z decided_held
+      ends.view_is)
+      ∙ ap (λ (d : Decision). session_of (left_part d (released_all (part_of settles.finishes.decided seat)))) how
+      ∙ ap (λ (p : Part). session_of (left_part Mark (released_all p))) decided ∙ left_shown z Mark (length z.current.writes)
   ended Abort how ends = absurd ends
   ended Undecided how ends = absurd ends
 
@@ -148,6 +155,12 @@ module _ (seat : ℕ) (b e : Book) (held : part_in b.view seat ≡ Some (part_of
       ends.view_is)
       ∙ ap (λ (d : Decision). given_up_of (left_part d (released_all (part_of settles.finishes.decided seat)))) how
       ∙ ap (λ (p : Part). given_up_of (left_part Skip (released_all p))) decided ∙ left_given z Skip (claims_over (length z.current.writes) z.current.writes)
+  ended_given Mark how ends =
+      ap given_up_of
+      (part_of-changed settles.finishes.decided seat e.view (left_part (part_of settles.finishes.decided seat).current.decision (released_all (part_of settles.finishes.decided seat))) z decided_held
+      ends.view_is)
+      ∙ ap (λ (d : Decision). given_up_of (left_part d (released_all (part_of settles.finishes.decided seat)))) how
+      ∙ ap (λ (p : Part). given_up_of (left_part Mark (released_all p))) decided ∙ left_given z Mark (claims_over (length z.current.writes) z.current.writes)
   ended_given Abort how ends = absurd ends
   ended_given Undecided how ends = absurd ends
 
@@ -205,10 +218,35 @@ module _ (law : Law) (seat tail flushed : ℕ) (b e : Book) (may : MayCall law s
       own_becomes seat tail flushed b e (record { over = (own.session seat).over ++ record { work = work; fate = fate } ∷ []; stand = world.idle }) start
       (shown ∙ ap (λ (r : Session). let s : Session = record { over = r.over ++ record { work = work; fate = fate } ∷ []; stand = world.idle } in s) (sym (own_is seat tail flushed b))) given
 
-  decides_as : (t : Attempt) → work_of t ≡ work → t.stamp ≡ part.current.stamp → t.size ≡ part.current.size → t.number ≡ part.current.number → (opens : Bool) → ltb t.pred t.succ ≡ opens
-      → session_of (part_of e.view seat) ≡ record { over = map finished_of part.over ++ record { work = work_of t; fate = fate_of (if opens then Commit else Skip) t } ∷ []; stand = world.idle }
-      → given_up_of (part_of e.view seat) ≡ given_up_of part → Decides (if opens then Committed (record { number = t.number; stamp = t.stamp; end = t.stamp + t.size; succ = t.succ; pred = t.pred }) else Excluded t.stamp t.succ t.pred)
-  decides_as t same stamp_is size_is number_is true at shown given =
+  -- what the decision shows, of its transaction or of its mark
+  abbrev Ends : Attempt → Decision → Type 0
+  Ends t d = session_of (part_of e.view seat) ≡ record { over = map finished_of part.over ++ record { work = work_of t; fate = fate_of d t } ∷ []; stand = world.idle }
+
+  unmarked_of : (t : Attempt) → work_of t ≡ work → t.is_mark ≡ false → work.is_mark ≡ false
+  unmarked_of t same plain = sym (ap (λ (w : Work). w.is_mark) same) ∙ ap (λ (b : Bool). b && ltb 0 t.stamp) plain
+
+  decides_as : (t : Attempt) → work_of t ≡ work → t.stamp ≡ part.current.stamp → t.size ≡ part.current.size → t.number ≡ part.current.number → (m opens : Bool) → t.is_mark ≡ m → ltb t.pred t.succ ≡ opens
+      → Ends t (if m then Mark else if opens then Commit else Skip)
+      → given_up_of (part_of e.view seat) ≡ given_up_of part
+      → Decides (if m then Marked t.stamp t.begin else if opens then Committed (record { number = t.number; stamp = t.stamp; end = t.stamp + t.size; succ = t.succ; pred = t.pred }) else Excluded t.stamp t.succ t.pred)
+  decides_as t same stamp_is size_is number_is true opens mark at shown given =
+      let begins : t.begin ≡ work.begin = ap (λ (w : Work). w.begin) same in
+      let fate : Fate = world.marked part.current.stamp work.begin in
+      let over =
+      done fate
+      (shown
+      ∙ ap (λ (w : Work). let s : Session = record { over = map finished_of part.over ++ record { work = w; fate = world.marked t.stamp t.begin } ∷ []; stand = world.idle } in s) same
+      ∙ ap (λ (n : ℕ). let s : Session = record { over = map finished_of part.over ++ record { work = work; fate = world.marked n t.begin } ∷ []; stand = world.idle } in s) stamp_is
+      ∙ ap (λ (n : ℕ). let s : Session = record { over = map finished_of part.over ++ record { work = work; fate = world.marked part.current.stamp n } ∷ []; stand = world.idle } in s) begins)
+      given
+      in
+      let drawn = own_seat.own_drawn law seat tail flushed b may sealed in
+      let is : work.is_mark ≡ true = sym (ap (λ (w : Work). w.is_mark) same) ∙ and_from t.is_mark (ltb 0 t.stamp) mark (lt-ltb 0 t.stamp (omega (arith, drawn, stamp_is))) in
+      record {
+        did = (work, part.current.stamp, stands, (over, is, stamp_is, begins));
+        later = (world_done own next seat work part.current.stamp fate refl stands over).session seat;
+      }
+  decides_as t same stamp_is size_is number_is false true plain at shown given =
       let fate : Fate = world.commits part.current.stamp t.succ t.pred in
       let over =
       done fate
@@ -219,10 +257,10 @@ module _ (law : Law) (seat tail flushed : ℕ) (b e : Book) (may : MayCall law s
       in
       let fits = sized in
       record {
-        did = (work, part.current.stamp, stands, (over, number_is, stamp_is, omega (arith, stamp_is, size_is, fits), ltb-true t.pred t.succ at));
+        did = (work, part.current.stamp, stands, (over, unmarked_of t same plain, number_is, stamp_is, omega (arith, stamp_is, size_is, fits), ltb-true t.pred t.succ at));
         later = (world_done own next seat work part.current.stamp fate refl stands over).session seat;
       }
-  decides_as t same stamp_is size_is number_is false at shown given =
+  decides_as t same stamp_is size_is number_is false false plain at shown given =
       let fate : Fate = world.excluded part.current.stamp t.succ t.pred in
       let over =
       done fate
@@ -232,7 +270,7 @@ module _ (law : Law) (seat tail flushed : ℕ) (b e : Book) (may : MayCall law s
       given
       in
       record {
-        did = (work, part.current.stamp, stands, (over, stamp_is, ltb-false t.pred t.succ at));
+        did = (work, part.current.stamp, stands, (over, unmarked_of t same plain, stamp_is, ltb-false t.pred t.succ at));
         later = (world_done own next seat work part.current.stamp fate refl stands over).session seat;
       }
 
@@ -240,7 +278,7 @@ module _ (law : Law) (seat tail flushed : ℕ) (b e : Book) (may : MayCall law s
   decides outcome settles =
       let t : Attempt = (y seat b e held outcome settles).current in
       subst Decides (sym (outcome_is seat b e held outcome settles))
-      (decides_as t refl refl refl refl (ltb t.pred t.succ) refl (over_shown seat b e held outcome settles) (over_given seat b e held outcome settles))
+      (decides_as t refl refl refl refl t.is_mark (ltb t.pred t.succ) refl refl (over_shown seat b e held outcome settles) (over_given seat b e held outcome settles))
 
   -- NOT YET
   went_shown : WentOn b.view seat e.view → session_of (part_of e.view seat) ≡ session_of part

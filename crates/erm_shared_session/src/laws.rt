@@ -22,12 +22,12 @@ pub fn own_commits_are_read_back<L: RowLaw>()
 }
 
 /// The first pass of a table hands out the sessions one by one, from session 1 on, and each may be called, where no session is idle at the
-/// opening, whose log begins behind 1, and at 2^60 + 4 at most, and whose rows keep the law.
+/// opening, whose log begins at 8 or later, and at 2^60 + 4 at most, and whose rows keep the law.
 pub fn sessions_handed_out_may_call<L: RowLaw>()
     ensures first { (o : Opening) → o.sessions ≡ 0 → 0 < o.tail → o.tail ≤ STOP + 4 → o.first ≤ OBJECT_LIMIT
         → ((oid : ℕ) → oid < OBJECT_LIMIT → length (first_rows o oid) ≡ 16) → L.law.meets (first_rows o)
         → ((oid : ℕ) → o.first ≤ oid → L.law.reach (first_rows o) oid ≡ 0) → HasHandedOut L.law o 0 (first_book o) }
-    ensures more { (o : Opening) (given : ℕ) (b : Book) → o.sessions ≡ 0 → 1 < o.tail → given < SESSIONS → HasHandedOut L.law o given b
+    ensures more { (o : Opening) (given : ℕ) (b : Book) → o.sessions ≡ 0 → 8 ≤ o.tail → given < SESSIONS → HasHandedOut L.law o given b
         → HasHandedOut L.law o (given + 1) (left_book b) × MayCall L.law (given + 1) o.tail o.tail (right_book b) }
 {
     erm_sound::openings_are_sound();

@@ -2,7 +2,7 @@
 ghost use Rattle.std.specs.Prelude.{◌≡◌, ◌≢◌, ◌<◌, IfErr, IfOk, OnOk};
 ghost use Rattle.erm_beside.specs.Calls.{After, MayNotBeginBeside, Passes};
 ghost use Rattle.erm_beside.specs.Laws.{GoesOnward};
-ghost use Rattle.erm_beside.specs.Safe.{DidBeginSafeBeside, DidSafeBeside, IsRowBelow, NotSafeBeside, NotSafeMet};
+ghost use Rattle.erm_beside.specs.Safe.{DidBeginSafeBeside, DidMarkBeside, DidSafeBeside, IsRowBelow, NotSafeBeside, NotSafeMet};
 ghost use Rattle.erm_model.specs.declared.limits.TheConstants.{OID_LIMIT, STOP};
 ghost use Rattle.erm_model.specs.declared.outcome.Phase.TheVariants.{Idle, Pending, Safe};
 ghost use Rattle.erm_rule.specs.Books.{book};
@@ -88,6 +88,21 @@ impl<L: RowLaw> SafeSession for TableSession<L> {
         erm_own_view::ends_keep_safe_stamps::<L>();
         erm_rows::safe_rows_are_snapshots();
         self.session.safe_read(shared, &mut self.pass, oid)
+    }
+
+    /// Seals the safe snapshot: its mark has the place of the log, in words, where its block begins.
+    fn mark(&mut self, shared: &Table<L>) -> Stamp
+        requires stands { Stands L.law shared.now self.old }
+        requires safe { phase_at (own_of self.old) (seat_of self.old) ≡ Safe }
+        ensures stands { Stands L.law shared.now self.new }
+        ensures onward { GoesOnward (seat_of self.old) (seat_of self.new) (Ends L.law self.old) (Ends L.law self.new) }
+        ensures sealed { After (seat_of self.old) (DidMarkBeside (seat_of self.old) result) (own_of self.old) (own_of self.new) }
+    {
+        erm_own_view::own_views_go_on::<L>();
+        erm_core_stays::numbers_rise();
+        let stamp = self.session.mark(shared, &mut self.pass);
+        self.tail = stamp + self.session.size();
+        stamp
     }
 
     /// Ends the snapshot, safe or not.

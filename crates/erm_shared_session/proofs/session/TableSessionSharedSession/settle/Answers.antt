@@ -15,6 +15,7 @@ use Rattle.erm_shared_session.proofs.Lifts.{did_settle}
 use Rattle.erm_core_steps.proofs.Results.{err_to, ok_to}
 use Rattle.erm_shared_session.proofs.Saved.{keeps_own, past_settled}
 use Rattle.erm_shared_session.specs.Stands.{own_of}
+use Rattle.erm_shared_session.proofs.Own.{own_begins}
 use Rattle.erm_shared_session.proofs.Results.{looked_at, not_settled}
 use Rattle.erm_shared_session.proofs.Settling.{stage_sized, told}
 use Rattle.erm_shared_session.proofs.Standing.{IsSeen, Rise, goes_onward, own_at, own_phase, session_held, stands_again}
@@ -23,7 +24,12 @@ use Rattle.erm_shared_session.proofs.session.TableSessionSharedSession.settle.Go
 pub settle-settled-requires : goal.settle-settled-requires
 settle-settled-requires g c =
     let s = c.args.self.now in
-    record { fits = c.requires.stands.fits; stands = c.requires.stands.session; sealed = own_phase s c.requires.stands.session ∙ c.requires.sealed }
+    record {
+      fits = c.requires.stands.fits;
+      stands = c.requires.stands.session;
+      sealed = own_phase s c.requires.stands.session ∙ c.requires.sealed;
+      begins = own_begins g.L.RowLaw.law s.session.seat s.tail s.flushed (book s.pass) c.requires.stands.may c.requires.sealed;
+    }
 
 pub returns : goal.returns
 returns g c =
