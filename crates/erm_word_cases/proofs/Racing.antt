@@ -8,7 +8,7 @@ use Rattle.erm_machine.specs.declared.limits.TheConstants.{FLUSH_SEAT, SESSIONS}
 use Rattle.erm_machine.specs.declared.part.Part.{Part}
 use Rattle.erm_machine.specs.declared.place.Place.TheVariants.{Vacant, Idle}
 use Rattle.erm_machine.specs.Core.{Core, fresh_part}
-use Rattle.erm_machine.specs.Seat.{has_number, is_active, is_vacant, may_start}
+use Rattle.erm_machine.specs.Seat.{has_number, is_active, is_vacant, may_seal}
 use Rattle.erm_machine.specs.Sound.{Sound}
 use Rattle.erm_machine.specs.Words.{is_flusher}
 use Rattle.erm_model.specs.declared.history.TransactionRecord.{TransactionRecord}
@@ -83,8 +83,8 @@ module _ (o : Opening) (who begin : ℕ) (v w1 : View) (is : v ≡ one_seat who 
   pub seal_active : is_active (part_of w1 who).place ≡ true
   seal_active = ap (λ (z : Part). is_active z.place) begun_there
 
-  pub seal_rests : may_start (part_of w1 who).task ≡ true
-  seal_rests = ap (λ (z : Part). may_start z.task) begun_there
+  pub seal_rests : may_seal (part_of w1 who).task ≡ true
+  seal_rests = ap (λ (z : Part). may_seal z.task) begun_there
 
   pub begun_taken : is_vacant (part_of w1 who).place ≡ false
   begun_taken = ap (λ (z : Part). is_vacant z.place) begun_there

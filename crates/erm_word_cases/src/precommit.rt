@@ -1,4 +1,4 @@
-ghost use Rattle.std.specs.Prelude.{◌≡◌, [], true};
+ghost use Rattle.std.specs.Prelude.{◌≡◌, [], None, true};
 ghost use Rattle.erm_machine.specs.Words.{is_session};
 ghost use Rattle.erm_rule.specs.Steps.{Fits};
 ghost use Rattle.erm_rule.specs.Views.{view, one_seat};
@@ -32,6 +32,7 @@ fn bare(stamp: Stamp, room: Room) -> Pre
     ensures claims { result.claims.value.items ≡ [] }
     ensures succ { result.succ ≡ stamp }
     ensures pred { result.pred ≡ 0 }
+    ensures mark { result.mark ≡ None }
 {
     let (mut reads, mut claims) = room;
     reads.clear();

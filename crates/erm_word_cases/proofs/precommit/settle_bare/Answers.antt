@@ -42,4 +42,4 @@ settle-settled-requires-clause-kept c =
     (ap (λ (z : Part). z.place) (alone_there c.args.opening.now c.args.who c.args.pass.me.0.view c.requires.idle))
     (ok_says (λ (begin : ℕ). DidBegin c.args.pass.me.0.view c.args.who begin c.begin_steps.new.p.me.0.view) c.begin_steps.result c.in_ok-begin.begin c.in_ok-begin.ensures.value c.begin_steps.ensures.begun)
     c.seal_steps-stamp.ensures.sealed
-    _ c.bare-pre.ensures.stamp c.bare-pre.ensures.size c.bare-pre.ensures.reads c.bare-pre.ensures.claims c.bare-pre.ensures.succ c.bare-pre.ensures.pred
+    _ c.bare-pre.ensures.stamp c.bare-pre.ensures.size c.bare-pre.ensures.reads c.bare-pre.ensures.claims c.bare-pre.ensures.succ c.bare-pre.ensures.pred c.bare-pre.ensures.mark
