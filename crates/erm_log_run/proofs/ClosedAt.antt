@@ -43,6 +43,7 @@ pub record EndsAs (v : View) (seat : ℕ) (t : View) : Type 0 where
 settled_as : (v t : View) (seat : ℕ) (o : Outcome) → DidSettle v seat o t → EndsAs v seat t
 settled_as v t seat (outcome.Committed r) (w, stamp, stands, ready, did) = record { work = w; fate = world.commits stamp r.succ r.pred; done = did.0; sealed = λ s a b is. let same : stamp ≡ s = cc in subst (λ (n : ℕ). (v.session seat).stand ≡ world.sealed w n) same stands }
 settled_as v t seat (outcome.Excluded at succ pred) (w, stamp, stands, ready, did) = record { work = w; fate = world.excluded stamp succ pred; done = did.0; sealed = λ s a b is. absurd (let no : world.excluded stamp succ pred ≡ world.commits s a b = is in cc) }
+settled_as v t seat (outcome.Marked at safe) (w, stamp, stands, ready, did) = record { work = w; fate = world.marked stamp w.begin; done = did.0; sealed = λ s a b is. absurd (let no : world.marked stamp w.begin ≡ world.commits s a b = is in cc) }
 
 aborted_as : (v t : View) (seat : ℕ) → DidAbort v seat t → EndsAs v seat t
 aborted_as v t seat did = record { work = work_at v seat; fate = world.aborts; done = did; sealed = λ s succ pred is. absurd (let no : world.aborts ≡ world.commits s succ pred = is in cc) }
@@ -55,6 +56,7 @@ ends_as v t seat a e = by_phase (phase_at v seat) a e.fits e.did
     by_phase Active a fits did = aborted_as v t seat did
     by_phase Sealed (answer.Committed stamp succ pred) fits did = settled_as v t seat (outcome.Committed did.0) did.4
     by_phase Sealed (answer.Excluded stamp succ pred) fits did = settled_as v t seat (outcome.Excluded stamp succ pred) did
+    by_phase Sealed (answer.Marked safe stamp) fits did = settled_as v t seat (outcome.Marked stamp safe) did
     by_phase Sealed a fits did = absurd fits
     by_phase Pending a fits did = aborted_as v t seat did
     by_phase Safe a fits did = aborted_as v t seat did

@@ -79,6 +79,7 @@ done_leaves v t seat s idle b = record {
 settled_leaves : (v t : View) (seat : ℕ) (o : Outcome) → DidSettle v seat o t → Leaves v seat t
 settled_leaves v t seat (outcome.Committed r) (w, stamp, stands, ready, did) = done_leaves v t seat _ refl did.0
 settled_leaves v t seat (outcome.Excluded at succ pred) (w, stamp, stands, ready, did) = done_leaves v t seat _ refl did.0
+settled_leaves v t seat (outcome.Marked at safe) (w, stamp, stands, ready, did) = done_leaves v t seat _ refl did.0
 
 pub end_leaves : (v t : View) (seat : ℕ) (a : Answer) → DidEnd v seat a t → Leaves v seat t
 end_leaves v t seat a e = by_phase (phase_at v seat) a e.fits e.did
@@ -88,6 +89,7 @@ end_leaves v t seat a e = by_phase (phase_at v seat) a e.fits e.did
     by_phase phase.Active a fits did = done_leaves v t seat _ refl did
     by_phase phase.Sealed (answer.Committed stamp succ pred) fits did = settled_leaves v t seat (outcome.Committed did.0) did.4
     by_phase phase.Sealed (answer.Excluded stamp succ pred) fits did = settled_leaves v t seat (outcome.Excluded stamp succ pred) did
+    by_phase phase.Sealed (answer.Marked safe stamp) fits did = settled_leaves v t seat (outcome.Marked stamp safe) did
     by_phase phase.Sealed a fits did = absurd fits
     by_phase phase.Pending a fits did = done_leaves v t seat _ refl did
     by_phase phase.Safe a fits did = done_leaves v t seat _ refl did
