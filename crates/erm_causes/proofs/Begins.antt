@@ -90,7 +90,7 @@ no_refusal (answer.Unsafe other stamp) of = refl
 no_refusal a of = absurd of
 
 pub own_next : (p : Progress) → p.snapshot ≡ None → (own_snapshot p).number ≡ next_number p
-own_next p none = ap (λ (o : Option Snapshot). (option_map_or (λ (s : Snapshot). s) o (record { number = next_number p; begin = None; lines = []; placed = false })).number) none
+own_next p none = ap (λ (o : Option Snapshot). (option_map_or (λ (s : Snapshot). s) o (record { number = next_number p; begin = None; lines = []; placed = false; mark = None })).number) none
 
 module _ (before after : View) (seat : ℕ) (p : Progress) (a : Answer) (session : IsSession before seat) (tells : Tells seat p (before.session seat)) where
   asked_first : phase_at before seat ≡ Idle → DidBeginAndAsk before seat a after → SafeAsked before after seat p a

@@ -170,7 +170,7 @@ safe_begun c d begin ok answered =
       current = with_begin begin (own_snapshot p);
       is = ap (λ (p : Progress). p.snapshot) (dealt_answered c d command.Safe (answer.Safe begin) ok answered);
       begin_is = refl;
-      steps_are = ap (λ (o : Option Snapshot). looks_of (option_map_or (λ (s : Snapshot). s) o (record { number = next_number p; begin = None; lines = []; placed = false }))) answered.comes;
+      steps_are = ap (λ (o : Option Snapshot). looks_of (option_map_or (λ (s : Snapshot). s) o (record { number = next_number p; begin = None; lines = []; placed = false; mark = None }))) answered.comes;
     }
 
 unnamed : (o : Option Op) → o ≡ None → IsSome o → ⊥

@@ -21,7 +21,7 @@ looked asked a (Some s) so = so
 own : (p : Progress) → IsUnplaced p.snapshot → (own_snapshot p).placed ≡ false
 own p so = of p.snapshot so
   where
-    of : (now : Option Snapshot) → IsUnplaced now → (option_map_or (λ s. s) now (record { number = next_number p; begin = None; lines = []; placed = false })).placed ≡ false
+    of : (now : Option Snapshot) → IsUnplaced now → (option_map_or (λ s. s) now (record { number = next_number p; begin = None; lines = []; placed = false; mark = None })).placed ≡ false
     of None so = refl
     of (Some s) so = so
 

@@ -22,7 +22,7 @@ use Rattle.erm_script.specs.Script.{name_of, IsScript}
 use Rattle.erm_good_report.specs.Determined.{IsReportOf, ReportsAreDetermined}
 use Rattle.erm_good_report.specs.GoodReport.{Report, answer_lines, close_line, line_in_order, order_line, report_lines}
 use Rattle.erm_good_report.specs.Opening.{Mode, Opening}
-use Rattle.erm_good_report.specs.Phases.{IsAnswerTo, FitsPhase, FitsRefusal, Closes, ClosesAgree, Need, NeedsAny, NeedsIdle, NeedsReader, NeedsSealed, NeedsSnapshot, NeedsWriter, need_of, phase_of, refusal_for, refusal_of}
+use Rattle.erm_good_report.specs.Phases.{IsAnswerTo, FitsPhase, FitsRefusal, Closes, ClosesAgree, Need, NeedsAny, NeedsIdle, NeedsReader, NeedsSealed, NeedsSnapshot, NeedsWriter, need_of, phase_of, refusal_for, refusal_of, NeedsSafe}
 use Rattle.erm_good_report.specs.Transactions.{said_of}
 use Rattle.erm_good_report.proofs.Names.{names_are_words}
 
@@ -51,6 +51,7 @@ pair_none command.Seal is = absurd is
 pair_none command.Settle is = absurd is
 pair_none command.Commit is = absurd is
 pair_none command.Abort is = absurd is
+pair_none command.Mark is = absurd is
 pair_none command.Durable is = absurd is
 pair_none command.Flush is = absurd is
 pair_none command.Checkpoint is = absurd is
@@ -70,6 +71,7 @@ value_none command.Seal is = refl
 value_none command.Settle is = refl
 value_none command.Commit is = refl
 value_none command.Abort is = refl
+value_none command.Mark is = refl
 value_none command.Durable is = refl
 value_none command.Flush is = refl
 value_none command.Checkpoint is = refl
@@ -108,6 +110,11 @@ untold-refusal (Some NeedsSealed) phase.Active c = refl
 untold-refusal (Some NeedsSealed) phase.Sealed c = tt
 untold-refusal (Some NeedsSealed) phase.Pending c = refl
 untold-refusal (Some NeedsSealed) phase.Safe c = refl
+untold-refusal (Some NeedsSafe) phase.Idle c = refl
+untold-refusal (Some NeedsSafe) phase.Active c = refl
+untold-refusal (Some NeedsSafe) phase.Sealed c = refl
+untold-refusal (Some NeedsSafe) phase.Pending c = refl
+untold-refusal (Some NeedsSafe) phase.Safe c = tt
 untold-refusal (Some NeedsAny) phase.Idle c = refl
 untold-refusal (Some NeedsAny) phase.Active c = tt
 untold-refusal (Some NeedsAny) phase.Sealed c = refl

@@ -1,5 +1,5 @@
 -- Each stamp that is told of a transaction is in reach: its seal tells it, or the line that drew it; or this line waited, and a later one tells it.
-use Rattle.std.proofs.Common.{◌≡◌, ℕ, zero, suc, ◌+◌, ◌≤◌, ◌⊎◌, Bool, true, false, cond, ◌==◌, List, [], ◌∷◌, ◌++◌, length, map, fold, take, slice_get, Option, Some, None, IfSome, refl, sym, ap, ◌∙◌, subst, inl, inr}
+use Rattle.std.proofs.Common.{◌≡◌, ℕ, zero, suc, ◌+◌, ◌≤◌, ◌⊎◌, Bool, true, false, cond, ◌==◌, List, [], ◌∷◌, ◌++◌, length, map, fold, take, slice_get, Option, Some, None, IfSome, refl, sym, ap, subst, inl, inr}
 use Rattle.std.specs.List.{flat_map, range_with_len}
 use Rattle.std.specs.Option.{option_map, option_to_list}
 use Rattle.std.proofs.lemmas.Bool.{eqb-true}
@@ -19,7 +19,7 @@ use Rattle.erm_good_report.specs.Opening.{Mode, Opening}
 use Rattle.erm_good_report.specs.Phases.{Closed, Closes, FitsPhase, FitsSnapshot, IsAnswerTo, PhasesAgree, phase_after, phase_after_wait, phase_of, refusal_of}
 use Rattle.erm_good_report.specs.Refusals.{moment_at, most_end}
 use Rattle.erm_good_report.specs.Stamps.{DrawsUntold, IsWait, Told, stamp_drawn}
-use Rattle.erm_good_report.specs.Transactions.{Aborts, Commits, Ending, Excludes, Exchange, Progress, Said, Transaction, Unfinished, begun, ended, goes_on, heard, nothing, own_snapshot, progress_of, said_of, stamp_of, stamp_of_ending, transactions_of, with_end, with_ending, with_line, with_seal}
+use Rattle.erm_good_report.specs.Transactions.{Aborts, Commits, Ending, Excludes, Exchange, Progress, Said, Transaction, Unfinished, begun, ended, goes_on, heard, nothing, own_snapshot, progress_of, said_of, stamp_of, stamp_of_ending, transactions_of, with_end, with_ending, with_line, with_seal, with_mark}
 use Rattle.erm_good_report.specs.InReach.{AreInReach, CutOnesAreInReach, GoodOnesAreInReach, IsDrawnAt}
 use Rattle.erm_good_report.proofs.Phases.{answers_so}
 use Rattle.erm_good_report.proofs.Places.{said_at, said_by}
@@ -63,11 +63,11 @@ module _ (Reach : ℕ → Type 0) (Waited : ℕ → ℕ → Type 0) (q : ℕ) wh
   IsOpen t = IfSome t.sealed Reach × IfSome (stamp_of_ending t.ending) Reach
 
   abbrev Stands : Phase → Option Transaction → Type 0
-  Stands Idle now = Unit {0}
+  Stands Idle now = now ≡ None
   Stands Active now = (t : Transaction) × (now ≡ Some t)
-  Stands Sealed now = (t : Transaction) × (now ≡ Some t) × IsSealed t
-  Stands Pending now = Unit {0}
-  Stands Safe now = Unit {0}
+  Stands Sealed now = (t : Transaction) → now ≡ Some t → IsSealed t
+  Stands Pending now = now ≡ None
+  Stands Safe now = now ≡ None
 
   record Holds (phase : Phase) (p : Progress) : Type 0 where
     over : (t : Transaction) → t ∈ p.over → IsFine t
@@ -86,18 +86,27 @@ module _ (Reach : ℕ → Type 0) (Waited : ℕ → ℕ → Type 0) (q : ℕ) wh
   none_now t is = absurd (cc)
 
   ends : (phase : Phase) (e : Ending) (p : Progress) → Holds phase p → ((u : Transaction) → p.current ≡ Some u → IfSome (stamp_of_ending e) Reach ⊎ IsSealed u) → Holds Idle (ended e p)
-  ends phase e p h told = record { over = ended_fine e p h.over (λ u is. ((h.now u is).0, told u is)); now = none_now; stands = tt }
+  ends phase e p h told = record { over = ended_fine e p h.over (λ u is. ((h.now u is).0, told u is)); now = none_now; stands = refl }
 
   now_on : (asked : Option Command) (a : Answer) (now : Option Transaction) → ((t : Transaction) → now ≡ Some t → IsOpen t) → (t : Transaction) → option_map (with_line asked a) now ≡ Some t → IsOpen t
   now_on asked a None was t is = absurd (cc)
   now_on asked a (Some u) was t is = let same : with_line asked a u ≡ t = cc in subst IsOpen same (was u refl)
 
+  sealed_on : (asked : Option Command) (a : Answer) (now : Option Transaction) → ((t : Transaction) → now ≡ Some t → IsSealed t) → (t : Transaction) → option_map (with_line asked a) now ≡ Some t → IsSealed t
+  sealed_on asked a None was t is = absurd (cc)
+  sealed_on asked a (Some u) was t is = let same : with_line asked a u ≡ t = cc in subst IsSealed same (was u refl)
+
+  -- nobody is in progress, or with another line
+  none_on : (asked : Option Command) (a : Answer) (now : Option Transaction) → now ≡ None → (t : Transaction) → option_map (with_line asked a) now ≡ Some t → IsSealed t
+  none_on asked a None none t is = absurd (cc)
+  none_on asked a (Some u) none t is = absurd (cc)
+
   stands_on : (asked : Option Command) (a : Answer) (phase : Phase) (now : Option Transaction) → Stands phase now → Stands phase (option_map (with_line asked a) now)
-  stands_on asked a Idle now s = tt
+  stands_on asked a Idle now s = ap (option_map (with_line asked a)) s
   stands_on asked a Active now s = (with_line asked a s.0, ap (option_map (with_line asked a)) s.1)
-  stands_on asked a Sealed now s = (with_line asked a s.0, ap (option_map (with_line asked a)) s.1, s.2)
-  stands_on asked a Pending now s = tt
-  stands_on asked a Safe now s = tt
+  stands_on asked a Sealed now s = sealed_on asked a now s
+  stands_on asked a Pending now s = ap (option_map (with_line asked a)) s
+  stands_on asked a Safe now s = ap (option_map (with_line asked a)) s
 
   on : (phase : Phase) (asked : Option Command) (a : Answer) (p : Progress) → Holds phase p → Holds phase (goes_on asked a p)
   on phase asked a p h = record { over = h.over; now = now_on asked a p.current h.now; stands = stands_on asked a phase p.current h.stands }
@@ -106,34 +115,40 @@ module _ (Reach : ℕ → Type 0) (Waited : ℕ → ℕ → Type 0) (q : ℕ) wh
   seal_now stamp in_reach None was t is = absurd (cc)
   seal_now stamp in_reach (Some u) was t is = let same : with_seal stamp u ≡ t = cc in subst IsOpen same (in_reach, (was u refl).1)
 
-  -- a transaction that tells its seal is active, and one whose commit waits was
-  sealed_one : (c : Command) (stamp : ℕ) (phase : Phase) (now : Option Transaction) → IsAnswerTo c (answer.Sealed stamp) → refusal_of phase c ≡ None → Stands phase now
-      → (t : Transaction) × (now ≡ Some t)
-  sealed_one command.Seal stamp Idle now is free s = absurd (cc)
-  sealed_one command.Seal stamp Active now is free s = s
-  sealed_one command.Seal stamp Sealed now is free s = absurd (cc)
-  sealed_one command.Seal stamp Pending now is free s = absurd (cc)
-  sealed_one command.Seal stamp Safe now is free s = absurd (cc)
-  sealed_one c stamp phase now is free s = absurd is
+  seal_told : (stamp : ℕ) (now : Option Transaction) (t : Transaction) → option_map (with_seal stamp) now ≡ Some t → IsSealed t
+  seal_told stamp None t is = absurd (cc)
+  seal_told stamp (Some u) t is = let same : with_seal stamp u ≡ t = cc in subst IsSealed same (inl (stamp, refl))
 
-  seals : (c : Command) (stamp : ℕ) (phase : Phase) (now : Option Transaction) → FitsPhase phase c (answer.Sealed stamp) → Stands phase now → (t : Transaction) × (now ≡ Some t)
-  seals c stamp phase now fits s = let own = answers_so phase c (answer.Sealed stamp) refl fits in sealed_one c stamp phase now own.1 own.0 s
+  -- a session that asks for a snapshot, or marks one, has no transaction
+  asked_none : (a : Answer) (phase : Phase) (now : Option Transaction) → IsSeal a → FitsPhase phase command.Safe a → Stands phase now → now ≡ None
+  asked_none a Idle now is fits s = s
+  asked_none a Active now is fits s = absurd (subst IsSeal fits is)
+  asked_none a Sealed now is fits s = absurd (subst IsSeal fits is)
+  asked_none a Pending now is fits s = s
+  asked_none a Safe now is fits s = absurd (subst IsSeal fits is)
 
-  commit_one : (a : Answer) (phase : Phase) (now : Option Transaction) → IsSeal a → FitsPhase phase command.Commit a → FitsSnapshot phase command.Commit a → Stands phase now
-      → (t : Transaction) × (now ≡ Some t)
-  commit_one a Idle now is fits looks s = absurd (subst IsSeal fits is)
-  commit_one a Active now is fits looks s = s
-  commit_one a Sealed now is fits looks s = absurd (subst IsSeal fits is)
-  commit_one a Pending now is fits looks s = absurd (subst IsSeal fits is)
-  commit_one a Safe now is fits looks s = absurd (subst IsSeal looks is)
+  safe_one : (c : Command) (begin : ℕ) (phase : Phase) (now : Option Transaction) → IsAnswerTo c (answer.Safe begin) → refusal_of phase c ≡ None → Stands phase now → now ≡ None
+  safe_one command.Safe begin Idle now is free s = s
+  safe_one command.Safe begin Active now is free s = absurd (cc)
+  safe_one command.Safe begin Sealed now is free s = absurd (cc)
+  safe_one command.Safe begin Pending now is free s = s
+  safe_one command.Safe begin Safe now is free s = absurd (cc)
+  safe_one c begin phase now is free s = absurd is
 
-  same_sealed : (now : Option Transaction) → Stands Sealed now → (u : Transaction) → now ≡ Some u → IsSealed u
-  same_sealed now s u is = let both : Some s.0 ≡ Some u = sym s.1 ∙ is in let same : s.0 ≡ u = cc in subst IsSealed same s.2
+  safe_none : (c : Command) (begin : ℕ) (phase : Phase) (now : Option Transaction) → FitsPhase phase c (answer.Safe begin) → Stands phase now → now ≡ None
+  safe_none c begin phase now fits s = let own = answers_so phase c (answer.Safe begin) refl fits in safe_one c begin phase now own.1 own.0 s
+
+  mark_none : (a : Answer) (phase : Phase) (now : Option Transaction) → IsSeal a → FitsPhase phase command.Mark a → Stands phase now → now ≡ None
+  mark_none a Idle now is fits s = absurd (subst IsSeal fits is)
+  mark_none a Active now is fits s = absurd (subst IsSeal fits is)
+  mark_none a Sealed now is fits s = absurd (subst IsSeal fits is)
+  mark_none a Pending now is fits s = absurd (subst IsSeal fits is)
+  mark_none a Safe now is fits s = s
 
   settled : (phase : Phase) (a : Answer) (now : Option Transaction) → IsDecided a → FitsPhase phase command.Settle a → Stands phase now → (u : Transaction) → now ≡ Some u → IsSealed u
   settled Idle a now is fits s u at = absurd (subst IsDecided fits is)
   settled Active a now is fits s u at = absurd (subst IsDecided fits is)
-  settled Sealed a now is fits s u at = same_sealed now s u at
+  settled Sealed a now is fits s u at = s u at
   settled Pending a now is fits s u at = absurd (subst IsDecided fits is)
   settled Safe a now is fits s u at = absurd (subst IsDecided fits is)
 
@@ -153,13 +168,15 @@ module _ (Reach : ℕ → Type 0) (Waited : ℕ → ℕ → Type 0) (q : ℕ) wh
   waits_on : (c : Command) (a : Answer) (phase : Phase) (p : Progress) → IsSeal a → FitsPhase phase c a → FitsSnapshot phase c a → (c ≡ command.Commit → (u : Transaction) → p.current ≡ Some u → Waited u.session u.number) → Holds phase p
       → Holds (phase_after_wait (Some c) phase) (goes_on (Some c) a p)
   waits_on command.Commit a phase p is fits looks waits h =
-      let one = commit_one a phase p.current is fits looks h.stands in
       record {
         over = h.over;
         now = now_on (Some command.Commit) a p.current h.now;
-        stands = (with_line (Some command.Commit) a one.0, ap (option_map (with_line (Some command.Commit) a)) one.1, inr (waits refl one.0 one.1));
+        stands = sealed_on (Some command.Commit) a p.current (λ t at. inr (waits refl t at));
       }
-  waits_on command.Safe a phase p is fits looks waits h = record { over = h.over; now = now_on (Some command.Safe) a p.current h.now; stands = tt }
+  waits_on command.Safe a phase p is fits looks waits h =
+      record { over = h.over; now = now_on (Some command.Safe) a p.current h.now; stands = ap (option_map (with_line (Some command.Safe) a)) (asked_none a phase p.current is fits h.stands) }
+  waits_on command.Mark a phase p is fits looks waits h =
+      record { over = h.over; now = now_on (Some command.Mark) a p.current h.now; stands = none_on (Some command.Mark) a p.current (mark_none a phase p.current is fits h.stands) }
   waits_on c a phase p is fits looks waits h = on phase (Some c) a p h
 
   hears : (c : Command) (a : Answer) (phase : Phase) (p : Progress) → FitsPhase phase c a → FitsSnapshot phase c a → (IsWait a → c ≡ command.Commit → (u : Transaction) → p.current ≡ Some u → Waited u.session u.number)
@@ -167,8 +184,7 @@ module _ (Reach : ℕ → Type 0) (Waited : ℕ → ℕ → Type 0) (q : ℕ) wh
   hears c (answer.Began begin) phase p fits looks waits drawn h =
       record { over = h.over; now = λ t is. (let same : begun q begin p ≡ t = cc in subst IsOpen same (tt, tt)); stands = (begun q begin p, refl) }
   hears c (answer.Sealed stamp) phase p fits looks waits drawn h =
-      let one = seals c stamp phase p.current fits h.stands in
-      record { over = h.over; now = seal_now stamp drawn p.current h.now; stands = (with_seal stamp one.0, ap (option_map (with_seal stamp)) one.1, inl (stamp, refl)) }
+      record { over = h.over; now = seal_now stamp drawn p.current h.now; stands = seal_told stamp p.current }
   hears c (answer.WaitSeat seat seen) phase p fits looks waits drawn h = waits_on c (answer.WaitSeat seat seen) phase p tt fits looks (waits tt) h
   hears c (answer.WaitRing flushed) phase p fits looks waits drawn h = waits_on c (answer.WaitRing flushed) phase p tt fits looks (waits tt) h
   hears c (answer.Committed stamp succ pred) phase p fits looks waits drawn h =
@@ -186,11 +202,13 @@ module _ (Reach : ℕ → Type 0) (Waited : ℕ → ℕ → Type 0) (q : ℕ) wh
   hears c answer.NotSealed phase p fits looks waits drawn h = h
   hears c answer.ReadOnly phase p fits looks waits drawn h = h
   hears c answer.NotSafe phase p fits looks waits drawn h = h
-  hears c (answer.Safe begin) phase p fits looks waits drawn h = record { over = h.over; now = h.now; stands = tt }
+  hears c (answer.Safe begin) phase p fits looks waits drawn h = record { over = h.over; now = h.now; stands = safe_none c begin phase p.current fits h.stands }
   hears c (answer.Unsafe seat stamp) phase p fits looks waits drawn h =
       ends phase Aborts (record p { snapshot = Some (own_snapshot p) }) (record { over = h.over; now = h.now; stands = h.stands }) (λ u is. inl tt)
   hears c answer.Ended phase p fits looks waits drawn h =
       ends phase Aborts (record p { snapshot = option_map with_end p.snapshot }) (record { over = h.over; now = h.now; stands = h.stands }) (λ u is. inl tt)
+  hears c (answer.Marked safe stamp) phase p fits looks waits drawn h =
+      ends phase Aborts (record p { snapshot = option_map (with_mark safe stamp) p.snapshot }) (record { over = h.over; now = h.now; stands = h.stands }) (λ u is. inl tt)
   hears c a phase p fits looks waits drawn h = on phase (Some c) a p h
 
   -- ---- line by line
@@ -228,7 +246,7 @@ module _ (Reach : ℕ → Type 0) (Waited : ℕ → ℕ → Type 0) (q : ℕ) wh
   sealed_at : (phase : Phase) (now : Option Transaction) → Stands phase now → phase ≡ Sealed → (t : Transaction) → now ≡ Some t → IsSealed t
   sealed_at Idle now s is t e = absurd (cc)
   sealed_at Active now s is t e = absurd (cc)
-  sealed_at Sealed now s is t e = same_sealed now s t e
+  sealed_at Sealed now s is t e = s t e
   sealed_at Pending now s is t e = absurd (cc)
   sealed_at Safe now s is t e = absurd (cc)
 
@@ -241,6 +259,8 @@ module _ (Reach : ℕ → Type 0) (Waited : ℕ → ℕ → Type 0) (q : ℕ) wh
       record { over = ended_fine (Commits stamp succ pred) p h.over (λ u is. ((h.now u is).0, inr (h.sealed refl u is))); now = none_now; sealed = λ is. none_sealed }
   closes Sealed (answer.Excluded stamp succ pred) p ok h =
       record { over = ended_fine (Excludes (Some stamp) succ pred) p h.over (λ u is. ((h.now u is).0, inr (h.sealed refl u is))); now = none_now; sealed = λ is. none_sealed }
+  closes Sealed (answer.Marked safe stamp) p ok h =
+      record { over = ended_fine Aborts (record p { snapshot = option_map (with_mark safe stamp) p.snapshot }) h.over (λ u is. ((h.now u is).0, inl tt)); now = none_now; sealed = λ is. none_sealed }
   closes Pending answer.Aborted p ok h = record { over = ended_fine Aborts p h.over (λ u is. ((h.now u is).0, inl tt)); now = none_now; sealed = λ is. none_sealed }
   closes Safe answer.Aborted p ok h = record { over = ended_fine Aborts p h.over (λ u is. ((h.now u is).0, inl tt)); now = none_now; sealed = λ is. none_sealed }
   closes phase a p ok h = absurd ok
@@ -271,7 +291,7 @@ module _ (Reach : ℕ → Type 0) (Waited : ℕ → ℕ → Type 0) (q : ℕ) wh
       → (t : Transaction) → t ∈ ((progress_of q (places_of script answers closed)).over ++ option_to_list (progress_of q (places_of script answers closed)).current) → IsFine t
   all_fine script answers closed lines fit t m =
       let said = said_of script answers in
-      let start : Holds Idle nothing = record { over = λ u k. absurd (none_in_nil u k); now = none_now; stands = tt } in
+      let start : Holds Idle nothing = record { over = λ u k. absurd (none_in_nil u k); now = none_now; stands = refl } in
       let h = walks script answers Idle nothing lines start in
       let all = all_close (phase_of q said) closed (progress_from nothing said) fit (record { over = h.over; now = h.now; sealed = sealed_at (phase_of q said) (progress_from nothing said).current h.stands }) in
       let same : progress_of q (places_of script answers closed) ≡ progress_from (progress_from nothing said) (map said_close closed) =

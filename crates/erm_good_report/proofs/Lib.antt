@@ -1,6 +1,7 @@
 pub mod Decided
 pub mod Determining
 pub mod InReach
+pub mod Marks
 pub mod Names
 pub mod OneWindow
 pub mod Parts

@@ -4,7 +4,7 @@ use Rattle.erm_model.specs.declared.outcome.Phase.{Phase}
 use Rattle.erm_model.specs.declared.outcome.Phase.TheVariants as phase
 use Rattle.erm_report.specs.declared.answer.Answer.{Answer}
 use Rattle.erm_script.specs.declared.script.Command.{Command}
-use Rattle.erm_good_report.specs.Phases.{FitsPhase, FitsRefusal, IsAnswerTo, Need, NeedsAny, NeedsIdle, NeedsReader, NeedsSealed, NeedsSnapshot, NeedsWriter, need_of, refusal_for, refusal_in, refusal_of}
+use Rattle.erm_good_report.specs.Phases.{FitsPhase, FitsRefusal, IsAnswerTo, Need, NeedsAny, NeedsIdle, NeedsReader, NeedsSealed, NeedsSnapshot, NeedsWriter, need_of, refusal_for, refusal_in, refusal_of, NeedsSafe}
 
 -- what a phase refuses with is a refusal by a phase
 pub phase_refusal : (need : Option Need) (ph : Phase) → IfSome (refusal_for need ph) (λ r. refusal_in r ≡ Some r)
@@ -34,6 +34,11 @@ phase_refusal (Some NeedsSealed) phase.Active = refl
 phase_refusal (Some NeedsSealed) phase.Sealed = tt
 phase_refusal (Some NeedsSealed) phase.Pending = refl
 phase_refusal (Some NeedsSealed) phase.Safe = refl
+phase_refusal (Some NeedsSafe) phase.Idle = refl
+phase_refusal (Some NeedsSafe) phase.Active = refl
+phase_refusal (Some NeedsSafe) phase.Sealed = refl
+phase_refusal (Some NeedsSafe) phase.Pending = refl
+phase_refusal (Some NeedsSafe) phase.Safe = tt
 phase_refusal (Some NeedsAny) phase.Idle = refl
 phase_refusal (Some NeedsAny) phase.Active = tt
 phase_refusal (Some NeedsAny) phase.Sealed = refl

@@ -12,7 +12,7 @@ use Rattle.erm_report.specs.declared.answer.Answer.TheVariants as answer
 use Rattle.erm_script.specs.declared.script.Command.{Command}
 use Rattle.erm_script.specs.declared.script.Command.TheVariants as command
 use Rattle.erm_good_report.specs.GoodReport.{serial_of}
-use Rattle.erm_good_report.specs.Transactions.{Progress, Said, Snapshot, Transaction, ended_as, ended_of, heard, history_of, next_number, nothing, own_snapshot, placed_at, progress_of, rank_stamp, snapshot_after, transactions_of, with_end, with_look}
+use Rattle.erm_good_report.specs.Transactions.{Progress, Said, Snapshot, Transaction, ended_as, ended_of, heard, history_of, next_number, nothing, own_snapshot, placed_at, progress_of, rank_stamp, snapshot_after, transactions_of, with_end, with_look, with_mark}
 use Rattle.erm_good_report.proofs.InReach.{either_part}
 
 -- ---- a session's snapshots have ascending numbers, from one on and below another
@@ -68,7 +68,7 @@ looks_next n f same (Some s) is = omega (arith, is, same s)
 own_next : (p : Progress) → IsNext (next_number p) p.snapshot → (own_snapshot p).number ≡ next_number p
 own_next p is = of p.snapshot is
   where
-    of : (now : Option Snapshot) → IsNext (next_number p) now → (option_map_or (λ s. s) now (record { number = next_number p; begin = None; lines = []; placed = false })).number ≡ next_number p
+    of : (now : Option Snapshot) → IsNext (next_number p) now → (option_map_or (λ s. s) now (record { number = next_number p; begin = None; lines = []; placed = false; mark = None })).number ≡ next_number p
     of None is = refl
     of (Some s) is = is
 
@@ -91,6 +91,7 @@ hears q asked (answer.Newer stamp) p are = ends p _ _ are.over (goes_next asked 
 hears q asked (answer.Unsafe seat stamp) p are = ends p _ (Some (own_snapshot p)) are.over (own_next p are.now)
 hears q asked answer.Aborted p are = ends p _ p.snapshot are.over are.now
 hears q asked answer.Ended p are = ends p _ _ are.over (looks_next (next_number p) with_end (λ s. refl) p.snapshot are.now)
+hears q asked (answer.Marked safe stamp) p are = ends p _ _ are.over (looks_next (next_number p) (with_mark safe stamp) (λ s. refl) p.snapshot are.now)
 hears q asked answer.NotIdle p are = are
 hears q asked answer.NoTransaction p are = are
 hears q asked answer.IsSealed p are = are

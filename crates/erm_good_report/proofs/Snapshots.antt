@@ -27,6 +27,7 @@ abbrev pub tells_none : Option Command → Answer → Bool
 tells_none asked (answer.Safe begin) = false
 tells_none asked (answer.Unsafe seat stamp) = false
 tells_none asked answer.Ended = false
+tells_none asked (answer.Marked safe stamp) = false
 tells_none asked a = not (asks_safe asked)
 
 -- of a report's lines none does
@@ -65,6 +66,7 @@ hears_none q asked (answer.Newer stamp) p calm none =
 hears_none q asked (answer.Unsafe seat stamp) p calm none = absurd (cc)
 hears_none q asked answer.Aborted p calm none = record { over = none_over p.snapshots p.snapshot none.over none.now; now = refl }
 hears_none q asked answer.Ended p calm none = absurd (cc)
+hears_none q asked (answer.Marked safe stamp) p calm none = absurd (cc)
 hears_none q asked answer.NotIdle p calm none = none
 hears_none q asked answer.NoTransaction p calm none = none
 hears_none q asked answer.IsSealed p calm none = none
@@ -95,6 +97,7 @@ asks_none : (asked : Option Command) (a : Answer) → tells_none asked a ≡ tru
 asks_none asked (answer.Safe begin) calm = absurd (cc)
 asks_none asked (answer.Unsafe seat stamp) calm = absurd (cc)
 asks_none asked answer.Ended calm = absurd (cc)
+asks_none asked (answer.Marked safe stamp) calm = absurd (cc)
 asks_none asked a calm = calm
 
 pub no_safe : (said : List Said) → tell_none said ≡ true → (i : ℕ) (s : Said) → slice_get said i ≡ Some s → s.asked ≡ Some command.Safe → ⊥
@@ -119,9 +122,9 @@ none_agree moment opening script answers told pass = record {
 }
 
 -- the serial order is that of the commits alone
-flat_none : (f : ℕ → List Committed) → ((n : ℕ) → f n ≡ []) → (ns : List ℕ) → flat_map f ns ≡ []
+pub flat_none : {X : Type 0} (f : ℕ → List X) → ((n : ℕ) → f n ≡ []) → (ns : List ℕ) → flat_map f ns ≡ []
 flat_none f none [] = refl
-flat_none f none (n ∷ ns) = ap (λ (cs : List Committed). cs ++ flat_map f ns) (none n) ∙ flat_none f none ns
+flat_none {X} f none (n ∷ ns) = ap (λ (cs : List X). cs ++ flat_map f ns) (none n) ∙ flat_none f none ns
 
 pub none_ended : (sessions : ℕ) (said : List Said) → tell_none said ≡ true → ended_of sessions said ≡ []
 none_ended sessions said pass =
@@ -135,6 +138,7 @@ serial_alone sessions said pass =
 waits_so : (asked : Option Command) (ph : Phase) → not (asks_safe asked) ≡ true → HasNoSnapshot ph → HasNoSnapshot (phase_after_wait asked ph)
 waits_so None ph calm none = none
 waits_so (Some command.Commit) ph calm none = tt
+waits_so (Some command.Mark) ph calm none = tt
 waits_so (Some command.Safe) ph calm none = absurd (cc)
 waits_so (Some c) ph calm none = none
 
@@ -152,6 +156,7 @@ goes_so asked (answer.Newer stamp) ph calm none = tt
 goes_so asked (answer.Unsafe seat stamp) ph calm none = absurd (cc)
 goes_so asked answer.Aborted ph calm none = tt
 goes_so asked answer.Ended ph calm none = absurd (cc)
+goes_so asked (answer.Marked safe stamp) ph calm none = absurd (cc)
 goes_so asked a ph calm none = none
 
 abbrev phase_from : ℕ → Phase → List Said → Phase

@@ -1,5 +1,5 @@
 -- The worked report of write skew is good.
-use Rattle.std.proofs.Common.{◌≡◌, ◌≢◌, ℕ, ◌<◌, ◌≤◌, Bool, true, false, cond, not, ◌==◌, ◌&&◌, nat_le, List, [], ◌∷◌, take, Some, None, refl, sym, ap, ◌∙◌, inl, inr, arith}
+use Rattle.std.proofs.Common.{◌≡◌, ◌≢◌, ℕ, ◌<◌, ◌≤◌, Bool, true, false, cond, not, ◌==◌, ◌&&◌, nat_le, List, [], ◌∷◌, take, Some, None, refl, sym, ap, ◌∙◌, inl, inr, arith, length}
 use Rattle.std.specs.Prelude.{◌⊎◌, IfSome}
 use Rattle.std.specs.declared.cmp.Ordering.TheVariants.{Less}
 use Rattle.std.specs.List.{All, slice_get}
@@ -20,7 +20,7 @@ use Rattle.erm_script.specs.Script.{IsValue}
 use Rattle.erm_script.specs.declared.script.Command.TheVariants as command
 use Rattle.erm_script.specs.declared.script.ScriptLine.{ScriptLine}
 use Rattle.erm_good_report.specs.Causes.{HasCauseOf}
-use Rattle.erm_good_report.specs.GoodReport.{IsGoodReport, OrderAgrees, Report, places_of}
+use Rattle.erm_good_report.specs.GoodReport.{IsGoodReport, OrderAgrees, Report, places_of, OwesToAnswers}
 use Rattle.erm_good_report.specs.Opening.{InTurn, is_before}
 use Rattle.erm_good_report.specs.Phases.{FitsPhase, phase_of}
 use Rattle.erm_good_report.specs.Refusals.{HasCause, Moment, WasOver, moment_at}
@@ -32,6 +32,7 @@ use Rattle.erm_good_report.proofs.Decided.{AreOverBelow, no_window_over, own_win
 use Rattle.erm_good_report.proofs.Parts.{each_in, each_place, all_pairs_from_test, all_pairs_of_two, all_pairs_of_none, told_pass, told_from_test}
 use Rattle.erm_good_report.proofs.Snapshots.{no_looks, none_agree}
 use Rattle.erm_good_report.proofs.StampTests.{begins_ascend, begins_stop, reach_from_test, stamps_ascend, stamps_begin, untold_after, untold_before, untold_in_reach}
+use Rattle.erm_good_report.proofs.Marks.{no_marks}
 
 abbrev all_answers : List Answer
 all_answers = answers (answer.Excluded 47 38 38)
@@ -249,6 +250,20 @@ order = record {
   run = record { run = ((refl, (refl, tt)), ((ap reply.Value (sym first_key), (ap reply.Value (sym second_key), (refl, tt))), ends)) };
 }
 
+owed : OwesToAnswers InTurn first_opening script all_answers told
+owed = record {
+  phases = record { fits = phases; snapshots = no_looks script all_answers refl };
+  stamps = stamps;
+  snapshots = snapshots;
+  causes = causes;
+  refusals = record {
+    each = refusals;
+    reach = reach_from_test (moment_at InTurn first_opening script all_answers told) script all_answers refl;
+    untold = untold_in_reach InTurn first_opening script all_answers told refl;
+  };
+  safe = none_agree (moment_at InTurn first_opening script all_answers told) first_opening script all_answers told refl;
+}
+
 it_is_good : IsGoodReport InTurn first_opening names script (report_with (answer.Excluded 47 38 38))
 it_is_good = record {
   report = report;
@@ -256,18 +271,8 @@ it_is_good = record {
   fits = fits;
   each = refl;
   closes = record { each = refl; fits = λ c (k, found). cc };
-  owes = record {
-    phases = record { fits = phases; snapshots = no_looks script all_answers refl };
-    stamps = stamps;
-    snapshots = snapshots;
-    causes = causes;
-    refusals = record {
-      each = refusals;
-      reach = reach_from_test (moment_at InTurn first_opening script all_answers told) script all_answers refl;
-      untold = untold_in_reach InTurn first_opening script all_answers told refl;
-    };
-    safe = none_agree (moment_at InTurn first_opening script all_answers told) first_opening script all_answers told refl;
-  };
+  owes = owed;
+  marks = no_marks InTurn first_opening (length names) script all_answers [] refl owed;
   order = order;
 }
 

@@ -115,7 +115,7 @@ all_over over now was last s m = elim (either_part over (option_to_list now) s m
 own_reads : (p : Progress) → ((s : Snapshot) → p.snapshot ≡ Some s → OnlyReads s) → OnlyReads (own_snapshot p)
 own_reads p reads = of p.snapshot reads
   where
-    of : (now : Option Snapshot) → ((s : Snapshot) → now ≡ Some s → OnlyReads s) → OnlyReads (option_map_or (λ s. s) now (record { number = next_number p; begin = None; lines = []; placed = false }))
+    of : (now : Option Snapshot) → ((s : Snapshot) → now ≡ Some s → OnlyReads s) → OnlyReads (option_map_or (λ s. s) now (record { number = next_number p; begin = None; lines = []; placed = false; mark = None }))
     of None reads = All-nil Reads
     of (Some s) reads = reads s refl
 

@@ -101,7 +101,7 @@ own_looks fresh None new fine = new
 own_looks fresh (Some x) new fine = fine
 
 looks_of_own : (p : Progress) → IsRanged p → LooksInRange (own_snapshot p)
-looks_of_own p fine = own_looks (record { number = next_number p; begin = None; lines = []; placed = false }) p.snapshot tt fine.snapshot
+looks_of_own p fine = own_looks (record { number = next_number p; begin = None; lines = []; placed = false; mark = None }) p.snapshot tt fine.snapshot
 
 waiting_looks : (seat seen : ℕ) (asked : Option Command) (p : Progress) → IfSome asked IsInRange → IsRanged p → IfSome (snapshot_after (answer.WaitSeat seat seen) asked p) LooksInRange
 waiting_looks seat seen None p range fine = more_looks None (answer.WaitSeat seat seen) p.snapshot range fine.snapshot

@@ -70,7 +70,7 @@ like_end r = record { begin = refl; looks = refl }
 like_look : (asked : Option Command) (a : Answer) → reply_in a ≡ None → (r : Snapshot) → IsLike (with_look asked a r) r
 like_look asked a none r = record { begin = refl; looks = looks_still asked a r none }
 
-pub first_is : (p : Progress) → IsFresh (record { number = next_number p; begin = None; lines = []; placed = false })
+pub first_is : (p : Progress) → IsFresh (record { number = next_number p; begin = None; lines = []; placed = false; mark = None })
 first_is p = record { begin = refl; looks = refl }
 
 -- A session's snapshots come from those before: they are over, or the one that isn't comes from it.
@@ -93,7 +93,7 @@ comes_over p q o more none from = record {
 
 from_waits : (asked : Option Command) (seat seen : ℕ) (p : Progress) → AllFrom p.snapshot (snapshot_after (answer.WaitSeat seat seen) asked p)
 from_waits None seat seen p = from_map (with_look None (answer.WaitSeat seat seen)) (like_look None (answer.WaitSeat seat seen) refl) p.snapshot
-from_waits (Some command.Safe) seat seen p = from_own p.snapshot (record { number = next_number p; begin = None; lines = []; placed = false }) (first_is p)
+from_waits (Some command.Safe) seat seen p = from_own p.snapshot (record { number = next_number p; begin = None; lines = []; placed = false; mark = None }) (first_is p)
 from_waits (Some c) seat seen p = from_map (with_look (Some c) (answer.WaitSeat seat seen)) (like_look (Some c) (answer.WaitSeat seat seen) refl) p.snapshot
 
 -- an answer that tells neither that a snapshot is safe nor a reply
@@ -116,7 +116,7 @@ hears_comes seat asked (answer.Began begin) p plain = comes_on p (heard seat ask
 hears_comes seat asked (answer.Sealed stamp) p plain = comes_on p (heard seat asked (answer.Sealed stamp) p) refl (from_same p.snapshot)
 hears_comes seat asked (answer.Unsafe other stamp) p plain =
     comes_over p (heard seat asked (answer.Unsafe other stamp) p) (Some (own_snapshot p)) refl refl
-    (from_own p.snapshot (record { number = next_number p; begin = None; lines = []; placed = false }) (first_is p))
+    (from_own p.snapshot (record { number = next_number p; begin = None; lines = []; placed = false; mark = None }) (first_is p))
 hears_comes seat asked answer.Ended p plain =
     comes_over p (heard seat asked answer.Ended p) (option_map with_end p.snapshot) refl refl (from_map with_end like_end p.snapshot)
 hears_comes seat asked (answer.Committed stamp succ pred) p plain = comes_over p (heard seat asked (answer.Committed stamp succ pred) p) p.snapshot refl refl (from_same p.snapshot)

@@ -112,7 +112,7 @@ module _ (laws : MovingLaws) where
     own_quiet = from p.snapshot refl
       where
         from : (o : Option Snapshot) → p.snapshot ≡ o
-            → looks_of (option_map_or (λ (s : Snapshot). s) o (record { number = next_number p; begin = None; lines = []; placed = false })) ≡ []
+            → looks_of (option_map_or (λ (s : Snapshot). s) o (record { number = next_number p; begin = None; lines = []; placed = false; mark = None })) ≡ []
         from None is = refl
         from (Some s) is = keeps.quiet s is (untold s is)
 

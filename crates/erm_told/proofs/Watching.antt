@@ -50,7 +50,7 @@ watching None x told = absurd told
 watching (Some s) x told = record { own = s; is = refl; tells = told }
 
 pub own_watched : (p : Progress) (x : world.Snapshot) → TellsWatched p.snapshot (world.snapshot x) → TellsWatch (own_snapshot p) x
-own_watched p x told = from p.snapshot (record { number = next_number p; begin = None; lines = []; placed = false }) told
+own_watched p x told = from p.snapshot (record { number = next_number p; begin = None; lines = []; placed = false; mark = None }) told
   where
     from : (o : Option Snapshot) (first : Snapshot) → TellsWatched o (world.snapshot x) → TellsWatch (option_map_or (λ (s : Snapshot). s) o first) x
     from None first told = absurd told
@@ -66,7 +66,7 @@ own_begun seat begin p over told now watched =
     let x : world.Snapshot = record { number = length over + 1; begin = begin; is_safe = false } in record {
       over = told;
       now = subst (λ (o : Option Transaction). TellsNow seat o (world.snapshot x)) (sym (now_none seat p.current now)) tt;
-      watched = subst (λ (o : Option Snapshot). TellsWatch (option_map_or (λ (s : Snapshot). s) o (record { number = next_number p; begin = None; lines = []; placed = false })) x)
+      watched = subst (λ (o : Option Snapshot). TellsWatch (option_map_or (λ (s : Snapshot). s) o (record { number = next_number p; begin = None; lines = []; placed = false; mark = None })) x)
           (sym (watched_none p.snapshot world.idle tt watched))
           (record { snapshot = record { number_is = next_is seat p over told; begin_is = tt }; safe = refl; unfinished = refl });
     }

@@ -76,7 +76,7 @@ no_refusal (answer.Unsafe other stamp) of = refl
 no_refusal a of = absurd of
 
 own_next : (p : Progress) → p.snapshot ≡ None → (own_snapshot p).number ≡ next_number p
-own_next p none = ap (λ (o : Option Snapshot). (option_map_or (λ (s : Snapshot). s) o (record { number = next_number p; begin = None; lines = []; placed = false })).number) none
+own_next p none = ap (λ (o : Option Snapshot). (option_map_or (λ (s : Snapshot). s) o (record { number = next_number p; begin = None; lines = []; placed = false; mark = None })).number) none
 
 module _ (f before after : View) (seat : ℕ) (p : Progress) (a : Answer) (tells : Tells seat p (before.session seat)) where
   asked_first : phase_at before seat ≡ Idle → DidBeginAndAskBeside f seat a before after → AskedSo f before after seat p a

@@ -97,7 +97,7 @@ own_begun seat begin p over told now watched =
     let x : world.Snapshot = record { number = length over + 1; begin = begin; is_safe = false } in record {
       over = told;
       now = subst (λ (o : Option Transaction). TellsNow seat o (world.snapshot x)) (sym (now_none seat p.current now)) tt;
-      watched = subst (λ (o : Option Snapshot). TellsWatch (option_map_or (λ (s : Snapshot). s) o (record { number = next_number p; begin = None; lines = []; placed = false })) x)
+      watched = subst (λ (o : Option Snapshot). TellsWatch (option_map_or (λ (s : Snapshot). s) o (record { number = next_number p; begin = None; lines = []; placed = false; mark = None })) x)
           (sym (watched_none p.snapshot world.idle tt watched))
           (record { snapshot = record { number_is = next_is seat p over told; begin_is = tt }; safe = refl; unfinished = refl });
     }
