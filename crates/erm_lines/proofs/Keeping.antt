@@ -109,6 +109,7 @@ waits_turns v t seat w stamp is stand = record {
 decided_turns : (v t : View) (seat : ℕ) (a : Answer) → DidDecide v seat a t → Turns v seat t
 decided_turns v t seat (answer.Committed stamp succ pred) (r, stamp_is, succ_is, pred_is, (w, at, stand, ready, did)) = done_turns v t seat w _ did.0
 decided_turns v t seat (answer.Excluded stamp succ pred) (w, at, stand, ready, did) = done_turns v t seat w _ did.0
+decided_turns v t seat (answer.Marked safe stamp) (w, at, stand, ready, did) = done_turns v t seat w _ did.0
 decided_turns v t seat (answer.WaitSeat other seen) (is, (w, at, stand, waits)) = waits_turns v t seat w at is stand
 decided_turns v t seat (answer.WaitRing flushed) (is, (w, at, stand, waits)) = waits_turns v t seat w at is stand
 decided_turns v t seat a did = absurd did

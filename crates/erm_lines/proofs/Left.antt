@@ -29,6 +29,7 @@ sealed v t seat stamp did = (did.flushed, did.pinned)
 decided : (v t : View) (seat : ℕ) (a : Answer) → DidDecide v seat a t → Leaves v t
 decided v t seat (answer.Committed at succ pred) (r, at_is, after, before, (w, own, stand, ready, settled)) = (settled.0.flushed, settled.0.pinned)
 decided v t seat (answer.Excluded at succ pred) (w, own, stand, ready, settled) = (settled.0.flushed, settled.0.pinned)
+decided v t seat (answer.Marked safe at) (w, own, stand, ready, settled) = (settled.0.flushed, settled.0.pinned)
 decided v t seat (answer.WaitSeat other seen) did = unchanged v t did.0
 decided v t seat (answer.WaitRing flushed) did = unchanged v t did.0
 decided v t seat a did = absurd did

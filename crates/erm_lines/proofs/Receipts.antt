@@ -74,13 +74,16 @@ committed_keeps v t seat before r (w, stamp, stand, ready, did) was = record {
   last = record { work = w; fate = world.commits stamp r.succ r.pred };
   rest = [];
   split = ap (λ (s : Session). s.over) did.0.own;
-  commits = (r.succ, r.pred, ap (λ (n : ℕ). world.commits n r.succ r.pred) (sym did.2));
-  ends = did.3 ∙ ap (λ (n : ℕ). n + world.size_of w) (sym did.2);
+  commits = (r.succ, r.pred, ap (λ (n : ℕ). world.commits n r.succ r.pred) (sym did.3));
+  ends = did.4 ∙ ap (λ (n : ℕ). n + world.size_of w) (sym did.3);
   none = λ f m. absurd (none_in_nil f m);
 }
 
 pub excluded_keeps : (v t : View) (seat : ℕ) (r : Option Receipt) (at succ pred : ℕ) → DidSettle v seat (outcome.Excluded at succ pred) t → KeepsReceipt v seat r t r
 excluded_keeps v t seat r at succ pred (w, stamp, stand, ready, did) = done_keeps v t seat r w _ (λ never. never) (ap (λ (s : Session). s.over) did.0.own)
+
+pub marked_keeps : (v t : View) (seat : ℕ) (r : Option Receipt) (at safe : ℕ) → DidSettle v seat (outcome.Marked at safe) t → KeepsReceipt v seat r t r
+marked_keeps v t seat r at safe (w, stamp, stand, ready, did) = done_keeps v t seat r w _ (λ never. never) (ap (λ (s : Session). s.over) did.0.own)
 
 pub waits_keeps : (v t : View) (seat : ℕ) (r : Option Receipt) (wait : Wait) → DidNotSettle v seat wait t → KeepsReceipt v seat r t r
 waits_keeps v t seat r wait did = still_keeps v t seat r did.0
@@ -141,7 +144,7 @@ operation_keeps v t seat r c a active did = grown_keeps v t seat r (operated_goe
 watched_keeps : (v t : View) (seat : ℕ) (r : Option Receipt) → Watches v seat t → KeepsReceipt v seat r t r
 watched_keeps v t seat r it = elim it.over as (λ _. KeepsReceipt v seat r t r) [
   | inl same ↦ same_keeps v t seat r same
-  | inr more ↦ done_keeps v t seat r more.0 world.aborts (λ never. never) more.1
+  | inr more ↦ done_keeps v t seat r more.0.work more.0.fate more.1 more.2
 ]
 
 pub snapshot_keeps : (v t : View) (seat : ℕ) (r : Option Receipt) (c : Command) (a : Answer) → (phase_at v seat ≡ Active → ⊥) → DidOfSnapshot v seat c a t → KeepsReceipt v seat r t r

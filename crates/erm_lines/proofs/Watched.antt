@@ -8,21 +8,21 @@ use Rattle.erm_script.specs.declared.script.Command.{Command}
 use Rattle.erm_script.specs.declared.script.Command.TheVariants as command
 use Rattle.erm_script.specs.declared.script.ScriptLine.{ScriptLine}
 use Rattle.erm_world.specs.Calls.{Becomes, IsDone}
-use Rattle.erm_world.specs.Safe.{DidBeginSafe, HasSnapshot, with_snapshot}
+use Rattle.erm_world.specs.Safe.{DidBeginSafe, HasSnapshot, with_snapshot, DidMark}
 use Rattle.erm_world.specs.Snapshots.{snapshot_not_active}
-use Rattle.erm_world.specs.World.{Finished, IsSession, Session, Snapshot, Stand, View, Work, phase_at, phase_of, work_at}
+use Rattle.erm_world.specs.World.{Finished, IsSession, Session, Snapshot, Stand, View, Work, phase_at, phase_of, work_at, marking}
 use Rattle.erm_world.specs.World as world
 use Rattle.erm_good_report.specs.Phases.{FitsRefusal, HasNoSnapshot, IsAnswerTo, Need, NeedsReader, NeedsSnapshot, NeedsWriter, need_of, refusal_for, refusal_of}
 use Rattle.erm_good_report.specs.Transactions.{table_of}
-use Rattle.erm_lines.specs.Answers.{DidAskDurable, DidAskSafe, DidAskSnapshot, DidAsked, DidCommand, DidIn, DidLine, DidOfSnapshot}
+use Rattle.erm_lines.specs.Answers.{DidAskDurable, DidAskSafe, DidAskSnapshot, DidAsked, DidCommand, DidIn, DidLine, DidOfSnapshot, DidAskMark, DidDecide, IsCommitted}
 use Rattle.erm_lines.specs.Whole.{is_snapshot}
 use Rattle.erm_lines.proofs.Moved.{IsOfActive, active_where, asked_still}
 
--- The session isn't active then; what is over is as before, or one more that was aborted; and nothing else changed.
+-- The session isn't active then; what is over is as before, or one more that didn't commit; and nothing else changed but the log's end.
 pub record Watches (v : View) (seat : ℕ) (t : View) : Type 0 where
   pub inactive : phase_at t seat ≡ Active → ⊥
   pub over : ((t.session seat).over ≡ (v.session seat).over)
-      ⊎ ((w : Work) × ((t.session seat).over ≡ (v.session seat).over ++ record { work = w; fate = world.aborts } ∷ []))
+      ⊎ ((f : Finished) × (IsCommitted f.fate → ⊥) × ((t.session seat).over ≡ (v.session seat).over ++ f ∷ []))
   pub others : (q : ℕ) → q ≢ seat → t.session q ≡ v.session q
   pub saves : (q : ℕ) → q ≢ seat → t.saves q ≡ v.saves q
   pub opening : t.opening ≡ v.opening
@@ -54,7 +54,7 @@ goes_on v t seat s did = record {
 ends : (v t : View) (seat : ℕ) (w : Work) → IsDone v seat w world.aborts t → Watches v seat t
 ends v t seat w did = record {
   inactive = λ active. let at = ap (λ (x : Session). phase_of x.stand) did.own in cc;
-  over = inr (w, ap (λ (x : Session). x.over) did.own);
+  over = inr (record { work = w; fate = world.aborts }, (λ never. never), ap (λ (x : Session). x.over) did.own);
   others = did.others;
   saves = did.saves.others;
   opening = did.opening;
@@ -62,15 +62,65 @@ ends v t seat w did = record {
   pinned = did.pinned;
 }
 
+-- one step behind another that leaves what is over
+over_then : (v u t : View) (seat : ℕ) → (u.session seat).over ≡ (v.session seat).over
+    → ((t.session seat).over ≡ (u.session seat).over) ⊎ ((f : Finished) × (IsCommitted f.fate → ⊥) × ((t.session seat).over ≡ (u.session seat).over ++ f ∷ []))
+    → ((t.session seat).over ≡ (v.session seat).over) ⊎ ((f : Finished) × (IsCommitted f.fate → ⊥) × ((t.session seat).over ≡ (v.session seat).over ++ f ∷ []))
+over_then v u t seat over (inl same) = inl (same ∙ over)
+over_then v u t seat over (inr more) = inr (more.0, more.1, more.2 ∙ ap (λ (fs : List Finished). fs ++ more.0 ∷ []) over)
+
+-- a mark that is sealed, and decided or not then
+mark_sealed : (v t : View) (seat stamp : ℕ) → DidMark v seat stamp t → Watches v seat t
+mark_sealed v t seat stamp did = record {
+  inactive = λ active. let at = ap (λ (x : Session). phase_of x.stand) did.seals.own in cc;
+  over = inl (ap (λ (x : Session). x.over) did.seals.own);
+  others = did.seals.others;
+  saves = did.seals.saves;
+  opening = did.seals.opening;
+  flushed = did.seals.flushed;
+  pinned = did.seals.pinned;
+}
+
+-- what is sealed with a mark isn't a transaction
+is_marking : (stand : Stand) (w u : Work) (stamp at : ℕ) → stand ≡ world.sealed w stamp → stand ≡ world.sealed u at → w.is_mark ≡ true → u.is_mark ≡ false → ⊥
+is_marking stand w u stamp at one other mark plain = let same : w ≡ u = cc in cc
+
+mark_settled : (v t : View) (seat stamp : ℕ) (s : Snapshot) (a : Answer) → (v.session seat).stand ≡ world.sealed (marking s) stamp → DidDecide v seat a t → Watches v seat t
+mark_settled v t seat stamp s (answer.Committed at succ pred) stand (r, stamp_is, succ_is, pred_is, (w, own, sealed, ready, did)) =
+    absurd (is_marking (v.session seat).stand (marking s) w stamp own stand sealed refl did.1)
+mark_settled v t seat stamp s (answer.Excluded at succ pred) stand (w, own, sealed, ready, did) = absurd (is_marking (v.session seat).stand (marking s) w stamp own stand sealed refl did.1)
+mark_settled v t seat stamp s (answer.Marked safe at) stand (w, own, sealed, ready, did) = record {
+  inactive = λ active. let idle = ap (λ (x : Session). phase_of x.stand) did.0.own in cc;
+  over = inr (record { work = w; fate = world.marked own w.begin }, (λ never. never), ap (λ (x : Session). x.over) did.0.own);
+  others = did.0.others;
+  saves = did.0.saves.others;
+  opening = did.0.opening;
+  flushed = did.0.flushed;
+  pinned = did.0.pinned;
+}
+mark_settled v t seat stamp s (answer.WaitSeat other seen) stand (is, waits) = still v t seat (λ active. let sealed = ap phase_of stand in cc) is
+mark_settled v t seat stamp s (answer.WaitRing flushed) stand (is, waits) = still v t seat (λ active. let sealed = ap phase_of stand in cc) is
+mark_settled v t seat stamp s a stand did = absurd did
+
+asked_mark : (v t : View) (seat : ℕ) (a : Answer) → DidAskMark v seat a t → Watches v seat t
+asked_mark v t seat a did =
+    let first = mark_sealed v did.between seat did.stamp did.sealed in
+    let second = mark_settled did.between t seat did.stamp did.sealed.snapshot a (ap (λ (x : Session). x.stand) did.sealed.seals.own) did.decided in record {
+      inactive = second.inactive;
+      over = over_then v did.between t seat (ap (λ (x : Session). x.over) did.sealed.seals.own) second.over;
+      others = λ q another. second.others q another ∙ first.others q another;
+      saves = λ q another. second.saves q another ∙ first.saves q another;
+      opening = second.opening ∙ first.opening;
+      flushed = second.flushed ∙ first.flushed;
+      pinned = second.pinned ∙ first.pinned;
+    }
+
 -- a snapshot that was begun, and asked then
 begun_then : (v u t : View) (seat begin : ℕ) → DidBeginSafe v seat begin u → Watches u seat t → Watches v seat t
 begun_then v u t seat begin began asked =
     let over = ap (λ (x : Session). x.over) began.3.own in record {
       inactive = asked.inactive;
-      over = elim asked.over as (λ _. ((t.session seat).over ≡ (v.session seat).over) ⊎ ((w : Work) × ((t.session seat).over ≡ (v.session seat).over ++ record { work = w; fate = world.aborts } ∷ []))) [
-        | inl same ↦ inl (same ∙ over)
-        | inr more ↦ inr (more.0, more.1 ∙ ap (λ (fs : List Finished). fs ++ record { work = more.0; fate = world.aborts } ∷ []) over)
-      ];
+      over = over_then v u t seat over asked.over;
       others = λ q another. asked.others q another ∙ began.3.others q another;
       saves = λ q another. asked.saves q another ∙ began.3.saves.others q another;
       opening = asked.opening ∙ began.3.opening;
@@ -98,6 +148,7 @@ watched v t seat (command.Get table key) (answer.Replied r) rests did = still v 
 watched v t seat (command.Next table from) (answer.Replied r) rests did = still v t seat rests did.same
 watched v t seat (command.Scan table low high) (answer.Replied r) rests did = still v t seat rests did.same
 watched v t seat command.Commit answer.Ended rests did = ends v t seat (work_at v seat) did
+watched v t seat command.Mark a rests did = asked_mark v t seat a did
 watched v t seat command.Abort answer.Aborted rests did = ends v t seat (work_at v seat) did
 watched v t seat command.Durable a rests did = still v t seat rests (asked_still v t seat a did)
 watched v t seat c a rests did = absurd did
@@ -194,21 +245,22 @@ begun_pending v t seat begin did = ap (λ (s : Session). phase_of s.stand) did.3
 
 -- what of a snapshot's lines is left to the looks
 pub looks_are_safe : (p : Phase) (c : Command) → is_snapshot p ≡ true → c ≢ command.Safe → c ≢ command.Commit → c ≢ command.Abort → IsSome (need_of c) → refusal_of p c ≡ None
-    → (p ≡ Safe) × IsSome (table_of c)
-looks_are_safe Safe (command.Get table key) is one two three asks free = (refl, refl)
-looks_are_safe Safe (command.Next table from) is one two three asks free = (refl, refl)
-looks_are_safe Safe (command.Scan table low high) is one two three asks free = (refl, refl)
-looks_are_safe p command.Safe is one two three asks free = absurd (one refl)
-looks_are_safe p command.Commit is one two three asks free = absurd (two refl)
-looks_are_safe p command.Abort is one two three asks free = absurd (three refl)
-looks_are_safe p command.Durable is one two three asks free = absurd (cc)
-looks_are_safe p command.Flush is one two three asks free = absurd (cc)
-looks_are_safe p command.Checkpoint is one two three asks free = absurd (cc)
-looks_are_safe Idle c is one two three asks free = absurd (cc)
-looks_are_safe Active c is one two three asks free = absurd (cc)
-looks_are_safe Sealed c is one two three asks free = absurd (cc)
-looks_are_safe Pending c is one two three asks free = absurd (cc)
-looks_are_safe Safe c is one two three asks free = absurd (cc)
+    → c ≢ command.Mark → (p ≡ Safe) × IsSome (table_of c)
+looks_are_safe Safe (command.Get table key) is one two three asks free four = (refl, refl)
+looks_are_safe Safe (command.Next table from) is one two three asks free four = (refl, refl)
+looks_are_safe Safe (command.Scan table low high) is one two three asks free four = (refl, refl)
+looks_are_safe p command.Safe is one two three asks free four = absurd (one refl)
+looks_are_safe p command.Commit is one two three asks free four = absurd (two refl)
+looks_are_safe p command.Abort is one two three asks free four = absurd (three refl)
+looks_are_safe p command.Mark is one two three asks free four = absurd (four refl)
+looks_are_safe p command.Durable is one two three asks free four = absurd (cc)
+looks_are_safe p command.Flush is one two three asks free four = absurd (cc)
+looks_are_safe p command.Checkpoint is one two three asks free four = absurd (cc)
+looks_are_safe Idle c is one two three asks free four = absurd (cc)
+looks_are_safe Active c is one two three asks free four = absurd (cc)
+looks_are_safe Sealed c is one two three asks free four = absurd (cc)
+looks_are_safe Pending c is one two three asks free four = absurd (cc)
+looks_are_safe Safe c is one two three asks free four = absurd (cc)
 
 -- THE PHASE in which a command is allowed, of a session without a snapshot
 pub idle_where : (p : Phase) (c : Command) → refusal_of p c ≡ None → c ≡ command.Begin → p ≡ Idle
@@ -279,6 +331,14 @@ pending_where Active c is free asks = absurd (cc)
 pending_where Sealed c is free asks = absurd (cc)
 pending_where Pending c is free asks = refl
 pending_where Safe c is free asks = absurd (let no = ap (λ (d : Command). refusal_of Safe d) (sym asks) ∙ free in cc)
+
+-- and where a `mark` isn't, a safe one
+pub safe_where : (p : Phase) (c : Command) → is_snapshot p ≡ true → refusal_of p c ≡ None → c ≡ command.Mark → p ≡ Safe
+safe_where Idle c is free asks = absurd (cc)
+safe_where Active c is free asks = absurd (cc)
+safe_where Sealed c is free asks = absurd (cc)
+safe_where Pending c is free asks = absurd (let no = ap (λ (d : Command). refusal_of Pending d) (sym asks) ∙ free in cc)
+safe_where Safe c is free asks = refl
 
 -- a command that was told no refusal is refused by no phase that is this one
 pub is_free : (told : Option Answer) (p q : Phase) (c : Command) → told ≡ refusal_of p c → p ≡ q → ((a : Answer) → told ≡ Some a → ⊥) → refusal_of q c ≡ None

@@ -2,6 +2,7 @@ pub mod Blocks
 pub mod Commits
 pub mod Halfway
 pub mod Lists
+pub mod Marks
 pub mod Restored
 pub mod Saves
 pub mod Serial
