@@ -7,16 +7,23 @@ use Rattle.erm_report.specs.declared.answer.Answer.TheVariants as answer
 use Rattle.erm_script.specs.declared.script.Command.{Command}
 use Rattle.erm_script.specs.declared.script.Command.TheVariants as command
 use Rattle.erm_script.specs.declared.script.ScriptLine.{ScriptLine}
-use Rattle.erm_world.specs.Calls.{Becomes, IsDone}
+use Rattle.erm_world.specs.Calls.{Becomes, IsDone, DidSeal, DidSettle, DidNotSettle, IsInTheWay}
 use Rattle.erm_world.specs.Safe.{DidBeginSafe, HasSnapshot, with_snapshot, DidMark}
 use Rattle.erm_world.specs.Snapshots.{snapshot_not_active}
-use Rattle.erm_world.specs.World.{Finished, IsSession, Session, Snapshot, Stand, View, Work, phase_at, phase_of, work_at, marking}
+use Rattle.erm_world.specs.World.{Finished, IsSession, Session, Snapshot, Stand, View, Work, phase_at, phase_of, work_at, marking, work_of}
 use Rattle.erm_world.specs.World as world
-use Rattle.erm_good_report.specs.Phases.{FitsRefusal, HasNoSnapshot, IsAnswerTo, Need, NeedsReader, NeedsSnapshot, NeedsWriter, need_of, refusal_for, refusal_of}
+use Rattle.erm_good_report.specs.Phases.{FitsRefusal, HasNoSnapshot, IsAnswerTo, Need, NeedsReader, NeedsSnapshot, NeedsWriter, need_of, refusal_for, refusal_of, Closes, IsOutcome}
 use Rattle.erm_good_report.specs.Transactions.{table_of}
 use Rattle.erm_lines.specs.Answers.{DidAskDurable, DidAskSafe, DidAskSnapshot, DidAsked, DidCommand, DidIn, DidLine, DidOfSnapshot, DidAskMark, DidDecide, IsCommitted}
-use Rattle.erm_lines.specs.Whole.{is_snapshot}
+use Rattle.erm_lines.specs.Whole.{is_snapshot, WasWatched}
 use Rattle.erm_lines.proofs.Moved.{IsOfActive, active_where, asked_still}
+use Rattle.erm_world.specs.Laws.{IsSerializable}
+use Rattle.erm_model.specs.RowTransaction.{Law}
+use Rattle.erm_world.specs.declared.stops.Wait.{Wait}
+use Rattle.erm_world.specs.declared.stops.Wait.TheVariants as wait
+use Rattle.erm_world.proofs.Marks.{none_in_the_way}
+use Rattle.erm_model.specs.declared.outcome.Outcome.{Outcome}
+use Rattle.erm_model.specs.declared.outcome.Outcome.TheVariants as outcome
 
 -- The session isn't active then; what is over is as before, or one more that didn't commit; and nothing else changed but the log's end.
 pub record Watches (v : View) (seat : ℕ) (t : View) : Type 0 where
@@ -114,6 +121,45 @@ asked_mark v t seat a did =
       flushed = second.flushed ∙ first.flushed;
       pinned = second.pinned ∙ first.pinned;
     }
+
+-- A mark is sealed, and settled as a mark alone, or waits for the ring alone.
+pub mark_seals : (v u : View) (seat at : ℕ) → DidMark v seat at u → phase_at u seat ≡ Sealed
+mark_seals v u seat at did = ap (λ (x : Session). phase_of x.stand) did.seals.own
+
+pub marked_watched : (v u t : View) (seat at stamp safe : ℕ) → DidMark v seat at u → DidSettle u seat (outcome.Marked stamp safe) t → WasWatched v seat command.Mark (answer.Marked safe stamp) t
+marked_watched v u t seat at stamp safe sealed did = record { fits = tt; did = record { stamp = at; between = u; sealed = sealed; decided = did } }
+
+pub mark_waits : (v u t : View) (seat at flushed : ℕ) → DidMark v seat at u → DidNotSettle u seat (wait.Ring flushed) t → WasWatched v seat command.Mark (answer.WaitRing flushed) t
+mark_waits v u t seat at flushed sealed did = record { fits = tt; did = record { stamp = at; between = u; sealed = sealed; decided = did } }
+
+pub marks_only : (v u t : View) (seat at : ℕ) (o : Outcome) → DidMark v seat at u → DidSettle u seat o t → ((stamp safe : ℕ) → o ≢ outcome.Marked stamp safe) → ⊥
+marks_only v u t seat at (outcome.Committed r) sealed (w, own, stand, ready, did) not =
+    is_marking (u.session seat).stand (marking sealed.snapshot) w at own (ap (λ (x : Session). x.stand) sealed.seals.own) stand refl did.1
+marks_only v u t seat at (outcome.Excluded stamp succ pred) sealed (w, own, stand, ready, did) not =
+    is_marking (u.session seat).stand (marking sealed.snapshot) w at own (ap (λ (x : Session). x.stand) sealed.seals.own) stand refl did.1
+marks_only v u t seat at (outcome.Marked stamp safe) sealed did not = not stamp safe refl
+
+pub waits_only : (v u t : View) (seat at : ℕ) (stop : Wait) → DidMark v seat at u → DidNotSettle u seat stop t → ((flushed : ℕ) → stop ≢ wait.Ring flushed) → ⊥
+waits_only v u t seat at (wait.Ring flushed) sealed did not = not flushed refl
+waits_only v u t seat at (wait.Seat other seen) sealed (is, (w, stamp, stand, waits)) not =
+    none_in_the_way u seat sealed.snapshot stamp other seen (subst (λ (x : Work). IsInTheWay u seat x stamp other seen) (ap work_of (sym stand ∙ ap (λ (x : Session). x.stand) sealed.seals.own)) waits.1)
+
+-- a transaction, which is no mark, isn't marked
+pub outcome_where : (v t : View) (seat : ℕ) (a : Answer) → (work_at v seat).is_mark ≡ false → Closes Sealed a → DidDecide v seat a t → IsOutcome a
+outcome_where v t seat (answer.Committed stamp succ pred) plain closes did = tt
+outcome_where v t seat (answer.Excluded stamp succ pred) plain closes did = tt
+outcome_where v t seat (answer.Marked safe stamp) plain closes (w, own, sealed, ready, did) = absurd (let same : work_at v seat ≡ w = ap work_of sealed in let marks = did.1 in cc)
+outcome_where v t seat a plain closes did = absurd closes
+
+active_with : (stand : Stand) → phase_of stand ≡ Active → stand ≡ world.active (work_of stand)
+active_with world.idle is = absurd (cc)
+active_with (world.active w) is = refl
+active_with (world.sealed w stamp) is = absurd (cc)
+active_with (world.snapshot s) is = absurd (snapshot_not_active s is)
+
+pub seals_no_mark : (law : Law) (v t : View) (seat stamp : ℕ) → IsSerializable law v → IsSession v seat → phase_at v seat ≡ Active → DidSeal v seat stamp t → (work_at t seat).is_mark ≡ false
+seals_no_mark law v t seat stamp sound session active did =
+    ap (λ (x : Session). (work_of x.stand).is_mark) did.own ∙ sound.unmarked seat (work_at v seat) session (active_with (v.session seat).stand active)
 
 -- a snapshot that was begun, and asked then
 begun_then : (v u t : View) (seat begin : ℕ) → DidBeginSafe v seat begin u → Watches u seat t → Watches v seat t
@@ -294,25 +340,34 @@ pub record Operates (c : Command) : Type 0 where
   pub of : IsOfActive need
   pub named : IsSome (table_of c)
 
+-- a session without a snapshot marks nothing
+no_mark : (p : Phase) → HasNoSnapshot p → refusal_of p command.Mark ≡ None → ⊥
+no_mark Idle plain free = cc
+no_mark Active plain free = cc
+no_mark Sealed plain free = cc
+no_mark Pending plain free = plain
+no_mark Safe plain free = plain
+
 pub operates : (c : Command) → IsSome (need_of c) → c ≢ command.Begin → c ≢ command.Safe → c ≢ command.Save → ((n : ℕ) → c ≢ command.Back n) → c ≢ command.Seal → c ≢ command.Settle → c ≢ command.Commit → c ≢ command.Abort
-    → Operates c
-operates command.Begin asks a b save back d e f g = absurd (a refl)
-operates command.Safe asks a b save back d e f g = absurd (b refl)
-operates command.Save asks a b save back d e f g = absurd (save refl)
-operates (command.Back n) asks a b save back d e f g = absurd (back n refl)
-operates command.Seal asks a b save back d e f g = absurd (d refl)
-operates command.Settle asks a b save back d e f g = absurd (e refl)
-operates command.Commit asks a b save back d e f g = absurd (f refl)
-operates command.Abort asks a b save back d e f g = absurd (g refl)
-operates (command.Get table key) asks a b save back d e f g = record { need = NeedsReader; needs = refl; of = tt; named = refl }
-operates (command.Put table key value) asks a b save back d e f g = record { need = NeedsWriter; needs = refl; of = tt; named = refl }
-operates (command.Del table key) asks a b save back d e f g = record { need = NeedsWriter; needs = refl; of = tt; named = refl }
-operates (command.Next table from) asks a b save back d e f g = record { need = NeedsReader; needs = refl; of = tt; named = refl }
-operates (command.Scan table low high) asks a b save back d e f g = record { need = NeedsReader; needs = refl; of = tt; named = refl }
-operates (command.Tidy table key) asks a b save back d e f g = record { need = NeedsWriter; needs = refl; of = tt; named = refl }
-operates command.Durable asks a b save back d e f g = absurd (cc)
-operates command.Flush asks a b save back d e f g = absurd (cc)
-operates command.Checkpoint asks a b save back d e f g = absurd (cc)
+    → (p : Phase) → HasNoSnapshot p → refusal_of p c ≡ None → Operates c
+operates command.Begin asks a b save back d e f g p plain free = absurd (a refl)
+operates command.Safe asks a b save back d e f g p plain free = absurd (b refl)
+operates command.Save asks a b save back d e f g p plain free = absurd (save refl)
+operates (command.Back n) asks a b save back d e f g p plain free = absurd (back n refl)
+operates command.Seal asks a b save back d e f g p plain free = absurd (d refl)
+operates command.Settle asks a b save back d e f g p plain free = absurd (e refl)
+operates command.Commit asks a b save back d e f g p plain free = absurd (f refl)
+operates command.Abort asks a b save back d e f g p plain free = absurd (g refl)
+operates (command.Get table key) asks a b save back d e f g p plain free = record { need = NeedsReader; needs = refl; of = tt; named = refl }
+operates (command.Put table key value) asks a b save back d e f g p plain free = record { need = NeedsWriter; needs = refl; of = tt; named = refl }
+operates (command.Del table key) asks a b save back d e f g p plain free = record { need = NeedsWriter; needs = refl; of = tt; named = refl }
+operates (command.Next table from) asks a b save back d e f g p plain free = record { need = NeedsReader; needs = refl; of = tt; named = refl }
+operates (command.Scan table low high) asks a b save back d e f g p plain free = record { need = NeedsReader; needs = refl; of = tt; named = refl }
+operates (command.Tidy table key) asks a b save back d e f g p plain free = record { need = NeedsWriter; needs = refl; of = tt; named = refl }
+operates command.Mark asks a b save back d e f g p plain free = absurd (no_mark p plain free)
+operates command.Durable asks a b save back d e f g p plain free = absurd (cc)
+operates command.Flush asks a b save back d e f g p plain free = absurd (cc)
+operates command.Checkpoint asks a b save back d e f g p plain free = absurd (cc)
 
 pub snapshot_rests : (v : View) (seat : ℕ) → is_snapshot (phase_at v seat) ≡ true → phase_at v seat ≡ Active → ⊥
 snapshot_rests v seat is active = let no = sym (ap (λ (p : Phase). is_snapshot p) active) ∙ is in cc

@@ -71,10 +71,17 @@ fn mark<W: SafeWorld>(world: &mut W, seat: Seat) -> Answer
 {
     world.mark(seat);
     match world.settle(seat) {
-        Ok(Outcome::Marked { stamp, safe }) => Answer::Marked { safe, stamp },
-        Err(Wait::Ring { flushed }) => Answer::WaitRing { flushed },
-        Ok(Outcome::Committed(_) | Outcome::Excluded { .. }) | Err(Wait::Seat { .. }) => {
-            unreachable!()
+        Ok(outcome) => {
+            let Outcome::Marked { stamp, safe } = outcome else {
+                unreachable!()
+            };
+            Answer::Marked { safe, stamp }
+        }
+        Err(wait) => {
+            let Wait::Ring { flushed } = wait else {
+                unreachable!()
+            };
+            Answer::WaitRing { flushed }
         }
     }
 }

@@ -17,15 +17,16 @@ use Rattle.erm_world.specs.World.{View, phase_at, work_at}
 use Rattle.erm_good_report.specs.Phases.{Closes, FitsPhase, IsAnswerTo, refusal_of}
 use Rattle.erm_lines.specs.Answers.{DidAskBack, DidAskDurable, DidAskSave}
 use Rattle.erm_beside.specs.Calls.{After, DidBeginBeside, DidSettleBeside, MayNotBeginBeside, Passes}
-use Rattle.erm_beside.specs.Safe.{DidBeginSafeBeside, DidSafeBeside, NotSafeBeside, NotSafeMet}
+use Rattle.erm_beside.specs.Safe.{DidBeginSafeBeside, DidSafeBeside, NotSafeBeside, NotSafeMet, DidMarkBeside}
 use Rattle.erm_lines_at_once.specs.Looks.{DidLookBeside}
 use Rattle.erm_lines_at_once.specs.Operations.{DidOperationBeside}
 
--- a sealed transaction was decided, after any waits
+-- a sealed transaction was decided, or a mark was marked, after any waits
 abbrev pub DidDecideBeside : ℕ → Answer → View → View → Type 0
 DidDecideBeside seat (answer.Committed stamp succ pred) v t =
     (r : Receipt) × (r.stamp ≡ stamp) × (r.succ ≡ succ) × (r.pred ≡ pred) × After seat (DidSettleBeside seat (outcome.Committed r)) v t
 DidDecideBeside seat (answer.Excluded stamp succ pred) v t = After seat (DidSettleBeside seat (outcome.Excluded stamp succ pred)) v t
+DidDecideBeside seat (answer.Marked safe stamp) v t = After seat (DidSettleBeside seat (outcome.Marked stamp safe)) v t
 DidDecideBeside seat a v t = ⊥
 
 -- it was sealed, and then decided
@@ -33,6 +34,13 @@ pub record DidCommitBeside (seat : ℕ) (a : Answer) (v t : View) : Type 0 where
   pub stamp : ℕ
   pub between : View
   pub sealed : After seat (λ u w. DidSeal u seat stamp w) v between
+  pub decided : DidDecideBeside seat a between t
+
+-- a safe snapshot was sealed, and its mark then marked
+pub record DidAskMarkBeside (seat : ℕ) (a : Answer) (v t : View) : Type 0 where
+  pub stamp : ℕ
+  pub between : View
+  pub sealed : After seat (DidMarkBeside seat stamp) v between
   pub decided : DidDecideBeside seat a between t
 
 -- The session's snapshot, which isn't known to be safe yet, was asked whether it is, after any waits. It is, and the answer tells its begin stamp, which is
@@ -85,6 +93,7 @@ DidOfSnapshotBeside f seat (command.Get table key) (answer.Replied r) v t = DidL
 DidOfSnapshotBeside f seat (command.Next table from) (answer.Replied r) v t = DidLookBeside f seat (command.Next table from) r v t
 DidOfSnapshotBeside f seat (command.Scan table low high) (answer.Replied r) v t = DidLookBeside f seat (command.Scan table low high) r v t
 DidOfSnapshotBeside f seat command.Commit answer.Ended v t = After seat (λ u w. DidAbort u seat w) v t
+DidOfSnapshotBeside f seat command.Mark a v t = DidAskMarkBeside seat a v t
 DidOfSnapshotBeside f seat command.Abort answer.Aborted v t = After seat (λ u w. DidAbort u seat w) v t
 DidOfSnapshotBeside f seat command.Durable (answer.Durable stamp) v t = After seat (λ u w. DidAskDurable u seat (answer.Durable stamp) w) v t
 DidOfSnapshotBeside f seat command.Durable answer.NoReceipt v t = After seat (λ u w. DidAskDurable u seat answer.NoReceipt w) v t

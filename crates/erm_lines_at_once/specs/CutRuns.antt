@@ -2,7 +2,7 @@
 use Rattle.std.specs.Prelude.{◌≡◌, ℕ, ◌==◌, ◌<◌, ◌≤◌, List, filter, length, Option, Some, None}
 use Rattle.std.specs.List.{AllPairs, slice_get}
 use Rattle.erm_model.specs.declared.limits.TheConstants.{LAST_NUMBER}
-use Rattle.erm_model.specs.declared.outcome.Phase.TheVariants.{Active, Idle, Sealed}
+use Rattle.erm_model.specs.declared.outcome.Phase.TheVariants.{Active, Idle, Sealed, Safe}
 use Rattle.erm_model.specs.Member.{◌∈◌}
 use Rattle.erm_report.specs.declared.answer.Answer.{Answer}
 use Rattle.erm_script.specs.declared.script.Command.TheVariants as command
@@ -15,7 +15,7 @@ use Rattle.erm_good_report.specs.Phases.{Closed, Closes}
 use Rattle.erm_good_at_once.specs.CutReports.{answered_of}
 use Rattle.erm_lines.specs.Executions.{IsOpened, Move}
 use Rattle.erm_beside.specs.Calls.{After, Passes}
-use Rattle.erm_beside.specs.Safe.{DidBeginSafeBeside}
+use Rattle.erm_beside.specs.Safe.{DidBeginSafeBeside, DidMarkBeside}
 use Rattle.erm_lines_at_once.specs.Ends.{IsEnd}
 use Rattle.erm_lines_at_once.specs.Executions.{IsOwnRun, all_moves}
 use Rattle.erm_lines_at_once.specs.Operations.{WasTried}
@@ -37,6 +37,9 @@ pub data IsRest (f : View) (seat : ℕ) (next : Option ScriptLine) (v t : View) 
   aborted : (u : View) → phase_at v seat ≡ Active → Waited f seat next v u → DidAbort u seat t → IsRest f seat next v t
   -- its commit drew a stamp, and waits
   drew : (l : ScriptLine) (stamp : ℕ) → phase_at v seat ≡ Active → next ≡ Some l → l.command ≡ command.Commit → After seat (λ u w. DidSeal u seat stamp w) v t
+      → IsRest f seat next v t
+  -- the mark of its safe snapshot drew a place, and waits
+  marks : (l : ScriptLine) (stamp : ℕ) → phase_at v seat ≡ Safe → next ≡ Some l → l.command ≡ command.Mark → After seat (DidMarkBeside seat stamp) v t
       → IsRest f seat next v t
   -- its next line began a snapshot, which waits to be safe
   watched : (l : ScriptLine) (begin : ℕ) → phase_at v seat ≡ Idle → next ≡ Some l → l.command ≡ command.Safe → After seat (DidBeginSafeBeside seat begin) v t

@@ -60,7 +60,7 @@ pub fn abort<S: SharedSession>(session: &mut S, shared: &S::Shared) -> Answer
     Answer::Aborted
 }
 
-/// Decides a sealed transaction, whose receipt becomes the session's last where it commits, or says for what it waits.
+/// Decides a sealed transaction, whose receipt becomes the session's last where it commits, or the mark of a snapshot, or says for what it waits.
 pub fn decide<S: SharedSession>(
     session: &mut S,
     shared: &S::Shared,
@@ -85,6 +85,7 @@ pub fn decide<S: SharedSession>(
             })
         }
         Outcome::Excluded { stamp, succ, pred } => Ok(Answer::Excluded { stamp, succ, pred }),
+        Outcome::Marked { stamp, safe } => Ok(Answer::Marked { safe, stamp }),
     }
 }
 
