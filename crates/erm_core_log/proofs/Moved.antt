@@ -228,9 +228,9 @@ module _ (s : Shared) (seats : ℕ → Part) (common : Ranges s seats) (p : ℕ)
 
   -- SEAL stores its state; the last step of a sealed transaction clears it
   pub seals_own : (value : ℕ) (pl : Place) (y : Part) → x.place ≡ pl → store_state p value x pl ≡ Some y → OwnRanges s p y
-  seals_own value (Active tail) y at e = when_then (OwnRanges s p) _ _ y e (λ _. record {
+  seals_own value (Active tail) y at e = let cur : IsUnsealed x.current = current_at (Active tail) at in when_then (OwnRanges s p) _ _ y e (λ _. record {
     seat_of = λ f. let v = own.seat_of f in absurd (cc);
-    current = current_at (Active tail) at;
+    current = record { stamp = cur.stamp; decision = cur.decision };
     decided = own.decided;
     kept = own.kept;
     ranges = own.ranges;

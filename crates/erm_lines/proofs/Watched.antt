@@ -89,7 +89,7 @@ mark_sealed v t seat stamp did = record {
 }
 
 -- what is sealed with a mark isn't a transaction
-is_marking : (stand : Stand) (w u : Work) (stamp at : ℕ) → stand ≡ world.sealed w stamp → stand ≡ world.sealed u at → w.is_mark ≡ true → u.is_mark ≡ false → ⊥
+pub is_marking : (stand : Stand) (w u : Work) (stamp at : ℕ) → stand ≡ world.sealed w stamp → stand ≡ world.sealed u at → w.is_mark ≡ true → u.is_mark ≡ false → ⊥
 is_marking stand w u stamp at one other mark plain = let same : w ≡ u = cc in cc
 
 mark_settled : (v t : View) (seat stamp : ℕ) (s : Snapshot) (a : Answer) → (v.session seat).stand ≡ world.sealed (marking s) stamp → DidDecide v seat a t → Watches v seat t
@@ -341,7 +341,7 @@ pub record Operates (c : Command) : Type 0 where
   pub named : IsSome (table_of c)
 
 -- a session without a snapshot marks nothing
-no_mark : (p : Phase) → HasNoSnapshot p → refusal_of p command.Mark ≡ None → ⊥
+pub no_mark : (p : Phase) → HasNoSnapshot p → refusal_of p command.Mark ≡ None → ⊥
 no_mark Idle plain free = cc
 no_mark Active plain free = cc
 no_mark Sealed plain free = cc

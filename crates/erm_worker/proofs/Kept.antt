@@ -12,7 +12,7 @@ use Rattle.erm_world.specs.Calls.{IsDone}
 use Rattle.erm_world.specs.Face.{Grows}
 use Rattle.erm_world.specs.Face as face
 use Rattle.erm_world.specs.Snapshots.{snapshot_not_active}
-use Rattle.erm_world.specs.World.{Fate, Finished, Session, Snapshot, Stand, View, Work, begun, phase_at, phase_of, work_at, work_of}
+use Rattle.erm_world.specs.World.{Fate, Finished, Session, Snapshot, View, Work, begun, phase_at, phase_of, work_at, work_of, marking}
 use Rattle.erm_world.specs.World as world
 use Rattle.erm_maps.specs.Runs.{IsRunOf, Kept, kept_at}
 use Rattle.erm_lines.specs.Answers.{IsReceiptOf}
@@ -26,6 +26,7 @@ use Rattle.erm_lines_at_once.specs.Answers.{DidAskSafeBeside, DidAskSnapshotBesi
 use Rattle.erm_lines_at_once.specs.Operations.{TriedOnce, WereCutBeside}
 use Rattle.erm_worker.specs.Work.{IsReady, IsRunNow}
 use Rattle.erm_worker.proofs.Waits.{ran_active}
+use Rattle.erm_lines.proofs.Watched.{is_marking}
 
 -- RUNS. Where a session stands otherwise, none is active.
 done_runs : (v t : View) (seat : ℕ) (w : Work) (fate : Fate) → IsDone v seat w fate t → IsRunNow t seat
@@ -34,6 +35,7 @@ done_runs v t seat w fate did = idle_runs t seat (ap (λ (s : Session). s.stand)
 pub decided_runs : (seat : ℕ) (a : Answer) (v t : View) → DidDecideBeside seat a v t → IsRunNow t seat
 decided_runs seat (answer.Committed stamp succ pred) v t (r, stamp_is, succ_is, pred_is, (u, passes, (w, at, stand, did))) = done_runs u t seat w _ did.0
 decided_runs seat (answer.Excluded stamp succ pred) v t (u, passes, (w, at, stand, did)) = done_runs u t seat w _ did.0
+decided_runs seat (answer.Marked safe stamp) v t (u, passes, (w, at, stand, did)) = done_runs u t seat w _ did.0
 decided_runs seat a v t did = absurd did
 
 -- OPERATIONS.
@@ -152,12 +154,30 @@ begun_snapshot_ready f seat a v t r ready did =
     let over : (did.between.session seat).over ≡ (v.session seat).over = ap (λ (s : Session). s.over) began.2.own ∙ ap (λ (s : Session). s.over) passes.own in
     asked_ready f seat a did.between t r (over_receipt (v.session seat) (did.between.session seat) r over ready.receipt) did.asked
 
+-- a mark ends its snapshot, and commits nothing
+marked_ready : (seat stamp : ℕ) (a : Answer) (v t : View) (r : Option Receipt) (s : Snapshot) → (v.session seat).stand ≡ world.sealed (marking s) stamp → IsReceiptOf (v.session seat).over r → DidDecideBeside seat a v t → IsReady t seat r
+marked_ready seat stamp (answer.Committed own succ pred) v t r s stand receipt (c, stamp_is, succ_is, pred_is, (u, passes, (w, at, sealed, did))) =
+    absurd (is_marking (u.session seat).stand (marking s) w stamp at (ap (λ (x : Session). x.stand) passes.own ∙ stand) sealed refl did.1)
+marked_ready seat stamp (answer.Excluded own succ pred) v t r s stand receipt (u, passes, (w, at, sealed, did)) =
+    absurd (is_marking (u.session seat).stand (marking s) w stamp at (ap (λ (x : Session). x.stand) passes.own ∙ stand) sealed refl did.1)
+marked_ready seat stamp (answer.Marked safe own) v t r s stand receipt (u, passes, (w, at, sealed, did)) =
+    let f : Finished = record { work = w; fate = world.marked at w.begin } in
+    let over : (t.session seat).over ≡ (v.session seat).over ++ f ∷ [] = ap (λ (x : Session). x.over) did.0.own ∙ ap (λ (x : Session). x.over ++ f ∷ []) passes.own in record {
+      run = done_runs u t seat w (world.marked at w.begin) did.0;
+      receipt = subst (λ (fs : List Finished). IsReceiptOf fs r) (sym over) (one_more (v.session seat).over f (λ never. never) r receipt);
+    }
+marked_ready seat stamp a v t r s stand receipt did = absurd did
+
 pub watched_ready : (f : View) (seat : ℕ) (c : Command) (a : Answer) (v t : View) (r : Option Receipt) → IsReady v seat r → DidOfSnapshotBeside f seat c a v t → IsReady t seat r
 watched_ready f seat command.Safe a v t r ready did = asked_ready f seat a v t r ready.receipt did
 watched_ready f seat (command.Get table key) (answer.Replied reply) v t r ready did = same_ready v t seat r did.passes.own did.passes.saves ready
 watched_ready f seat (command.Next table from) (answer.Replied reply) v t r ready did = same_ready v t seat r did.passes.own did.passes.saves ready
 watched_ready f seat (command.Scan table low high) (answer.Replied reply) v t r ready did = same_ready v t seat r did.passes.own did.passes.saves ready
 watched_ready f seat command.Commit answer.Ended v t r ready (u, passes, did) = ended_ready seat v u t r (work_at u seat) passes.own did ready.receipt
+watched_ready f seat command.Mark a v t r ready did =
+    let (u, passes, sealed) = did.sealed in
+    let over : (did.between.session seat).over ≡ (v.session seat).over = ap (λ (s : Session). s.over) sealed.seals.own ∙ ap (λ (s : Session). s.over) passes.own in
+    marked_ready seat did.stamp a did.between t r sealed.snapshot (ap (λ (s : Session). s.stand) sealed.seals.own) (over_receipt (v.session seat) (did.between.session seat) r over ready.receipt) did.decided
 watched_ready f seat command.Abort answer.Aborted v t r ready (u, passes, did) = ended_ready seat v u t r (work_at u seat) passes.own did ready.receipt
 watched_ready f seat command.Durable (answer.Durable stamp) v t r ready (u, passes, did) = still_ready v u t seat r passes did.0 ready
 watched_ready f seat command.Durable answer.NoReceipt v t r ready (u, passes, did) = still_ready v u t seat r passes did.0 ready

@@ -9,7 +9,7 @@ use Rattle.erm_beside.specs.Calls.{After, Passes}
 use Rattle.erm_beside.specs.Safe.{DidBeginSafeBeside}
 use Rattle.erm_lines_at_once.specs.CutRuns.{Waited, aborted, stood}
 use Rattle.erm_lines_at_once.specs.CutRuns as rest
-use Rattle.erm_worker.specs.Work.{GaveUp, HasWaited, WasLeft, asked, drew, tried, watched}
+use Rattle.erm_worker.specs.Work.{GaveUp, HasWaited, WasLeft, asked, drew, tried, watched, HasLooked, marks, stayed}
 use Rattle.erm_worker.proofs.Waits.{passes_itself, passes_phase, passes_then, tried_passes}
 
 idle_after : (v t : View) (seat : ℕ) → DidAbort v seat t → phase_at t seat ≡ Active → ⊥
@@ -38,6 +38,16 @@ aborted_left f seat next v u t active waited (w, passes, did) = record {
   rest = aborted w active (waited w passes) did;
   since = passes_itself seat t;
   inactive = idle_after w t seat did;
+}
+
+-- where it has a snapshot, this stands, or is sealed with its mark
+pub left_looking : (f : View) (seat : ℕ) (l : ScriptLine) (v t : View) → (phase_at v seat ≡ Active → ⊥) → HasLooked seat l.command v t → WasLeft f seat (Some l) v t
+left_looking f seat l v t rests (stayed passes) = stood_left f seat (Some l) v t t passes (λ active. rests (sym (passes_phase seat v t passes) ∙ active)) refl
+left_looking f seat l v t rests (marks stamp u safe is sealed passes) = record {
+  end = u;
+  rest = rest.marks l stamp safe refl is sealed;
+  since = passes;
+  inactive = λ active. let at = passes_phase seat u t passes in let so = ap (λ (s : Session). phase_of s.stand) sealed.2.seals.own in cc;
 }
 
 -- BEFORE a line

@@ -21,8 +21,7 @@ use Rattle.erm_lines_at_once.specs.Answers.{WasAnsweredBeside}
 use Rattle.erm_lines_at_once.proofs.Watched.{plain_line, refused_line as refused_one, snapshot_line}
 use Rattle.erm_worker.specs.Work.{GaveUp, IsReady, IsRunNow, RanLine, WasAsked, WasSettled, WasWatched}
 use Rattle.erm_worker.proofs.Kept.{begun_snapshot_ready, decided_runs, durable_ready, grown_receipt, watched_ready}
-use Rattle.erm_worker.proofs.Left.{left_waiting, stood_left}
-use Rattle.erm_worker.proofs.Waits.{passes_phase}
+use Rattle.erm_worker.proofs.Left.{left_waiting, left_looking}
 
 -- a transaction that is the run of some operations is lawful
 pub lawful_now : (law : Law) → SameLaw law sound_law → (v : View) (seat : ℕ) → phase_at v seat ≡ Active → IsRunNow v seat → IsLawfulWork law (work_at v seat)
@@ -82,8 +81,7 @@ answered_line f l a seat v t is plain allows asked =
 watched_so : (f : View) (l : ScriptLine) (answered : Option Answer) (v t : View) → is_snapshot (phase_at v l.session) ≡ true → refusal_of (phase_at v l.session) l.command ≡ None
     → WasWatched f l.session l.command answered v t → RanLine f l answered v t
 watched_so f l (Some a) v t has so it = snapshot_line f l a v t has so it
-watched_so f l None v t has so passes =
-    stood_left f l.session (Some l) v t t passes (λ active. snapshot_rests v l.session has (sym (passes_phase l.session v t passes) ∙ active)) refl
+watched_so f l None v t has so looked = left_looking f l.session l v t (snapshot_rests v l.session has) looked
 
 pub watched_line : (f : View) (l : ScriptLine) (answered : Option Answer) (seat : ℕ) (v t : View) → l.session ≡ seat → is_snapshot (phase_at v seat) ≡ true → refusal_of (phase_at v seat) l.command ≡ None
     → WasWatched f seat l.command answered v t → RanLine f l answered v t

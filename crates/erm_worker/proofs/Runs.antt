@@ -30,6 +30,7 @@ session_move command.Seal l a is = refl
 session_move command.Settle l a is = refl
 session_move command.Commit l a is = refl
 session_move command.Abort l a is = refl
+session_move command.Mark l a is = refl
 session_move command.Durable l a is = refl
 
 no_moves : (lines : List ScriptLine) → line_moves lines [] ≡ []

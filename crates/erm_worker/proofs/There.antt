@@ -21,6 +21,7 @@ use Rattle.erm_lines_at_once.specs.Answers.{DidCloseBeside, DidDecideBeside, Tri
 use Rattle.erm_worker.specs.Work.{IsRunNow, WasAsked, WasClosed, WasSettled}
 use Rattle.erm_worker.proofs.Asked.{durable_asked}
 use Rattle.erm_worker.proofs.Waits.{decided_passes, passes_phase, passes_then}
+use Rattle.erm_beside.specs.Safe.{DidMarkBeside}
 
 asked_same : (f : View) (seat : ℕ) (a : Answer) (u t : View) → TriedDurable f seat (Some a) u t → t.session seat ≡ u.session seat
 asked_same f seat (answer.Durable stamp) u t did = ap (λ (x : View). x.session seat) did.did.2.0 ∙ did.did.1.own
@@ -65,6 +66,9 @@ module _ (seat mid : ℕ) (is : mid ≡ seat) (v u : View) where
 
   pub sealed_phase : (stamp : ℕ) → After seat (λ y z. DidSeal y seat stamp z) v u → phase_at u mid ≡ Sealed
   sealed_phase stamp (w, passes, did) = ap (λ (n : ℕ). phase_at u n) is ∙ ap (λ (s : Session). phase_of s.stand) did.own
+
+pub marked_phase : (seat mid : ℕ) (is : mid ≡ seat) (v u : View) (stamp : ℕ) → After seat (DidMarkBeside seat stamp) v u → phase_at u mid ≡ Sealed
+marked_phase seat mid is v u stamp (w, passes, did) = ap (λ (n : ℕ). phase_at u n) is ∙ ap (λ (s : Session). phase_of s.stand) did.seals.own
 
 pub runs_there : (seat mid : ℕ) → mid ≡ seat → (u : View) → IsRunNow u seat → IsRunNow u mid
 runs_there seat mid is u run = subst (λ (n : ℕ). IsRunNow u n) (sym is) run

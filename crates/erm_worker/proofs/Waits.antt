@@ -46,6 +46,7 @@ pub decided_passes : (seat : ℕ) (a : Answer) (v u t : View) → Passes seat v 
 decided_passes seat (answer.Committed stamp succ pred) v u t passes (r, stamp_is, succ_is, pred_is, did) =
     (r, stamp_is, succ_is, pred_is, after_passes seat (DidSettleBeside seat (outcome.Committed r)) v u t passes did)
 decided_passes seat (answer.Excluded stamp succ pred) v u t passes did = after_passes seat (DidSettleBeside seat (outcome.Excluded stamp succ pred)) v u t passes did
+decided_passes seat (answer.Marked safe stamp) v u t passes did = after_passes seat (DidSettleBeside seat (outcome.Marked stamp safe)) v u t passes did
 decided_passes seat a v u t passes did = absurd did
 
 pub ran_active : (es : List Event) (v t : View) (seat : ℕ) → phase_at v seat ≡ Active → Ran v seat es t → phase_at t seat ≡ Active

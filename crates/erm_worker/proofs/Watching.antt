@@ -13,7 +13,7 @@ use Rattle.erm_beside.specs.Calls.{After, Passes}
 use Rattle.erm_beside.specs.Safe.{DidBeginSafeBeside}
 use Rattle.erm_lines_at_once.specs.Answers.{DidAskSafeBeside, TriedSafe, TriedSnapshot, WasAnsweredBeside}
 use Rattle.erm_lines_at_once.proofs.Watched.{asked_passes, tried_behind}
-use Rattle.erm_worker.specs.Work.{HasWaited, IsOfSession, WasAsked, WasWatched, asked, drew, tried, watched}
+use Rattle.erm_worker.specs.Work.{HasWaited, IsOfSession, WasAsked, WasWatched, asked, drew, tried, watched, stayed}
 use Rattle.erm_worker.proofs.Waits.{passes_then}
 
 -- ASKED as the session itself knows its seat, in a later state
@@ -26,7 +26,7 @@ safe_there f seat mid (Some a) v u t is passes once = record {
 
 -- so it is asked of a session with a snapshot
 pub watched_of : (f : View) (seat : ℕ) (answered : Option Answer) (v t : View) → TriedSafe f seat answered v t → WasWatched f seat command.Safe answered v t
-watched_of f seat None v t once = once
+watched_of f seat None v t once = stayed once
 watched_of f seat (Some a) v t once = once
 
 -- BEGUN, and then asked
@@ -51,7 +51,7 @@ durable_so f seat answer.NoReceipt v t was = record { fits = was.fits; did = was
 durable_so f seat a v t was = absurd was.did
 
 pub durable_watched : (f : View) (seat : ℕ) (answered : Option Answer) (v t : View) → HasSnapshot v seat → WasAsked f seat command.Durable answered v t → WasWatched f seat command.Durable answered v t
-durable_watched f seat None v t has waited = waited_passes f seat v t (snapshot_rests v seat (has_phase v seat has)) waited
+durable_watched f seat None v t has waited = stayed (waited_passes f seat v t (snapshot_rests v seat (has_phase v seat has)) waited)
 durable_watched f seat (Some a) v t has was = durable_so f seat a v t was
 
 -- what a command of a session is, but for `durable`

@@ -3,7 +3,7 @@ use Rattle.std.specs.Prelude.{◌≡◌, ℕ, ◌<◌, ◌≤◌, List, [], ◌�
 use Rattle.std.specs.List.{slice_get}
 use Rattle.erm_model.specs.declared.limits.TheConstants.{TABLES}
 use Rattle.erm_model.specs.declared.outcome.Phase.{Phase}
-use Rattle.erm_model.specs.declared.outcome.Phase.TheVariants.{Active, Idle, Sealed}
+use Rattle.erm_model.specs.declared.outcome.Phase.TheVariants.{Active, Idle, Sealed, Safe}
 use Rattle.erm_model.specs.declared.outcome.Receipt.{Receipt}
 use Rattle.erm_model.specs.Run.{Step}
 use Rattle.erm_report.specs.declared.answer.Answer.{Answer}
@@ -20,7 +20,7 @@ use Rattle.erm_good_report.specs.Transactions.{table_of}
 use Rattle.erm_lines.specs.Answers.{IsReceiptOf}
 use Rattle.erm_lines.specs.Executions.{line_moves}
 use Rattle.erm_beside.specs.Calls.{After, Passes}
-use Rattle.erm_beside.specs.Safe.{DidBeginSafeBeside}
+use Rattle.erm_beside.specs.Safe.{DidBeginSafeBeside, DidMarkBeside}
 use Rattle.erm_lines_at_once.specs.Answers.{DidDecideBeside, DidEndBeside, DidLineBeside, WasAnsweredBeside, WasWatchedBeside}
 use Rattle.erm_lines_at_once.specs.CutRuns.{IsRest}
 use Rattle.erm_lines_at_once.specs.Executions.{IsOwnRun}
@@ -69,10 +69,17 @@ abbrev pub WasAsked : View → ℕ → Command → Option Answer → View → Vi
 WasAsked f seat c (Some a) v t = WasAnsweredBeside f seat c a v t
 WasAsked f seat c None v t = HasWaited f seat c v t
 
--- and in one with a snapshot, of which no wait leaves anything
+-- What a line of a session with a snapshot did whose worker was told to stop while it waited.
+pub data HasLooked (seat : ℕ) (c : Command) (v t : View) : Type 0 where
+  -- it asked alone
+  stayed : Passes seat v t → HasLooked seat c v t
+  -- the mark of its safe snapshot drew a place, and isn't marked
+  marks : (stamp : ℕ) (u : View) → phase_at v seat ≡ Safe → c ≡ command.Mark → After seat (DidMarkBeside seat stamp) v u → Passes seat u t → HasLooked seat c v t
+
+-- and in one with a snapshot
 abbrev pub WasWatched : View → ℕ → Command → Option Answer → View → View → Type 0
 WasWatched f seat c (Some a) v t = WasWatchedBeside f seat c a v t
-WasWatched f seat c None v t = Passes seat v t
+WasWatched f seat c None v t = HasLooked seat c v t
 
 -- a session's transaction was given up where it was active; a snapshot stands
 abbrev pub GaveUp : Phase → ℕ → View → View → Type 0

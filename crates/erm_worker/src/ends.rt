@@ -1,12 +1,12 @@
 //! The end of the transaction of a session: it is decided, is on the disk, or is given up.
 ghost use Rattle.std.specs.Prelude.{◌≡◌, ℕ, IfNone, List, MatchOption, None, Some};
-ghost use Rattle.erm_model.specs.declared.outcome.Phase.TheVariants.{Active, Idle, Sealed};
+ghost use Rattle.erm_model.specs.declared.outcome.Phase.TheVariants.{Active, Idle, Safe, Sealed};
 ghost use Rattle.erm_model.specs.RowTransaction.{SameLaw};
 ghost use Rattle.erm_node.specs.Sound.{sound_law};
 ghost use Rattle.erm_world.specs.World.{View, phase_at};
 ghost use Rattle.erm_lines.specs.Answers.{IsReceiptOf, KeepsReceipt};
 ghost use Rattle.erm_beside.specs.Laws.{GoesOnward};
-ghost use Rattle.erm_worker.specs.Work.{GaveUp, IsRunNow, WasAsked, WasClosed, WasSettled};
+ghost use Rattle.erm_worker.specs.Work.{GaveUp, IsRunNow, WasAsked, WasClosed, WasSettled, WasWatched};
 
 use crate::{Turns, Why};
 use erm_beside::{SafeSession, SharedSession};
@@ -68,6 +68,25 @@ pub fn commit<S: SharedSession, T: Turns, R: Wait>(
     session.seal(shared);
     turns.pass(Place::Sealed);
     settle(rt, session, shared, turns, receipt)
+}
+
+/// Seals the snapshot of a session, which is safe, and waits until its mark is in the ring, or until the worker is told to stop: `None`.
+pub fn mark<S: SafeSession, T: Turns, R: Wait>(
+    rt: &R,
+    session: &mut S,
+    shared: &S::Shared,
+    turns: &mut T,
+) -> Option<Answer>
+    requires stands { S.stands shared.now session.old }
+    requires safe { phase_at (S.own session.old) (S.seat session.old) ≡ Safe }
+    ensures stands { S.stands shared.now session.new }
+    ensures onward { GoesOnward (S.seat session.old) (S.seat session.new) (S.ends session.old) (S.ends session.new) }
+    ensures watched { (f : View) → WasWatched f (S.seat session.old) Command.Mark result (S.own session.old) (S.own session.new) }
+    ensures told { IfNone result (T.told turns.new) }
+{
+    session.mark(shared);
+    turns.pass(Place::Sealed);
+    settle(rt, session, shared, turns, &mut None)
 }
 
 /// Waits until the last commit of a session is on the disk, or until the worker is told to stop: `None`. It is given by its receipt, or by

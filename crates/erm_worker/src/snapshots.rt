@@ -11,7 +11,7 @@ ghost use Rattle.erm_beside.specs.Laws.{GoesOnward};
 ghost use Rattle.erm_lines_at_once.specs.Answers.{TriedSafe};
 ghost use Rattle.erm_worker.specs.Work.{MayBeAsked, WasAsked, WasWatched};
 
-use crate::ends::durable;
+use crate::ends::{durable, mark};
 use crate::{Turns, Why};
 use erm_beside::SafeSession;
 use erm_lines_at_once::{end_snapshot, give_up_snapshot, look, try_safe};
@@ -98,6 +98,7 @@ pub fn watch<S: SafeSession, T: Turns, R: Wait>(
         Command::Safe => Ok(ask(rt, session, shared, turns)),
         Command::Commit => Ok(Some(end_snapshot(session, shared))),
         Command::Abort => Ok(Some(give_up_snapshot(session, shared))),
+        Command::Mark => Ok(mark(rt, session, shared, turns)),
         Command::Durable => Ok(durable(rt, session, shared, turns, receipt)),
         _ => Ok(Some(look(alloc, session, shared, command)?)),
     }
