@@ -113,7 +113,7 @@ module _ (f : ℕ → List (List VersionWritten)) where
   -- THE LAWS
   pub sound_with : (law : Law) (v : View) (seat : ℕ) → (phase_at v seat ≡ Active → AreSavesOf (work_at v seat) (f seat)) → (phase_at v seat ≡ Active → length (f seat) ≤ SAVES)
       → IsSound law v seat → IsSound law (saved v) seat
-  sound_with law v seat are few sound = record { session = sound.session; possible = sound.possible; once = sound.once; claimed_once = sound.claimed_once; saves = are; few_saves = few; unmarked = sound.unmarked }
+  sound_with law v seat are few sound = record { session = sound.session; possible = sound.possible; once = sound.once; claimed_once = sound.claimed_once; saves = are; few_saves = few }
 
   pub within_with : (seat : ℕ) (v g : View) → IsWithin seat v g → IsWithin seat (saved v) g
   within_with seat v g within = record { session = within.session; own = within.own; opening = within.opening; tail = within.tail; flushed = within.flushed }

@@ -24,7 +24,6 @@ pub record IsSound (law : Law) (v : View) (seat : ℕ) : Type 0 where
   pub claimed_once : OnceOf (work_at v seat).claims
   pub saves : phase_at v seat ≡ Active → AreSavesOf (work_at v seat) (v.saves seat)
   pub few_saves : phase_at v seat ≡ Active → length (v.saves seat) ≤ SAVES
-  pub unmarked : phase_at v seat ≡ Active → (work_at v seat).is_mark ≡ false
 
 -- What a session knows is within the world in which all end: this was opened so, has the session in a later state, and its log has come as far at
 -- least.

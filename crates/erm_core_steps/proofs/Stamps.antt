@@ -40,7 +40,7 @@ use Rattle.erm_core_turns.proofs.Turns.{part_stepped}
 use Rattle.std.specs.Prelude.{nat_lt, if◌then◌else◌}
 use Rattle.erm_machine.proofs.Backs.{start_seals, safe_seals}
 use Rattle.erm_world.specs.Safe.{DidMark}
-use Rattle.erm_core_view.proofs.Marks.{marked_snapshot, seal_bit, sealed_mark, sealed_transaction, sealed_work}
+use Rattle.erm_core_view.proofs.Marks.{marked_snapshot, seal_bit, sealed_mark, sealed_transaction, sealed_work, unmarked_stand}
 use Rattle.erm_core_view.proofs.Seals.{stands_shown}
 
 -- an active place, with the tail that it announced
@@ -233,6 +233,7 @@ seals_done sessions seat size b c d e sound_b sound_c sound_d quiet session may 
         pinned = (let other = no_flusher seat may.session in three.pinned other ∙ two.pinned other ∙ one.pinned other);
         given_up = refl;
         saves = λ q other. refl;
+        unmarked = λ w stand. unmarked_stand seat (b.seats seat) (sound_b.own seat).back w (sound_b.own seat).ranges.current stand;
       },
     )
   where

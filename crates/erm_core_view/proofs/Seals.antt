@@ -35,7 +35,7 @@ use Rattle.erm_machine.specs.declared.attempt.Attempt.{Attempt}
 use Rattle.erm_machine.specs.declared.task.Task.{Task}
 use Rattle.erm_world.specs.Safe.{DidMark}
 use Rattle.erm_machine.proofs.Backs.{safe_seals, start_seals}
-use Rattle.erm_core_view.proofs.Marks.{marked_snapshot, seal_bit, sealed_mark, sealed_transaction, sealed_work}
+use Rattle.erm_core_view.proofs.Marks.{marked_snapshot, seal_bit, sealed_mark, sealed_transaction, sealed_work, unmarked_stand}
 
 -- the part after the state word is 1, after the draw, after the stamp is stored
 abbrev sealing : ℕ → Part → Part
@@ -171,6 +171,7 @@ module _ (short : (row : List ℕ) → stored_length row ≤ length row) where
           pinned = ap (λ (y : Part). pin_of y.place y.current) (others_sealed FLUSH_SEAT (λ same. eqb-false seat FLUSH_SEAT session (sym same)));
           given_up = refl;
           saves = λ q other. refl;
+          unmarked = λ w stand. unmarked_stand seat x (sound.own seat).back w (sound.own seat).ranges.current stand;
         } in
         subst (λ (d : Core). Seals v seat (sealed_work x) c.shared.tail (view_of sessions d)) (sym runs) shows
 

@@ -17,8 +17,6 @@ use Rattle.erm_good_report.specs.Transactions.{table_of}
 use Rattle.erm_lines.specs.Answers.{DidAskDurable, DidAskSafe, DidAskSnapshot, DidAsked, DidCommand, DidIn, DidLine, DidOfSnapshot, DidAskMark, DidDecide, IsCommitted}
 use Rattle.erm_lines.specs.Whole.{is_snapshot, WasWatched}
 use Rattle.erm_lines.proofs.Moved.{IsOfActive, active_where, asked_still}
-use Rattle.erm_world.specs.Laws.{IsSerializable}
-use Rattle.erm_model.specs.RowTransaction.{Law}
 use Rattle.erm_world.specs.declared.stops.Wait.{Wait}
 use Rattle.erm_world.specs.declared.stops.Wait.TheVariants as wait
 use Rattle.erm_world.proofs.Marks.{none_in_the_way}
@@ -157,9 +155,9 @@ active_with (world.active w) is = refl
 active_with (world.sealed w stamp) is = absurd (cc)
 active_with (world.snapshot s) is = absurd (snapshot_not_active s is)
 
-pub seals_no_mark : (law : Law) (v t : View) (seat stamp : ℕ) → IsSerializable law v → IsSession v seat → phase_at v seat ≡ Active → DidSeal v seat stamp t → (work_at t seat).is_mark ≡ false
-seals_no_mark law v t seat stamp sound session active did =
-    ap (λ (x : Session). (work_of x.stand).is_mark) did.own ∙ sound.unmarked seat (work_at v seat) session (active_with (v.session seat).stand active)
+pub seals_no_mark : (v t : View) (seat stamp : ℕ) → phase_at v seat ≡ Active → DidSeal v seat stamp t → (work_at t seat).is_mark ≡ false
+seals_no_mark v t seat stamp active did =
+    ap (λ (x : Session). (work_of x.stand).is_mark) did.own ∙ did.unmarked (work_at v seat) (active_with (v.session seat).stand active)
 
 -- a snapshot that was begun, and asked then
 begun_then : (v u t : View) (seat begin : ℕ) → DidBeginSafe v seat begin u → Watches u seat t → Watches v seat t

@@ -44,7 +44,6 @@ is_sound law v seat session serializable possible = record {
   claimed_once = serializable.once seat session;
   saves = λ active. serializable.saves seat (work_at v seat) session (active_with (v.session seat).stand active);
   few_saves = λ active. serializable.few_saves seat session active;
-  unmarked = λ active. serializable.unmarked seat (work_at v seat) session (active_with (v.session seat).stand active);
 }
 
 -- EACH WORLD in which all may end.

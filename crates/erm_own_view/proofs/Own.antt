@@ -16,7 +16,7 @@ use Rattle.erm_machine.specs.declared.place.Place.{Place}
 use Rattle.erm_machine.specs.declared.place.Place.TheVariants as place
 use Rattle.erm_machine.specs.declared.task.Task.{Task}
 use Rattle.erm_machine.specs.Core.{Core, fresh_part}
-use Rattle.erm_machine.specs.Facts.{all_of, IsCurrent}
+use Rattle.erm_machine.specs.Facts.{all_of}
 use Rattle.erm_machine.specs.Numbers.{made_of}
 use Rattle.erm_machine.specs.Seat.{is_vacant}
 use Rattle.erm_machine.specs.Sound.{Sound}
@@ -53,7 +53,6 @@ use Rattle.erm_world.proofs.Restored.{AreSavesOf-none}
 use Rattle.erm_world.proofs.Saves.{without}
 use Rattle.erm_own_view.specs.Own.{EndsIn, MayCall, WasOf, no_session, opening_of, own_view}
 use Rattle.erm_own_view.proofs.Along.{none_of, was_before, was_itself}
-use Rattle.erm_core_view.proofs.Marks.{unmarked_work}
 
 -- THE SEAT between two calls is one of the book's view
 pub between_held : (pl : Place) (u : Task) → IsBetween pl u → is_vacant pl ≡ false
@@ -75,11 +74,6 @@ active_work : (pl : Place) (u : Task) (t : Attempt) → phase_of (stand_of pl u 
 active_work (place.Active tail) u t active = shown_work u t (plain_new u t (active_plain u t active))
 active_work (place.Sealed tail stamp) u t active = refl
 active_work _ u t active = absurd (cc)
-
--- and is no mark: it isn't sealed
-active_unmarked : (pl : Place) (u : Task) (t : Attempt) → IsCurrent pl t → phase_of (stand_of pl u t) ≡ Active → (world.work_of (stand_of pl u t)).is_mark ≡ false
-active_unmarked (place.Active tail) u t current active = ap (λ (w : Work). w.is_mark) (active_work (place.Active tail) u t active) ∙ unmarked_work t current.stamp
-active_unmarked _ u t current active = absurd (cc)
 
 -- THE SEAT ALONE: it is set where the pass has no other
 pub one_part : (seat : ℕ) (y : Part) → part_of (one_seat seat y) seat ≡ y
@@ -152,10 +146,6 @@ module _ (law : Law) (seat tail flushed : ℕ) (b : Book) (may : MayCall law sea
             (works_once SESSIONS may.core may.under.sound seat);
         saves = λ active. AreSavesOf-none (work_at own seat);
         few_saves = λ active. omega arith;
-        unmarked = λ active.
-            let stand : phase_of (stand_of part.place part.task part.current) ≡ Active = sym (ap (λ (s : Session). phase_of s.stand) (own_is seat tail flushed b)) ∙ active in
-            let current : IsCurrent part.place part.current = subst (λ (x : Part). IsCurrent x.place x.current) here (may.under.sound.own seat).ranges.current in
-            ap (λ (w : Work). w.is_mark) work ∙ active_unmarked part.place part.task part.current current stand;
       }
 
   -- AGAIN, after steps of the seat

@@ -38,7 +38,7 @@ use Rattle.erm_world.specs.World.{Finished, Session, View, Work, phase_at, size_
 use Rattle.erm_world.specs.World as world
 use Rattle.erm_own_view.specs.Own.{MayCall, own_view}
 use Rattle.erm_own_view.proofs.Along.{found_then, state_before}
-use Rattle.erm_own_view.proofs.Own.{own_becomes, own_is, own_passes}
+use Rattle.erm_own_view.proofs.Own.{own_becomes, own_is, own_passes, seat_is}
 use Rattle.erm_shared_session.proofs.Own.{own_place, own_starts, own_work, own}
 use Rattle.erm_shared_session.proofs.Own as own_seat
 use Rattle.erm_shared_session.proofs.Standing.{IsSeen}
@@ -50,6 +50,9 @@ use Rattle.erm_machine.proofs.Backs.{start_unsafe, safe_snapshot}
 use Rattle.erm_core_view.proofs.Snapshots.{IsNewSnapshot, new_work, snapshots_new}
 use Rattle.erm_beside.specs.Safe.{DidMarkBeside}
 use Rattle.erm_shared_session.proofs.SnapshotLooks.{Snaps, own_stand, shows_of}
+use Rattle.erm_core_view.proofs.Marks.{unmarked_stand}
+use Rattle.erm_machine.specs.Back.{OwnBack}
+use Rattle.erm_machine.specs.Facts.{IsCurrent}
 
 module _ (law : Law) (seat tail flushed : ℕ) (b : Book) (may : MayCall law seat tail flushed b) (active : phase_at (own_view seat tail flushed b) seat ≡ phase.Active) where
   abbrev x : Part
@@ -163,6 +166,9 @@ module _ (law : Law) (seat tail flushed stamp : ℕ) (b e : Book) (may : MayCall
       let few = within.few in
       let low = met in
       let goes = took_goes law seat ((kind.StoreState stamp, took.last) ∷ (kind.AddTail size, stamp) ∷ (kind.StoreState 1, took.first) ∷ []) b e took.took in
+      let here : may.core.seats seat ≡ x = seat_is b seat may.core may.between may.is in
+      let back : OwnBack seat x = subst (OwnBack seat) here (may.under.sound.own seat).back in
+      let current : IsCurrent x.place x.current = subst (λ (y : Part). IsCurrent y.place y.current) here (may.under.sound.own seat).ranges.current in
       record {
         more = omega (arith, low);
         seen_now = λ c is. (ended c is, (seen e goes c is).1);
@@ -178,6 +184,7 @@ module _ (law : Law) (seat tail flushed stamp : ℕ) (b e : Book) (may : MayCall
           pinned = refl;
           given_up = becomes.given_up;
           saves = λ q other. refl;
+          unmarked = λ z stand. unmarked_stand seat x back z current (sym (ap (λ (r : Session). r.stand) (own_is seat stamp flushed b)) ∙ stand);
         };
       }
 

@@ -160,6 +160,7 @@ module _ (n : ℕ) where
     pinned = did.pinned;
     given_up = did.given_up;
     saves = did.saves;
+    unmarked = did.unmarked;
   }
 
   pub did_seal : (v t : View) (seat stamp : ℕ) → DidSeal v seat stamp t → DidSeal (cut v) seat stamp (cut t)

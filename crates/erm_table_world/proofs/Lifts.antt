@@ -139,6 +139,7 @@ module _ (f g : ℕ → List (List VersionWritten)) (v t : View) (seat : ℕ) (o
     pinned = did.pinned;
     given_up = did.given_up;
     saves = others;
+    unmarked = did.unmarked;
   }
 
   pub did_seal : (stamp : ℕ) → DidSeal v seat stamp t → DidSeal (with_saves f v) seat stamp (with_saves g t)

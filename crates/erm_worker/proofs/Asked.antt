@@ -17,8 +17,8 @@ use Rattle.erm_beside.specs.Calls.{After, Passes}
 use Rattle.erm_lines_at_once.specs.Answers.{DidDecideBeside, TriedDurable, WasAnsweredBeside}
 use Rattle.erm_lines_at_once.specs.Operations.{DidOperationBeside, TriedOnce, WasTried}
 use Rattle.erm_worker.specs.Work.{IsOfSession, WasAsked, WasSettled, asked, drew, tried, WasWatched, marks}
-use Rattle.erm_worker.proofs.Waits.{after_passes, tried_more, waits_active}
-use Rattle.erm_lines.proofs.Watched.{is_marking, no_mark}
+use Rattle.erm_worker.proofs.Waits.{after_passes, tried_more, waits_active, passes_phase}
+use Rattle.erm_lines.proofs.Watched.{is_marking, no_mark, seals_no_mark}
 use Rattle.erm_beside.specs.Safe.{DidMarkBeside}
 
 -- an answer that closes a sealed session says how it was settled
@@ -97,15 +97,15 @@ module _ (f : View) (seat mid : ℕ) (is : mid ≡ seat) (c : Command) (v u t : 
       tried more.times active (still_active now once) more.waits
 
 -- COMMITS. Sealed, and then decided, or it waits.
-sealed_plain : (seat stamp : ℕ) (v u : View) → (work_at v seat).is_mark ≡ false → After seat (λ x y. DidSeal x seat stamp y) v u → (work_at u seat).is_mark ≡ false
-sealed_plain seat stamp v u plain (w, passes, did) = ap (λ (s : Session). (work_of s.stand).is_mark) did.own ∙ ap (λ (s : Session). (work_of s.stand).is_mark) passes.own ∙ plain
+sealed_plain : (seat stamp : ℕ) (v u : View) → phase_at v seat ≡ Active → After seat (λ x y. DidSeal x seat stamp y) v u → (work_at u seat).is_mark ≡ false
+sealed_plain seat stamp v u active (w, passes, did) = seals_no_mark w u seat stamp (passes_phase seat v w passes ∙ active) did
 
-pub committed : (f : View) (seat mid stamp : ℕ) (answered : Option Answer) (v u t : View) → mid ≡ seat → phase_at v seat ≡ Active → (work_at v seat).is_mark ≡ false → After seat (λ x y. DidSeal x seat stamp y) v u
+pub committed : (f : View) (seat mid stamp : ℕ) (answered : Option Answer) (v u t : View) → mid ≡ seat → phase_at v seat ≡ Active → After seat (λ x y. DidSeal x seat stamp y) v u
     → WasSettled mid answered u t → WasAsked f seat command.Commit answered v t
-committed f seat mid stamp None v u t is active plain sealed passes = drew stamp u active refl sealed (subst (λ (n : ℕ). Passes n u t) is passes)
-committed f seat mid stamp (Some a) v u t is active plain sealed settled =
+committed f seat mid stamp None v u t is active sealed passes = drew stamp u active refl sealed (subst (λ (n : ℕ). Passes n u t) is passes)
+committed f seat mid stamp (Some a) v u t is active sealed settled =
     let decided : DidDecideBeside seat a u t = subst (λ (n : ℕ). DidDecideBeside n a u t) is settled.1 in record {
-      fits = closes_commit seat a u t (sealed_plain seat stamp v u plain sealed) settled.0 decided;
+      fits = closes_commit seat a u t (sealed_plain seat stamp v u active sealed) settled.0 decided;
       did = record { stamp = stamp; between = u; sealed = sealed; decided = decided };
     }
 

@@ -228,6 +228,7 @@ module _ (f : ℕ → List (List VersionWritten)) where
     pinned = did.pinned;
     given_up = did.given_up;
     saves = λ q another. refl;
+    unmarked = did.unmarked;
   }
 
   pub did_seal : (v t : View) (seat stamp : ℕ) → DidSeal v seat stamp t → DidSeal (saved v) seat stamp (saved t)

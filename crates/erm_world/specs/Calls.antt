@@ -206,8 +206,8 @@ DidNotMake v seat stop.WritesFull t = ⊥
 DidNotMake v seat (stop.CellsFull drawn) t = ⊥
 DidNotMake v seat (stop.Excluded succ pred) t = ⊥
 
--- A session is sealed with this transaction, or with this mark. The stamp is the end of the log, which the block moves on by its size, that of a
--- block at most.
+-- A session is sealed with this transaction, which is no mark, or with this mark. The stamp is the end of the log, which the block moves on by its
+-- size, that of a block at most.
 pub record Seals (v : View) (seat : ℕ) (w : Work) (stamp : ℕ) (t : View) : Type 0 where
   pub stamp_is : stamp ≡ v.tail
   pub own : t.session seat ≡ record { over = (v.session seat).over; stand = world.sealed w stamp }
@@ -219,6 +219,7 @@ pub record Seals (v : View) (seat : ℕ) (w : Work) (stamp : ℕ) (t : View) : T
   pub pinned : t.pinned ≡ v.pinned
   pub given_up : t.given_up ≡ v.given_up
   pub saves : (q : ℕ) → q ≢ seat → t.saves q ≡ v.saves q
+  pub unmarked : (u : Work) → (v.session seat).stand ≡ world.active u → u.is_mark ≡ false
 
 -- SEAL. The transaction has its commit stamp.
 abbrev pub DidSeal : View → ℕ → ℕ → View → Type 0
