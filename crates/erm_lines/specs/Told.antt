@@ -82,13 +82,15 @@ pub record TellsWatch (s : Snapshot) (x : world.Snapshot) : Type 0 where
   pub snapshot : TellsSnapshot s x.number x.begin
   pub safe : is_some s.begin ≡ x.is_safe
   pub unfinished : s.placed ≡ false
+  pub untold : s.mark ≡ None
 
 -- one whose mark is sealed, and waits: its begin stamp is told
 pub record TellsMark (s : Snapshot) (w : Work) : Type 0 where
-  pub mark : w.is_mark ≡ true
+  pub bare : w ≡ record (world.begun w.number w.begin) { is_mark = true }
   pub snapshot : TellsSnapshot s w.number w.begin
   pub safe : is_some s.begin ≡ true
   pub unfinished : s.placed ≡ false
+  pub untold : s.mark ≡ None
 
 abbrev pub TellsWatched : Option Snapshot → Stand → Type 0
 TellsWatched (Some s) (world.snapshot x) = TellsWatch s x

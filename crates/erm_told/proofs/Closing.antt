@@ -106,6 +106,7 @@ leaves_idle Active x answer.Aborted fits = refl
 leaves_idle Active x a fits = absurd fits
 leaves_idle Sealed x (answer.Committed stamp succ pred) fits = refl
 leaves_idle Sealed x (answer.Excluded stamp succ pred) fits = refl
+leaves_idle Sealed x (answer.Marked safe stamp) fits = refl
 leaves_idle Sealed x a fits = absurd fits
 leaves_idle Pending x answer.Aborted fits = refl
 leaves_idle Pending x a fits = absurd fits

@@ -10,7 +10,7 @@ use Rattle.erm_report.specs.declared.answer.Answer.{Answer}
 use Rattle.erm_report.specs.declared.answer.Answer.TheVariants as answer
 use Rattle.erm_script.specs.declared.script.Command.{Command}
 use Rattle.erm_script.specs.declared.script.Command.TheVariants as command
-use Rattle.erm_good_report.specs.Transactions.{Progress, Snapshot, heard, looks_of, next_number, own_snapshot, reply_in, snapshot_after, step_of, with_end, with_look}
+use Rattle.erm_good_report.specs.Transactions.{Progress, Snapshot, heard, looks_of, next_number, own_snapshot, reply_in, snapshot_after, step_of, with_end, with_look, with_mark}
 use Rattle.erm_told.proofs.Reported.{in_option}
 use Rattle.erm_told.proofs.Steps.{added, line_added, none_replied}
 
@@ -67,6 +67,9 @@ from_own (Some r) first fresh s is = inl (r, refl, subst (λ (x : Snapshot). IsL
 like_end : (r : Snapshot) → IsLike (with_end r) r
 like_end r = record { begin = refl; looks = refl }
 
+like_mark : (safe stamp : ℕ) (r : Snapshot) → IsLike (with_mark safe stamp r) r
+like_mark safe stamp r = record { begin = refl; looks = refl }
+
 like_look : (asked : Option Command) (a : Answer) → reply_in a ≡ None → (r : Snapshot) → IsLike (with_look asked a r) r
 like_look asked a none r = record { begin = refl; looks = looks_still asked a r none }
 
@@ -119,6 +122,8 @@ hears_comes seat asked (answer.Unsafe other stamp) p plain =
     (from_own p.snapshot (record { number = next_number p; begin = None; lines = []; placed = false; mark = None }) (first_is p))
 hears_comes seat asked answer.Ended p plain =
     comes_over p (heard seat asked answer.Ended p) (option_map with_end p.snapshot) refl refl (from_map with_end like_end p.snapshot)
+hears_comes seat asked (answer.Marked safe stamp) p plain =
+    comes_over p (heard seat asked (answer.Marked safe stamp) p) (option_map (with_mark safe stamp) p.snapshot) refl refl (from_map (with_mark safe stamp) (like_mark safe stamp) p.snapshot)
 hears_comes seat asked (answer.Committed stamp succ pred) p plain = comes_over p (heard seat asked (answer.Committed stamp succ pred) p) p.snapshot refl refl (from_same p.snapshot)
 hears_comes seat asked (answer.Excluded stamp succ pred) p plain = comes_over p (heard seat asked (answer.Excluded stamp succ pred) p) p.snapshot refl refl (from_same p.snapshot)
 hears_comes seat asked answer.Aborted p plain = comes_over p (heard seat asked answer.Aborted p) p.snapshot refl refl (from_same p.snapshot)

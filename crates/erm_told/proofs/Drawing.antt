@@ -15,12 +15,12 @@ use Rattle.erm_script.specs.declared.script.ScriptLine.{ScriptLine}
 use Rattle.erm_world.specs.Calls.{DidBegin, DidSeal, IsDone}
 use Rattle.erm_world.specs.Laws.{IsSerializable}
 use Rattle.erm_world.specs.Safe.{HasSnapshot}
-use Rattle.erm_world.specs.World.{Fate, Finished, HasStamp, IsCurrent, IsSession, Session, Stand, View, Work, phase_at, size_of, stamp_of, work_at, work_of}
+use Rattle.erm_world.specs.World.{Fate, Finished, HasStamp, IsCurrent, IsSession, Session, Stand, View, Work, phase_at, size_of, stamp_of, work_at, work_of, marking}
 use Rattle.erm_world.specs.World as world
 use Rattle.erm_good_report.specs.Phases.{FitsRefusal, asks_commit, need_of, refusal_in, refusal_of}
 use Rattle.erm_good_report.specs.Stamps.{begin_told, place_told, stamp_drawn, stamp_printed, stamp_told}
 use Rattle.erm_good_report.proofs.Phases.{phase_refuses}
-use Rattle.erm_lines.specs.Answers.{DidAskDurable, DidAskSafe, DidAskSnapshot, DidAsked, DidCommand, DidCommit, DidDecide, DidLine, DidOfSnapshot, DidOperation, WasRefusedAs, stop_told}
+use Rattle.erm_lines.specs.Answers.{DidAskDurable, DidAskSafe, DidAskSnapshot, DidAsked, DidCommand, DidCommit, DidDecide, DidLine, DidOfSnapshot, DidOperation, WasRefusedAs, stop_told, DidAskMark}
 use Rattle.erm_lines.specs.Executions.{DidLog, DidLogLine, DidMove, FlushesTo, move_of}
 use Rattle.erm_lines.proofs.Moved.{moved}
 use Rattle.erm_told.proofs.Executed.{still_session}
@@ -146,11 +146,14 @@ pub record Decides (v : View) (seat stamp : ℕ) (t : View) : Type 0 where
 
 decides : (v : View) (seat : ℕ) (a : Answer) (t : View) (stamp : ℕ) → DidDecide v seat a t → stamp_told a ≡ Some stamp → Decides v seat stamp t
 decides v seat (answer.Committed at succ pred) t stamp (r, at_is, after, before, (w, own, stand, ready, settled)) told =
-    let same : own ≡ stamp = sym settled.2 ∙ at_is ∙ the_number at stamp told in
+    let same : own ≡ stamp = sym settled.3 ∙ at_is ∙ the_number at stamp told in
     record { work = w; fate = world.commits own r.succ r.pred; stand = stand ∙ ap (λ (n : ℕ). world.sealed w n) same; done = settled.0; stamped = ap (λ (n : ℕ). Some n) same }
 decides v seat (answer.Excluded at succ pred) t stamp (w, own, stand, ready, settled) told =
-    let same : own ≡ stamp = sym settled.1 ∙ the_number at stamp told in
+    let same : own ≡ stamp = sym settled.2 ∙ the_number at stamp told in
     record { work = w; fate = world.excluded own succ pred; stand = stand ∙ ap (λ (n : ℕ). world.sealed w n) same; done = settled.0; stamped = ap (λ (n : ℕ). Some n) same }
+decides v seat (answer.Marked safe at) t stamp (w, own, stand, ready, settled) told =
+    let same : own ≡ stamp = sym settled.2 ∙ the_number at stamp told in
+    record { work = w; fate = world.marked own w.begin; stand = stand ∙ ap (λ (n : ℕ). world.sealed w n) same; done = settled.0; stamped = ap (λ (n : ℕ). Some n) same }
 decides v seat (answer.WaitSeat other seen) t stamp did told = absurd (cc)
 decides v seat (answer.WaitRing flushed) t stamp did told = absurd (cc)
 decides v seat a t stamp did told = absurd did
@@ -165,6 +168,7 @@ decided_below v seat stamp t session lawful did =
 no_begin : (v : View) (seat : ℕ) (a : Answer) (t : View) → DidDecide v seat a t → begin_told a ≡ None
 no_begin v seat (answer.Committed at succ pred) t did = refl
 no_begin v seat (answer.Excluded at succ pred) t did = refl
+no_begin v seat (answer.Marked safe at) t did = refl
 no_begin v seat (answer.WaitSeat other seen) t did = refl
 no_begin v seat (answer.WaitRing flushed) t did = refl
 no_begin v seat a t did = absurd did
@@ -172,6 +176,7 @@ no_begin v seat a t did = absurd did
 no_place : (v : View) (seat : ℕ) (a : Answer) (t : View) → DidDecide v seat a t → place_told a ≡ None
 no_place v seat (answer.Committed at succ pred) t did = refl
 no_place v seat (answer.Excluded at succ pred) t did = refl
+no_place v seat (answer.Marked safe at) t did = refl
 no_place v seat (answer.WaitSeat other seen) t did = refl
 no_place v seat (answer.WaitRing flushed) t did = refl
 no_place v seat a t did = absurd did
@@ -179,6 +184,7 @@ no_place v seat a t did = absurd did
 settles_none : (v : View) (seat : ℕ) (a : Answer) (t : View) → DidDecide v seat a t → stamp_drawn (Some command.Settle) a ≡ None
 settles_none v seat (answer.Committed at succ pred) t did = refl
 settles_none v seat (answer.Excluded at succ pred) t did = refl
+settles_none v seat (answer.Marked safe at) t did = refl
 settles_none v seat (answer.WaitSeat other seen) t did = refl
 settles_none v seat (answer.WaitRing flushed) t did = refl
 settles_none v seat a t did = absurd did
@@ -186,6 +192,7 @@ settles_none v seat a t did = absurd did
 commits_told : (v : View) (seat : ℕ) (a : Answer) (t : View) → DidDecide v seat a t → stamp_drawn (Some command.Commit) a ≡ stamp_told a
 commits_told v seat (answer.Committed at succ pred) t did = refl
 commits_told v seat (answer.Excluded at succ pred) t did = refl
+commits_told v seat (answer.Marked safe at) t did = refl
 commits_told v seat (answer.WaitSeat other seen) t did = refl
 commits_told v seat (answer.WaitRing flushed) t did = refl
 commits_told v seat a t did = absurd did
@@ -194,6 +201,7 @@ commits_told v seat a t did = absurd did
 decided_printed : (v : View) (seat : ℕ) (a : Answer) (t : View) → IsSession t seat → IsSerializable sound_law t → DidDecide v seat a t → (stamp : ℕ) → stamp_printed a ≡ Some stamp → stamp < t.tail
 decided_printed v seat (answer.Committed at succ pred) t session lawful did stamp told = decided_below v seat stamp t session lawful (decides v seat (answer.Committed at succ pred) t stamp did told)
 decided_printed v seat (answer.Excluded at succ pred) t session lawful did stamp told = decided_below v seat stamp t session lawful (decides v seat (answer.Excluded at succ pred) t stamp did told)
+decided_printed v seat (answer.Marked safe at) t session lawful did stamp told = decided_below v seat stamp t session lawful (decides v seat (answer.Marked safe at) t stamp did told)
 decided_printed v seat (answer.WaitSeat other seen) t session lawful did stamp told =
     let same = the_number seen stamp told in
     let below = wait_below v t seat lawful other seen did in
@@ -218,6 +226,7 @@ stamp_at (world.snapshot s) = 0
 decided_tail : (v : View) (seat : ℕ) (a : Answer) (t : View) → DidDecide v seat a t → t.tail ≡ v.tail
 decided_tail v seat (answer.Committed at succ pred) t (r, at_is, after, before, (w, own, stand, ready, settled)) = settled.0.tail
 decided_tail v seat (answer.Excluded at succ pred) t (w, own, stand, ready, settled) = settled.0.tail
+decided_tail v seat (answer.Marked safe at) t (w, own, stand, ready, settled) = settled.0.tail
 decided_tail v seat (answer.WaitSeat other seen) t did = ap (λ (x : View). x.tail) did.0
 decided_tail v seat (answer.WaitRing flushed) t did = ap (λ (x : View). x.tail) did.0
 decided_tail v seat a t did = absurd did
@@ -240,6 +249,35 @@ commit_draws v seat a t session lawful did = record {
     drawn_at stamp told =
         let decided = decides did.between seat a t stamp did.decided told in
         ap stamp_at (sym (ap (λ (s : Session). s.stand) did.sealed.own) ∙ decided.stand)
+
+-- A MARK does too.
+mark_fits : (v : View) (seat : ℕ) (a : Answer) (t : View) → (did : DidAskMark v seat a t) → did.stamp + LEAST_BLOCK ≤ t.tail
+mark_fits v seat a t did =
+    let enough : LEAST_BLOCK ≤ size_of (marking did.sealed.snapshot) = omega arith in
+    omega (arith, enough, did.sealed.seals.stamp_is, did.sealed.seals.tail, decided_tail did.between seat a t did.decided)
+
+marks_told : (v : View) (seat : ℕ) (a : Answer) (t : View) → DidDecide v seat a t → stamp_drawn (Some command.Mark) a ≡ stamp_told a
+marks_told v seat (answer.Committed at succ pred) t did = refl
+marks_told v seat (answer.Excluded at succ pred) t did = refl
+marks_told v seat (answer.Marked safe at) t did = refl
+marks_told v seat (answer.WaitSeat other seen) t did = refl
+marks_told v seat (answer.WaitRing flushed) t did = refl
+marks_told v seat a t did = absurd did
+
+mark_draws : (v : View) (seat : ℕ) (a : Answer) (t : View) → IsSession t seat → IsSerializable sound_law t → DidAskMark v seat a t → Draws v.tail t.tail (Some command.Mark) a
+mark_draws v seat a t session lawful did = record {
+  begin = λ stamp told. no_number (begin_told a) stamp ((v.tail ≤ stamp) × (stamp ≤ t.tail) × (stamp < STOP)) (no_begin did.between seat a t did.decided) told;
+  printed = decided_printed did.between seat a t session lawful did.decided;
+  drawn = λ stamp told.
+      let same = drawn_at stamp (sym (marks_told did.between seat a t did.decided) ∙ told) in
+      (omega (arith, same, did.sealed.seals.stamp_is), omega (arith, same, mark_fits v seat a t did));
+  placed = λ place told. no_number (place_told a) place (place ≤ t.tail) (no_place did.between seat a t did.decided) told;
+}
+  where
+    drawn_at : (stamp : ℕ) → stamp_told a ≡ Some stamp → did.stamp ≡ stamp
+    drawn_at stamp told =
+        let decided = decides did.between seat a t stamp did.decided told in
+        ap stamp_at (sym (ap (λ (s : Session). s.stand) did.sealed.seals.own) ∙ decided.stand)
 
 -- A DURABLE commit lies below the end of the log.
 durable_draws : (v : View) (seat stamp : ℕ) (asked : Option Command) (t : View) → IsSession t seat → IsSerializable sound_law t → DidAskDurable v seat (answer.Durable stamp) t
@@ -319,6 +357,7 @@ watched_draws v seat (command.Get table key) (answer.Replied r) t has session la
 watched_draws v seat (command.Next table from) (answer.Replied r) t has session lawful did = silent v.tail t.tail (Some (command.Next table from)) (answer.Replied r) refl refl refl
 watched_draws v seat (command.Scan table low high) (answer.Replied r) t has session lawful did = silent v.tail t.tail (Some (command.Scan table low high)) (answer.Replied r) refl refl refl
 watched_draws v seat command.Commit answer.Ended t has session lawful did = silent v.tail t.tail (Some command.Commit) answer.Ended refl refl refl
+watched_draws v seat command.Mark a t has session lawful did = mark_draws v seat a t session lawful did
 watched_draws v seat command.Abort answer.Aborted t has session lawful did = silent v.tail t.tail (Some command.Abort) answer.Aborted refl refl refl
 watched_draws v seat command.Durable a t has session lawful did = command_draws v seat command.Durable a t session lawful did
 watched_draws v seat c a t has session lawful did = absurd did

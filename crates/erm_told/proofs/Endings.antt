@@ -21,9 +21,11 @@ pub ending_stamp : (ending : Ending) (fate : Fate) (stamp : ℕ) → EndsAs endi
 ending_stamp (Commits at succ pred) (world.commits s u p) stamp ends is = ap (λ (n : ℕ). Some n) (sym ends.0) ∙ is
 ending_stamp (Commits at succ pred) (world.excluded s u p) stamp ends is = absurd ends
 ending_stamp (Commits at succ pred) world.aborts stamp ends is = absurd ends
+ending_stamp (Commits at succ pred) (world.marked s safe) stamp ends is = absurd ends
 ending_stamp (Excludes (Some at) succ pred) (world.commits s u p) stamp ends is = absurd ends
 ending_stamp (Excludes (Some at) succ pred) (world.excluded s u p) stamp ends is = ap (λ (n : ℕ). Some n) (sym ends.0) ∙ is
 ending_stamp (Excludes (Some at) succ pred) world.aborts stamp ends is = absurd ends
+ending_stamp (Excludes (Some at) succ pred) (world.marked s safe) stamp ends is = absurd ends
 ending_stamp (Excludes None succ pred) fate stamp ends is = absurd (cc)
 ending_stamp Unfinished fate stamp ends is = absurd (cc)
 ending_stamp Aborts fate stamp ends is = absurd (cc)

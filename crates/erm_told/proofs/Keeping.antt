@@ -13,7 +13,7 @@ use Rattle.erm_node.specs.TreeMap.{map_of_rows}
 use Rattle.erm_safe_laws.specs.Safe.{AreReadings, IsReading}
 use Rattle.erm_safe_world.specs.Moves.{IsOfNow, MovesOn}
 use Rattle.erm_world.specs.Safe.{IsSafeIn}
-use Rattle.erm_world.specs.World.{IsSession, IsWorking, Opening, View, Work, history_of}
+use Rattle.erm_world.specs.World.{IsSession, IsCurrent, Opening, View, Work, history_of}
 use Rattle.erm_told.specs.Snapshots.{IsKeptSafe}
 use Rattle.erm_good_report.specs.Transactions.{Snapshot, looks_of}
 
@@ -21,7 +21,7 @@ use Rattle.erm_good_report.specs.Transactions.{Snapshot, looks_of}
 late_now : (v : View) (b begin : ℕ) → IsSafeIn v b → IsOfNow v begin → b ≤ begin
 late_now v b begin safe now =
     ⊎_elim
-    (λ (one : (seat : ℕ) × (w : Work) × IsSession v seat × IsWorking (v.session seat).stand w × (w.begin ≡ begin)).
+    (λ (one : (seat : ℕ) × (w : Work) × IsSession v seat × IsCurrent (v.session seat).stand w × (w.begin ≡ begin)).
     let late = safe.begins one.0 one.1 one.2 one.3 in omega (arith, late, one.4))
     (λ (later : v.tail ≤ begin). let past = safe.past in omega (arith, past, later))
     now

@@ -1,5 +1,5 @@
 -- Each line of a script that was answered, and each session that was closed, is a turn of its session.
-use Rattle.std.proofs.Common.{◌≡◌, ℕ, false, List, [], Option, Some, None, refl, sym, ap, ◌∙◌, subst, le_trans}
+use Rattle.std.proofs.Common.{◌≡◌, ℕ, false, List, [], Option, Some, None, refl, sym, ap, ◌∙◌, subst, le_trans, arith, append-nil}
 use Rattle.erm_model.specs.declared.outcome.Phase.{Phase}
 use Rattle.erm_model.specs.declared.outcome.Phase.TheVariants.{Idle, Active, Sealed, Pending, Safe}
 use Rattle.erm_model.specs.Run.{Step}
@@ -17,18 +17,18 @@ use Rattle.erm_maps.specs.Runs.{IsAnswered}
 use Rattle.erm_good_report.specs.Phases.{Closes, FitsRefusal, HasNoSnapshot, NeedsAny, NeedsReader, NeedsWriter, asks_safe, need_of, phase_after, phase_after_wait, refusal_in, refusal_of}
 use Rattle.erm_good_report.specs.Transactions.{Commits, Excludes, Progress, heard}
 use Rattle.erm_good_report.proofs.Phases.{phase_refuses}
-use Rattle.erm_lines.specs.Answers.{DidAsked, DidClose, DidCommand, DidCommit, DidDecide, DidIn, DidLine, DidOfSnapshot}
+use Rattle.erm_lines.specs.Answers.{DidAsked, DidClose, DidCommand, DidCommit, DidDecide, DidIn, DidLine, DidOfSnapshot, DidAskMark}
 use Rattle.erm_lines.specs.Executions.{DidEnd}
 use Rattle.erm_lines.specs.Whole.{is_snapshot}
 use Rattle.erm_lines.proofs.Keeping.{NoneRuns}
 use Rattle.erm_lines.proofs.Moved.{active_where}
 use Rattle.erm_lines.proofs.Watched.{idle_where, snapshot_there, start_where}
-use Rattle.erm_told.proofs.Going.{continues_then}
+use Rattle.erm_told.proofs.Going.{continues_then, continues_from}
 use Rattle.erm_told.proofs.Operations.{turn_operation}
 use Rattle.erm_told.proofs.Saves.{turn_back, turn_save}
 use Rattle.erm_told.proofs.Steps.{added}
 use Rattle.erm_told.proofs.Turns.{TellsAt, Turn, told_sealed, told_still, turn_aborted, turn_begun, turn_decided, turn_sealed, turn_still}
-use Rattle.erm_told.proofs.Watching.{turn_durable, turn_given_up, turn_of_snapshot, turn_snapshot}
+use Rattle.erm_told.proofs.Watching.{turn_durable, turn_given_up, turn_of_snapshot, turn_snapshot, told_marking, turn_marked}
 
 -- THE PHASE. What the phase refuses is told as that, and changes nothing.
 pub quiet_phase : (asked : Option Command) (r : Answer) (phase : Phase) → refusal_in r ≡ Some r → phase_after asked r phase ≡ phase
@@ -59,11 +59,13 @@ turn_refused v seat c a r t refusal is still =
 turn_decides : (v : View) (seat : ℕ) (asked : Option Command) (a : Answer) (t : View) → ((b : Answer) → added asked b ≡ [])
     → asks_safe asked ≡ false → phase_after_wait asked (phase_at v seat) ≡ phase_at v seat → DidDecide v seat a t → Turn v seat asked a t
 turn_decides v seat asked (answer.Committed stamp succ pred) t silent calm waits (r, at, after, before, (w, own, stand, ready, settled)) =
-    turn_decided v seat asked (answer.Committed stamp succ pred) t w own (Commits stamp succ pred) (world.commits own r.succ r.pred) stand settled.0 refl (λ p. refl)
-    (sym at ∙ settled.2, sym after, sym before) refl (λ steps run. run)
+    turn_decided v seat asked (answer.Committed stamp succ pred) t w own (Commits stamp succ pred) (world.commits own r.succ r.pred) stand settled.1 settled.0 refl (λ p. refl)
+    (sym at ∙ settled.3, sym after, sym before) refl (λ steps run. run)
 turn_decides v seat asked (answer.Excluded stamp succ pred) t silent calm waits (w, own, stand, ready, settled) =
-    turn_decided v seat asked (answer.Excluded stamp succ pred) t w own (Excludes (Some stamp) succ pred) (world.excluded own succ pred) stand settled.0 refl (λ p. refl)
-    (settled.1, refl, refl) refl (λ steps run. run)
+    turn_decided v seat asked (answer.Excluded stamp succ pred) t w own (Excludes (Some stamp) succ pred) (world.excluded own succ pred) stand settled.1 settled.0 refl (λ p. refl)
+    (settled.2, refl, refl) refl (λ steps run. run)
+turn_decides v seat asked (answer.Marked safe stamp) t silent calm waits (w, own, stand, ready, settled) =
+    turn_marked v seat asked safe stamp t w own stand settled.1 settled.0 settled.2 settled.3
 turn_decides v seat asked (answer.WaitSeat other seen) t silent calm waits (is, waited) =
     turn_still v seat asked (answer.WaitSeat other seen) t is waits
     (λ p told. told_still seat asked (answer.WaitSeat other seen) p v calm (silent (answer.WaitSeat other seen)) told)
@@ -76,6 +78,7 @@ turn_decides v seat asked a t silent calm waits did = absurd did
 commit_leaves : (v : View) (seat : ℕ) (a : Answer) (t : View) (x y : Phase) → DidDecide v seat a t → phase_after (Some command.Commit) a x ≡ phase_after (Some command.Commit) a y
 commit_leaves v seat (answer.Committed stamp succ pred) t x y did = refl
 commit_leaves v seat (answer.Excluded stamp succ pred) t x y did = refl
+commit_leaves v seat (answer.Marked safe stamp) t x y did = refl
 commit_leaves v seat (answer.WaitSeat other seen) t x y did = refl
 commit_leaves v seat (answer.WaitRing flushed) t x y did = refl
 commit_leaves v seat a t x y did = absurd did
@@ -93,6 +96,31 @@ turn_commit v seat a t active did =
       goes = continues_then (v.session seat) (u.session seat) (t.session seat) first.goes second.goes;
       phase = commit_leaves u seat a t (phase_at v seat) (phase_at u seat) did.decided ∙ second.phase;
       tells = λ p told. second.tells p (told_sealed v seat did.stamp u p active did.sealed told);
+    }
+
+-- A MARK is sealed, and then marked, or waits.
+mark_leaves : (v : View) (seat : ℕ) (a : Answer) (t : View) (x y : Phase) → DidDecide v seat a t → phase_after (Some command.Mark) a x ≡ phase_after (Some command.Mark) a y
+mark_leaves v seat (answer.Committed stamp succ pred) t x y did = refl
+mark_leaves v seat (answer.Excluded stamp succ pred) t x y did = refl
+mark_leaves v seat (answer.Marked safe stamp) t x y did = refl
+mark_leaves v seat (answer.WaitSeat other seen) t x y did = refl
+mark_leaves v seat (answer.WaitRing flushed) t x y did = refl
+mark_leaves v seat a t x y did = absurd did
+
+turn_mark : (v : View) (seat : ℕ) (a : Answer) (t : View) → DidAskMark v seat a t → Turn v seat (Some command.Mark) a t
+turn_mark v seat a t did =
+    let u = did.between in
+    let first = did.sealed.seals in
+    let sealed : phase_at u seat ≡ Sealed = ap (λ (s : Session). phase_of s.stand) first.own in
+    let second : Turn u seat (Some command.Mark) a t = turn_decides u seat (Some command.Mark) a t (λ b. refl) refl (sym sealed) did.decided in record {
+      others = λ q another. second.others q another ∙ first.others q another;
+      saves = λ q another. second.saves q another ∙ first.saves q another;
+      opening = second.opening ∙ first.opening;
+      tail = omega (arith, second.tail, first.tail);
+      goes = continues_then (v.session seat) (u.session seat) (t.session seat)
+          (continues_from (v.session seat) (u.session seat) (world.snapshot did.sealed.snapshot) did.sealed.stands [] (ap (λ (s : Session). s.over) first.own ∙ sym (append-nil (v.session seat).over)) tt) second.goes;
+      phase = mark_leaves u seat a t (phase_at v seat) (phase_at u seat) did.decided ∙ second.phase;
+      tells = λ p told. second.tells p (told_marking v seat did.stamp u p did.sealed told);
     }
 
 -- a line that isn't refused is one of a session without a snapshot, or with one
@@ -138,9 +166,13 @@ module _ (runs : NoneRuns) (stay : (w u : Work) (steps : List Step) → Extends 
   turn_command v seat command.Durable a t free plain did = turn_durable v seat a t did
   turn_command v seat c a t free plain did = absurd did
 
+  turn_watched : (v : View) (seat : ℕ) (c : Command) (a : Answer) (t : View) → HasSnapshot v seat → refusal_of (phase_at v seat) c ≡ None → DidOfSnapshot v seat c a t → Turn v seat (Some c) a t
+  turn_watched v seat command.Mark a t has free did = turn_mark v seat a t did
+  turn_watched v seat c a t has free did = turn_of_snapshot v seat c a t has (λ (marks : c ≡ command.Mark). cc) free did
+
   turn_asked : (v : View) (seat : ℕ) (c : Command) (a : Answer) (t : View) (refusal : Option Answer) → refusal_of (phase_at v seat) c ≡ refusal
       → FitsRefusal refusal c a → DidAsked refusal v seat c a t → Turn v seat (Some c) a t
-  turn_asked v seat c a t None is fits did = in_either (Turn v seat (Some c) a t) v t seat c a (λ plain did. turn_command v seat c a t is plain did) (λ has did. turn_of_snapshot v seat c a t has is did) did
+  turn_asked v seat c a t None is fits did = in_either (Turn v seat (Some c) a t) v t seat c a (λ plain did. turn_command v seat c a t is plain did) (λ has did. turn_watched v seat c a t has is did) did
   turn_asked v seat c a t (Some r) is fits did = turn_refused v seat c a r t (phase_refuses (need_of c) (phase_at v seat) r is) fits did
 
   pub turn_line : (v : View) (l : ScriptLine) (a : Answer) (t : View) → DidLine v l a t → Turn v l.session (Some l.command) a t

@@ -20,15 +20,15 @@ use Rattle.erm_world.specs.declared.stops.SafeStop.{SafeStop}
 use Rattle.erm_world.specs.declared.stops.SafeStop.TheVariants as safe
 use Rattle.erm_world.specs.Face.{Answered, WasRefused}
 use Rattle.erm_world.specs.Calls.{DidAbort, DidBegin, DidClaim, DidMake, DidNotClaim, DidNotMake, DidNotRead, DidRead, DidSeal, DidSettle, DidWrite, MayNotBegin}
-use Rattle.erm_world.specs.Safe.{DidBeginSafe, DidNotSafe, DidSafe, IsSafeIn}
+use Rattle.erm_world.specs.Safe.{DidBeginSafe, DidNotSafe, DidSafe, IsSafeIn, DidMark}
 use Rattle.erm_world.specs.Saves.{DidSave, WentBack}
-use Rattle.erm_world.specs.World.{Finished, IsSession, IsWorking, Session, View, history_of, phase_at, phase_of}
+use Rattle.erm_world.specs.World.{Finished, IsSession, IsCurrent, Session, View, history_of, phase_at, phase_of}
 use Rattle.erm_world.specs.World as world
 use Rattle.erm_world.proofs.Commits.{tells_commits}
 use Rattle.erm_world.proofs.Txns.{went}
 use Rattle.erm_safe_world.specs.Moves.{MovesOn}
 use Rattle.erm_good_report.specs.Phases.{HasNoSnapshot, NeedsReader, NeedsWriter, refusal_of}
-use Rattle.erm_lines.specs.Answers.{DidAskBack, DidAskSave, DidAskSafe, DidAskSnapshot, DidAsked, DidClose, DidCommand, DidCommit, DidDecide, DidLine, DidOfSnapshot, DidOperation, WasRefusedAs}
+use Rattle.erm_lines.specs.Answers.{DidAskBack, DidAskSave, DidAskSafe, DidAskSnapshot, DidAsked, DidClose, DidCommand, DidCommit, DidDecide, DidLine, DidOfSnapshot, DidOperation, WasRefusedAs, DidAskMark}
 use Rattle.erm_lines.specs.Executions.{DidEnd, DidFlush, DidMove, Move, close, flush, line, log}
 use Rattle.erm_lines.specs.Operations.{Ran}
 use Rattle.erm_lines.proofs.Moved.{active_where, asked_still, log_flushes}
@@ -52,6 +52,7 @@ pub record MovingLaws : Type 0 where
   pub aborts : (v t : View) (seat : ℕ) → DidAbort v seat t → MovesOn v t
   pub begins_safe : (v t : View) (seat begin : ℕ) → DidBeginSafe v seat begin t → MovesOn v t
   pub is_safe : (v t : View) (seat : ℕ) → DidSafe v seat t → MovesOn v t
+  pub marks : (v t : View) (seat stamp : ℕ) → DidMark v seat stamp t → MovesOn v t
   pub not_begun : (v t : View) (seat : ℕ) (why : BeginStop) → MayNotBegin v seat why t → MovesOn v t
   pub not_read : (v t : View) (seat oid : ℕ) (why : RowStop) → DidNotRead v seat oid why t → MovesOn v t
   pub not_claimed : (v t : View) (seat oid : ℕ) (why : RowStop) → DidNotClaim v seat oid why t → MovesOn v t
@@ -104,6 +105,7 @@ module _ (laws : MovingLaws) where
   decide_moves : (v t : View) (seat : ℕ) (a : Answer) → IsSession v seat → DidDecide v seat a t → MovesOn v t
   decide_moves v t seat (answer.Committed stamp succ pred) session (r, at, after, before, did) = laws.settles v t seat (outcome.Committed r) session did
   decide_moves v t seat (answer.Excluded stamp succ pred) session did = laws.settles v t seat (outcome.Excluded stamp succ pred) session did
+  decide_moves v t seat (answer.Marked safe stamp) session did = laws.settles v t seat (outcome.Marked stamp safe) session did
   decide_moves v t seat (answer.WaitSeat other seen) session did = laws.stays v t did.0
   decide_moves v t seat (answer.WaitRing flushed) session did = laws.stays v t did.0
   decide_moves v t seat a session did = absurd did
@@ -146,19 +148,25 @@ module _ (laws : MovingLaws) where
   command_moves v t seat (command.Tidy table key) a session free plain did = operation_moves v t seat (command.Tidy table key) a session (active_where NeedsWriter (phase_at v seat) tt plain free) did
   command_moves v t seat c a session free plain did = absurd did
 
-  watched_moves : (v t : View) (seat : ℕ) (c : Command) (a : Answer) → DidOfSnapshot v seat c a t → MovesOn v t
-  watched_moves v t seat command.Safe a did = asked_moves v t seat a did
-  watched_moves v t seat (command.Get table key) (answer.Replied r) did = laws.stays v t did.same
-  watched_moves v t seat (command.Next table from) (answer.Replied r) did = laws.stays v t did.same
-  watched_moves v t seat (command.Scan table low high) (answer.Replied r) did = laws.stays v t did.same
-  watched_moves v t seat command.Commit answer.Ended did = laws.aborts v t seat did
-  watched_moves v t seat command.Abort answer.Aborted did = laws.aborts v t seat did
-  watched_moves v t seat command.Durable a did = laws.stays v t (asked_still v t seat a did)
-  watched_moves v t seat c a did = absurd did
+  mark_moves : (v t : View) (seat : ℕ) (a : Answer) → IsSession v seat → DidAskMark v seat a t → MovesOn v t
+  mark_moves v t seat a session did =
+      let first = laws.marks v did.between seat did.stamp did.sealed in
+      laws.goes_on v did.between t first (decide_moves did.between t seat a (still_session v did.between seat first.opening session) did.decided)
+
+  watched_moves : (v t : View) (seat : ℕ) (c : Command) (a : Answer) → IsSession v seat → DidOfSnapshot v seat c a t → MovesOn v t
+  watched_moves v t seat command.Safe a session did = asked_moves v t seat a did
+  watched_moves v t seat (command.Get table key) (answer.Replied r) session did = laws.stays v t did.same
+  watched_moves v t seat (command.Next table from) (answer.Replied r) session did = laws.stays v t did.same
+  watched_moves v t seat (command.Scan table low high) (answer.Replied r) session did = laws.stays v t did.same
+  watched_moves v t seat command.Commit answer.Ended session did = laws.aborts v t seat did
+  watched_moves v t seat command.Mark a session did = mark_moves v t seat a session did
+  watched_moves v t seat command.Abort answer.Aborted session did = laws.aborts v t seat did
+  watched_moves v t seat command.Durable a session did = laws.stays v t (asked_still v t seat a did)
+  watched_moves v t seat c a session did = absurd did
 
   told_moves : (v t : View) (seat : ℕ) (c : Command) (a : Answer) (refusal : Option Answer) → IsSession v seat → refusal_of (phase_at v seat) c ≡ refusal → DidAsked refusal v seat c a t → MovesOn v t
   told_moves v t seat c a None session is did =
-      in_either (MovesOn v t) v t seat c a (λ plain did. command_moves v t seat c a session is plain did) (λ has did. watched_moves v t seat c a did) did
+      in_either (MovesOn v t) v t seat c a (λ plain did. command_moves v t seat c a session is plain did) (λ has did. watched_moves v t seat c a session did) did
   told_moves v t seat c a (Some r) session is did = laws.stays v t did
 
   pub line_moves : (v t : View) (l : ScriptLine) (a : Answer) → DidLine v l a t → MovesOn v t
@@ -196,7 +204,7 @@ module _ (laws : MovingLaws) where
     tail = same_tail v.tail t.tail did.tail;
     kept = same_commits v t did.opening did.session;
     commits = λ r m. inl (same_commits t v (sym did.opening) (λ seat session. sym (did.session seat (still_session t v seat (sym did.opening) session))) r m);
-    works = λ seat w session working. inl (seat, w, session, subst (λ (s : Session). IsWorking s.stand w) (did.session seat session) working, refl);
+    works = λ seat w session working. inl (seat, w, session, subst (λ (s : Session). IsCurrent s.stand w) (did.session seat session) working, refl);
   }
 
   pub move_moves : (v t : View) (move : Move) → DidMove v move t → MovesOn v t

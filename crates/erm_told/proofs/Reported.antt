@@ -139,7 +139,7 @@ told_now v seat t (world.active w) is tells =
 told_now v seat t (world.sealed w drawn) is tells =
     told_current v seat t w (subst (λ (at : Stand). IsCurrent at w) (sym is) refl) tells.0
     (λ stamp sealed. ⊎_elim (λ (none : t.sealed ≡ None). no_number t.sealed stamp ((v.session seat).stand ≡ world.sealed w stamp) none sealed)
-    (λ (some : t.sealed ≡ Some drawn). is ∙ ap (λ (n : ℕ). world.sealed w n) (the_number drawn stamp (sym some ∙ sealed))) tells.1)
+    (λ (some : t.sealed ≡ Some drawn). is ∙ ap (λ (n : ℕ). world.sealed w n) (the_number drawn stamp (sym some ∙ sealed))) tells.2)
 told_now v seat t (world.snapshot s) is tells = absurd tells
 
 -- the number of one that isn't over

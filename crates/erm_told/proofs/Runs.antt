@@ -127,15 +127,16 @@ log_watched v t phase c a did = absurd did
 
 -- a look of a safe one is replied to, and a commit ends it; a pending one has begun
 replied : (v : View) (seat : ℕ) (c : Command) (a : Answer) (t : View) → DidOfSnapshot v seat c a t → (c ≡ command.Safe → ⊥) → (c ≡ command.Commit → ⊥) → (c ≡ command.Abort → ⊥)
-    → (c ≡ command.Durable → ⊥) → IsReplied a
-replied v seat command.Safe a t did one two three four = absurd (one refl)
-replied v seat command.Commit a t did one two three four = absurd (two refl)
-replied v seat command.Abort a t did one two three four = absurd (three refl)
-replied v seat command.Durable a t did one two three four = absurd (four refl)
-replied v seat (command.Get table key) (answer.Replied r) t did one two three four = (r, refl)
-replied v seat (command.Next table from) (answer.Replied r) t did one two three four = (r, refl)
-replied v seat (command.Scan table low high) (answer.Replied r) t did one two three four = (r, refl)
-replied v seat c a t did one two three four = absurd did
+    → (c ≡ command.Durable → ⊥) → (c ≡ command.Mark → ⊥) → IsReplied a
+replied v seat command.Safe a t did one two three four five = absurd (one refl)
+replied v seat command.Commit a t did one two three four five = absurd (two refl)
+replied v seat command.Abort a t did one two three four five = absurd (three refl)
+replied v seat command.Durable a t did one two three four five = absurd (four refl)
+replied v seat command.Mark a t did one two three four five = absurd (five refl)
+replied v seat (command.Get table key) (answer.Replied r) t did one two three four five = (r, refl)
+replied v seat (command.Next table from) (answer.Replied r) t did one two three four five = (r, refl)
+replied v seat (command.Scan table low high) (answer.Replied r) t did one two three four five = (r, refl)
+replied v seat c a t did one two three four five = absurd did
 
 ends_so : (v : View) (seat : ℕ) (a : Answer) (t : View) → DidOfSnapshot v seat command.Commit a t → a ≡ answer.Ended
 ends_so v seat answer.Ended t did = refl
@@ -145,9 +146,9 @@ no_end : (v : View) (seat : ℕ) (t : View) → DidCommit v seat answer.Ended t 
 no_end v seat t did = did.decided
 
 fits_in : (p : Phase) (v : View) (seat : ℕ) (c : Command) (a : Answer) (t : View) → (refusal_of p c ≡ None → DidIn p v seat c a t) → FitsRefusal (refusal_of p c) c a → FitsSnapshot p c a
-fits_in Safe v seat (command.Get table key) a t did fits = replied v seat (command.Get table key) a t (did refl) (λ e. cc) (λ e. cc) (λ e. cc) (λ e. cc)
-fits_in Safe v seat (command.Next table from) a t did fits = replied v seat (command.Next table from) a t (did refl) (λ e. cc) (λ e. cc) (λ e. cc) (λ e. cc)
-fits_in Safe v seat (command.Scan table low high) a t did fits = replied v seat (command.Scan table low high) a t (did refl) (λ e. cc) (λ e. cc) (λ e. cc) (λ e. cc)
+fits_in Safe v seat (command.Get table key) a t did fits = replied v seat (command.Get table key) a t (did refl) (λ e. cc) (λ e. cc) (λ e. cc) (λ e. cc) (λ e. cc)
+fits_in Safe v seat (command.Next table from) a t did fits = replied v seat (command.Next table from) a t (did refl) (λ e. cc) (λ e. cc) (λ e. cc) (λ e. cc) (λ e. cc)
+fits_in Safe v seat (command.Scan table low high) a t did fits = replied v seat (command.Scan table low high) a t (did refl) (λ e. cc) (λ e. cc) (λ e. cc) (λ e. cc) (λ e. cc)
 fits_in Safe v seat command.Commit a t did fits = ends_so v seat a t (did refl)
 fits_in Safe v seat c a t did fits = tt
 fits_in Pending v seat command.Safe (answer.LogEnd tail) t did fits = did refl

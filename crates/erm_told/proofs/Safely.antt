@@ -27,7 +27,7 @@ use Rattle.erm_maps.specs.Runs.{IsAnswered}
 use Rattle.erm_good_report.specs.Phases.{Closes, HasNoSnapshot, IsAnswerTo, refusal_in, refusal_of}
 use Rattle.erm_good_report.specs.Transactions.{Progress, Said, Snapshot, heard, looks_of, next_number, nothing, own_snapshot, with_begin, with_look}
 use Rattle.erm_good_report.proofs.Phases.{answers_so}
-use Rattle.erm_lines.specs.Answers.{DidAskSafe, DidAsked, DidIn, DidLine, DidOfSnapshot}
+use Rattle.erm_lines.specs.Answers.{DidAskSafe, DidAsked, DidIn, DidLine, DidOfSnapshot, DidCommand}
 use Rattle.erm_lines.specs.Executions.{DidEnd, IsExecution, Move, close, flush, line, log, said_in}
 use Rattle.erm_lines.specs.Looks.{DidLook}
 use Rattle.erm_lines.specs.Told.{Tells, TellsWatched}
@@ -73,17 +73,33 @@ keeps_comes p q v comes keeps = record {
   ];
 }
 
--- WHERE a session has none
-none_at : (o : Option Snapshot) (stand : Stand) → HasNoSnapshot (phase_of stand) → TellsWatched o stand → o ≡ None
-none_at None stand plain told = refl
-none_at (Some s) world.idle plain told = absurd told
-none_at (Some s) (world.active w) plain told = absurd told
-none_at (Some s) (world.sealed w stamp) plain told = absurd told
-none_at (Some s) (world.snapshot x) plain told = absurd (has x.is_safe plain)
+-- WHERE a session has none, nor a mark that waits
+none_at : (o : Option Snapshot) (stand : Stand) → HasNoSnapshot (phase_of stand) → (phase_of stand ≡ phase.Sealed → ⊥) → TellsWatched o stand → o ≡ None
+none_at None stand plain unsealed told = refl
+none_at (Some s) world.idle plain unsealed told = absurd told
+none_at (Some s) (world.active w) plain unsealed told = absurd told
+none_at (Some s) (world.sealed w stamp) plain unsealed told = absurd (unsealed refl)
+none_at (Some s) (world.snapshot x) plain unsealed told = absurd (has x.is_safe plain)
   where
     has : (b : Bool) → HasNoSnapshot (if b then phase.Safe else phase.Pending) → ⊥
     has true plain = plain
     has false plain = plain
+
+-- what a sealed session is asked tells neither that a snapshot is safe, nor a reply, nor a savepoint
+never_sealed : (v t : View) (seat : ℕ) (c : Command) (a : Answer) → (IsPlain a → ⊥) → refusal_of phase.Sealed c ≡ None → DidCommand v seat c a t → ⊥
+never_sealed v t seat command.Settle (answer.Safe begin) told free did = did
+never_sealed v t seat command.Settle (answer.Replied r) told free did = did
+never_sealed v t seat command.Settle (answer.Saved held) told free did = did
+never_sealed v t seat command.Settle (answer.Back n) told free did = did
+never_sealed v t seat command.Settle a told free did = told tt
+never_sealed v t seat command.Durable (answer.Safe begin) told free did = did
+never_sealed v t seat command.Durable (answer.Replied r) told free did = did
+never_sealed v t seat command.Durable (answer.Saved held) told free did = did
+never_sealed v t seat command.Durable (answer.Back n) told free did = did
+never_sealed v t seat command.Durable a told free did = told tt
+never_sealed v t seat command.Flush a told free did = did
+never_sealed v t seat command.Checkpoint a told free did = did
+never_sealed v t seat c a told free did = absurd (cc)
 
 -- one that isn't known to be safe tells no begin stamp
 untold : (o : Option ℕ) → is_some o ≡ false → o ≡ None
@@ -197,7 +213,7 @@ module _ (laws : MovingLaws) where
       in_either (Keeps (heard seat (Some l.command) (answer.Safe begin) p) t) v t seat command.Safe (answer.Safe begin)
       (λ plain began.
       keeps_told seat p begin t keeps
-      (λ s is. absurd (let no : None ≡ Some s = sym (none_at p.snapshot (v.session seat).stand plain tells.watched) ∙ is in cc)) (safe_there began.between t seat begin began.asked))
+      (λ s is. absurd (let no : None ≡ Some s = sym (none_at p.snapshot (v.session seat).stand plain (λ sealed. let no = ap (λ (ph : Phase). refusal_of ph command.Safe) (sym sealed) ∙ free in cc) tells.watched) ∙ is in cc)) (safe_there began.between t seat begin began.asked))
       (λ has asked.
       let pending = pending_in (v.session seat).stand (pending_where (phase_at v seat) command.Safe (has_phase v seat has) free refl) in
       let own = watching p.snapshot pending.own (subst (λ (at : Stand). TellsWatched p.snapshot at) pending.is tells.watched) in
@@ -214,7 +230,10 @@ module _ (laws : MovingLaws) where
       let fits = answers_so (phase_at v seat) l.command (answer.Replied r) refl did.fits in
       in_either (Keeps (heard seat (Some l.command) (answer.Replied r) p) t) v t seat l.command (answer.Replied r)
       (λ plain done.
-      keeps_comes p (heard seat (Some l.command) (answer.Replied r) p) t (replied_none seat (Some l.command) r p (none_at p.snapshot (v.session seat).stand plain tells.watched)) keeps)
+      keeps_comes p (heard seat (Some l.command) (answer.Replied r) p) t
+      (replied_none seat (Some l.command) r p
+      (none_at p.snapshot (v.session seat).stand plain
+      (λ sealed. never_sealed v t seat l.command (answer.Replied r) (λ no. no) (subst (λ (ph : Phase). refusal_of ph l.command ≡ None) sealed fits.0) done) tells.watched)) keeps)
       (λ has done. looked v seat p has.0 has.1 tells before l.command r t fits.0 done)
       (did_in v t l (answer.Replied r) did fits.0)
 
@@ -229,13 +248,17 @@ module _ (laws : MovingLaws) where
   no_back v t seat n command.Durable did = did
   no_back v t seat n c did = did
 
-  unwatched_line : (v t : View) (l : ScriptLine) (a : Answer) (p : Progress) → DidLine v l a t → refusal_in a ≡ None → Tells l.session p (v.session l.session)
+  unwatched_line : (v t : View) (l : ScriptLine) (a : Answer) (p : Progress) → DidLine v l a t → refusal_in a ≡ None → (IsPlain a → ⊥) → Tells l.session p (v.session l.session)
       → ((c : Command) → DidOfSnapshot v l.session c a t → ⊥) → (p.snapshot ≡ None → Comes p (heard l.session (Some l.command) a p)) → Keeps p t → Keeps (heard l.session (Some l.command) a p) t
-  unwatched_line v t l a p did unrefused tells never comes keeps =
+  unwatched_line v t l a p did unrefused told tells never comes keeps =
       let seat = l.session in
       let fits = answers_so (phase_at v seat) l.command a unrefused did.fits in
       in_either (Keeps (heard seat (Some l.command) a p) t) v t seat l.command a
-      (λ plain done. keeps_comes p (heard seat (Some l.command) a p) t (comes (none_at p.snapshot (v.session seat).stand plain tells.watched)) keeps)
+      (λ plain done.
+      keeps_comes p (heard seat (Some l.command) a p) t
+      (comes
+      (none_at p.snapshot (v.session seat).stand plain
+      (λ sealed. never_sealed v t seat l.command a told (subst (λ (ph : Phase). refusal_of ph l.command ≡ None) sealed fits.0) done) tells.watched)) keeps)
       (λ has done. absurd (never l.command done))
       (did_in v t l a did fits.0)
 
@@ -243,9 +266,9 @@ module _ (laws : MovingLaws) where
   own_line v t l (answer.Safe begin) p did tells before keeps = safe_line v t l begin p did tells keeps
   own_line v t l (answer.Replied r) p did tells before keeps = replied_line v t l r p did tells before keeps
   own_line v t l (answer.Saved held) p did tells before keeps =
-      unwatched_line v t l (answer.Saved held) p did refl tells (λ c watched. no_saved v t l.session held c watched) (λ none. saved_none l.session (Some l.command) held p none) keeps
+      unwatched_line v t l (answer.Saved held) p did refl (λ no. no) tells (λ c watched. no_saved v t l.session held c watched) (λ none. saved_none l.session (Some l.command) held p none) keeps
   own_line v t l (answer.Back n) p did tells before keeps =
-      unwatched_line v t l (answer.Back n) p did refl tells (λ c watched. no_back v t l.session n c watched) (λ none. back_none l.session (Some l.command) n p none) keeps
+      unwatched_line v t l (answer.Back n) p did refl (λ no. no) tells (λ c watched. no_back v t l.session n c watched) (λ none. back_none l.session (Some l.command) n p none) keeps
   own_line v t l a p did tells before keeps = keeps_comes p (heard l.session (Some l.command) a p) t (hears_comes l.session (Some l.command) a p tt) keeps
 
   -- and its end

@@ -1,5 +1,5 @@
 -- Sessions at a line of a run: what the lines before it tell of them, and the stamps that are told later.
-use Rattle.std.proofs.Common.{◌≡◌, ℕ, suc, List, ◌∷◌, ◌++◌, take, drop, slice_get, Option, Some, None, refl, ap, ◌∙◌, subst}
+use Rattle.std.proofs.Common.{◌≡◌, ℕ, suc, List, ◌∷◌, ◌++◌, take, drop, slice_get, Option, Some, None, refl, ap, ◌∙◌, subst, false}
 use Rattle.erm_model.specs.Member.{◌∈◌}
 use Rattle.erm_report.specs.declared.answer.Answer.{Answer}
 use Rattle.erm_script.specs.declared.script.ScriptLine.{ScriptLine}
@@ -18,12 +18,12 @@ use Rattle.erm_told.proofs.Executed.{still_session}
 use Rattle.erm_told.proofs.Runs.{AtLine, at_line, executed_both, said_first}
 
 -- the current transaction of a session that is sealed
-sealed_now : (seat : ℕ) (current : Option Transaction) (stand : Stand) (w : Work) (stamp : ℕ) → stand ≡ world.sealed w stamp → TellsNow seat current stand
+sealed_now : (seat : ℕ) (current : Option Transaction) (stand : Stand) (w : Work) (stamp : ℕ) → stand ≡ world.sealed w stamp → w.is_mark ≡ false → TellsNow seat current stand
     → (t : Transaction) × (current ≡ Some t) × TellsCurrent seat t w
-sealed_now seat current stand w stamp is told = from current (subst (λ (at : Stand). TellsNow seat current at) is told)
+sealed_now seat current stand w stamp is plain told = from current (subst (λ (at : Stand). TellsNow seat current at) is told)
   where
     from : (o : Option Transaction) → TellsNow seat o (world.sealed w stamp) → (t : Transaction) × (o ≡ Some t) × TellsCurrent seat t w
-    from None now = absurd now
+    from None now = absurd (cc)
     from (Some t) now = (t, refl, now.0)
 
 module _ (tell : ExecutionsTell) (go : ExecutionsGoOn) (v t : View) (script : List ScriptLine) (answers : List Answer) (run : IsCourse v script answers t)
@@ -58,11 +58,11 @@ module _ (tell : ExecutionsTell) (go : ExecutionsGoOn) (v t : View) (script : Li
         (tell v there.before (line_moves (take i script) (take i answers)) run.opened there.start seat session)
 
     -- a session with a sealed transaction
-    pub sealed_with : (opening : Opening) (seat : ℕ) → IsSession v seat → (w : Work) (stamp : ℕ) → (there.before.session seat).stand ≡ world.sealed w stamp
+    pub sealed_with : (opening : Opening) (seat : ℕ) → IsSession v seat → (w : Work) (stamp : ℕ) → (there.before.session seat).stand ≡ world.sealed w stamp → w.is_mark ≡ false
         → (x : Transaction) × IsSealedWith (moment_at InTurn opening script answers (reported tell go v t script answers run closed are) i l) seat stamp x × TellsCurrent seat x w
-    sealed_with opening seat session w stamp is =
+    sealed_with opening seat session w stamp is plain =
         let tells = line_tells seat session in
-        let now = sealed_now seat (progress_of seat (take i (said_of script answers))).current (there.before.session seat).stand w stamp is tells.0.now in
+        let now = sealed_now seat (progress_of seat (take i (said_of script answers))).current (there.before.session seat).stand w stamp is plain tells.0.now in
         let ends = still_session v t seat (opening_is tell go v t script answers run closed are) session in (
           now.0,
           record {

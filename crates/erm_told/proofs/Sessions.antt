@@ -1,5 +1,5 @@
 -- How what is told of a session goes on with the session.
-use Rattle.std.proofs.Common.{◌≡◌, ℕ, ◌+◌, false, List, [], ◌∷◌, ◌++◌, length, append-nil, Option, Some, None, option_map, option_to_list, refl, sym, ap, ◌∙◌, subst, inl, inr, ⊎_elim, arith}
+use Rattle.std.proofs.Common.{◌≡◌, ℕ, ◌+◌, false, List, [], ◌∷◌, ◌++◌, length, append-nil, Option, Some, None, option_map, option_to_list, refl, sym, ap, ◌∙◌, subst, inl, inr, ⊎_elim, arith, is_some, true}
 use Rattle.erm_model.specs.Run.{Step}
 use Rattle.erm_report.specs.declared.answer.Answer.{Answer}
 use Rattle.erm_report.specs.declared.answer.Answer.TheVariants as answer
@@ -9,8 +9,8 @@ use Rattle.erm_world.specs.World.{Fate, Finished, Stand, Work, stamp_of}
 use Rattle.erm_world.specs.World as world
 use Rattle.erm_maps.specs.Runs.{IsAnswered, WasRun}
 use Rattle.erm_good_report.specs.Phases.{asks_safe}
-use Rattle.erm_good_report.specs.Transactions.{Ending, Progress, Snapshot, Transaction, heard, next_number, snapshot_after, steps_of, with_ending, with_line, with_look, with_seal}
-use Rattle.erm_lines.specs.Told.{EndsAs, RanAs, Tells, TellsCurrent, TellsEnded, TellsNow, TellsOne, TellsOver, TellsSnapshot, TellsWatched, TellsWork}
+use Rattle.erm_good_report.specs.Transactions.{Ending, Progress, Snapshot, Transaction, heard, next_number, snapshot_after, steps_of, with_ending, with_line, with_look, with_seal, with_mark}
+use Rattle.erm_lines.specs.Told.{EndsAs, RanAs, Tells, TellsCurrent, TellsEnded, TellsNow, TellsOne, TellsOver, TellsSnapshot, TellsWatched, TellsWork, TellsMark, fate_told}
 use Rattle.erm_told.proofs.Steps.{added, steps_with}
 
 -- as many are told as are over
@@ -44,14 +44,14 @@ one_ended seat ts ss (g ∷ fs) s f (inr (r, more, is, first, rest)) one =
 abbrev pub HasNone : Stand → Type 0
 HasNone world.idle = Unit {0}
 HasNone (world.active w) = Unit {0}
-HasNone (world.sealed w stamp) = Unit {0}
+HasNone (world.sealed w stamp) = w.is_mark ≡ false
 HasNone (world.snapshot x) = ⊥
 
 pub watched_none : (watched : Option Snapshot) (stand : Stand) → HasNone stand → TellsWatched watched stand → watched ≡ None
 watched_none None stand none told = refl
 watched_none (Some s) world.idle none told = absurd told
 watched_none (Some s) (world.active w) none told = absurd told
-watched_none (Some s) (world.sealed w stamp) none told = absurd told
+watched_none (Some s) (world.sealed w stamp) none told = absurd (let marks = ap (λ (u : Work). u.is_mark) told.bare in cc)
 watched_none (Some s) (world.snapshot x) none told = absurd none
 
 pub none_watched : (watched : Option Snapshot) (stand : Stand) → HasNone stand → watched ≡ None → TellsWatched watched stand
@@ -60,7 +60,7 @@ none_watched watched stand none is = subst (λ (o : Option Snapshot). TellsWatch
     there : (at : Stand) → HasNone at → TellsWatched None at
     there world.idle none = tt
     there (world.active w) none = tt
-    there (world.sealed w stamp) none = tt
+    there (world.sealed w stamp) none = none
     there (world.snapshot x) none = absurd none
 
 -- and a session without a transaction tells of none
@@ -83,11 +83,18 @@ pub look_watched : (asked : Option Command) (a : Answer) (watched : Option Snaps
 look_watched asked a None stand told = told
 look_watched asked a (Some s) world.idle told = absurd told
 look_watched asked a (Some s) (world.active w) told = absurd told
-look_watched asked a (Some s) (world.sealed w stamp) told = absurd told
+look_watched asked a (Some s) (world.sealed w stamp) told = record {
+  bare = told.bare;
+  snapshot = record { number_is = told.snapshot.number_is; begin_is = told.snapshot.begin_is };
+  safe = told.safe;
+  unfinished = told.unfinished;
+  untold = told.untold;
+}
 look_watched asked a (Some s) (world.snapshot x) told = record {
   snapshot = record { number_is = told.snapshot.number_is; begin_is = told.snapshot.begin_is };
   safe = told.safe;
   unfinished = told.unfinished;
+  untold = told.untold;
 }
 
 pub still_watched : (asked : Option Command) (a : Answer) (p : Progress) (stand : Stand) → asks_safe asked ≡ false → TellsWatched p.snapshot stand → TellsWatched (snapshot_after a asked p) stand
@@ -141,7 +148,7 @@ unchanged_told seat asked a (Some t) world.idle none told = absurd told
 unchanged_told seat asked a (Some t) (world.active w) none told =
     (lined seat asked a t w w refl refl (same_run asked a t w none told.0.ran) told.0, told.1)
 unchanged_told seat asked a (Some t) (world.sealed w stamp) none told =
-    (lined seat asked a t w w refl refl (same_run asked a t w none told.0.ran) told.0, told.1)
+    (lined seat asked a t w w refl refl (same_run asked a t w none told.0.ran) told.0, told.1, told.2)
 unchanged_told seat asked a (Some t) (world.snapshot s) none told = absurd told
 
 -- a transaction of the same name
@@ -150,14 +157,14 @@ of_work seat t u w session number begin told =
     record { session = session ∙ told.session; number = number ∙ told.number; begin = begin ∙ told.begin }
 
 -- it is sealed, which is told or not
-pub sealed_told : (seat stamp : ℕ) (current : Option Transaction) (w : Work) → TellsNow seat current (world.active w)
+pub sealed_told : (seat stamp : ℕ) (current : Option Transaction) (w : Work) → w.is_mark ≡ false → TellsNow seat current (world.active w)
     → TellsNow seat (option_map (with_seal stamp) current) (world.sealed w stamp)
-sealed_told seat stamp None w told = absurd told
-sealed_told seat stamp (Some t) w told = (record { work = of_work seat t (with_seal stamp t) w refl refl refl told.0.work; unfinished = told.0.unfinished; ran = told.0.ran }, inr refl)
+sealed_told seat stamp None w plain told = absurd told
+sealed_told seat stamp (Some t) w plain told = (record { work = of_work seat t (with_seal stamp t) w refl refl refl told.0.work; unfinished = told.0.unfinished; ran = told.0.ran }, plain, inr refl)
 
-pub sealed_untold : (seat stamp : ℕ) (current : Option Transaction) (w : Work) → TellsNow seat current (world.active w) → TellsNow seat current (world.sealed w stamp)
-sealed_untold seat stamp None w told = absurd told
-sealed_untold seat stamp (Some t) w told = (told.0, inl told.1)
+pub sealed_untold : (seat stamp : ℕ) (current : Option Transaction) (w : Work) → w.is_mark ≡ false → TellsNow seat current (world.active w) → TellsNow seat current (world.sealed w stamp)
+sealed_untold seat stamp None w plain told = absurd told
+sealed_untold seat stamp (Some t) w plain told = (told.0, plain, inl told.1)
 
 -- nothing is some stamp
 unsealed : (sealed : Option ℕ) (stamp : ℕ) (P : Type 0) → sealed ≡ None → sealed ≡ Some stamp → P
@@ -184,11 +191,11 @@ aborted_told seat ending ts (Some t) ss watched over w u ends number begin answe
 
 -- one with its commit stamp was decided
 pub decided_told : (seat : ℕ) (ending : Ending) (fate : Fate) (ts : List Transaction) (current : Option Transaction) (ss : List Snapshot) (watched : Option Snapshot) (over : List Finished)
-    (w : Work) (stamp : ℕ) → EndsAs ending fate → stamp_of fate ≡ Some stamp → ((steps : List Step) → WasRun w steps → RanAs fate w steps)
+    (w : Work) (stamp : ℕ) → w.is_mark ≡ false → EndsAs ending fate → stamp_of fate ≡ Some stamp → ((steps : List Step) → WasRun w steps → RanAs fate w steps)
     → TellsOver seat ts ss over → TellsNow seat current (world.sealed w stamp) → watched ≡ None
     → TellsOver seat (ts ++ option_to_list (option_map (with_ending ending) current)) (ss ++ option_to_list watched) (over ++ record { work = w; fate = fate } ∷ [])
-decided_told seat ending fate ts None ss watched over w stamp ends is ran told now none = absurd now
-decided_told seat ending fate ts (Some t) ss watched over w stamp ends is ran told now none =
+decided_told seat ending fate ts None ss watched over w stamp plain ends is ran told now none = absurd (cc)
+decided_told seat ending fate ts (Some t) ss watched over w stamp plain ends is ran told now none =
     subst (λ (list : List Snapshot). TellsOver seat (ts ++ with_ending ending t ∷ []) list (over ++ record { work = w; fate = fate } ∷ [])) (more_none ss watched none)
     (one_more seat ts ss over (with_ending ending t) (record { work = w; fate = fate }) told (record {
       work = of_work seat t (with_ending ending t) w refl refl refl now.0.work;
@@ -197,14 +204,27 @@ decided_told seat ending fate ts (Some t) ss watched over w stamp ends is ran to
       sealed = λ other same. ⊎_elim
           (λ (none : t.sealed ≡ None). unsealed t.sealed other (stamp_of fate ≡ Some other) none same)
           (λ (some : t.sealed ≡ Some stamp). is ∙ sym some ∙ same)
-          now.1;
+          now.2;
     }))
 
 -- a snapshot is over, whether it is told to have its place or not
 pub ended_told : (seat : ℕ) (ts : List Transaction) (current : Option Transaction) (f : Transaction → Transaction) (ss : List Snapshot) (s : Snapshot) (x : world.Snapshot) (over : List Finished)
-    → TellsOver seat ts ss over → TellsNow seat current (world.snapshot x) → TellsSnapshot s x.number x.begin
+    → TellsOver seat ts ss over → TellsNow seat current (world.snapshot x) → TellsSnapshot s x.number x.begin → s.mark ≡ None
     → TellsOver seat (ts ++ option_to_list (option_map f current)) (ss ++ s ∷ []) (over ++ record { work = world.begun x.number x.begin; fate = world.aborts } ∷ [])
-ended_told seat ts (Some t) f ss s x over told now tells = absurd now
-ended_told seat ts None f ss s x over told now tells =
+ended_told seat ts (Some t) f ss s x over told now tells none = absurd now
+ended_told seat ts None f ss s x over told now tells none =
     subst (λ (list : List Transaction). TellsOver seat list (ss ++ s ∷ []) (over ++ record { work = world.begun x.number x.begin; fate = world.aborts } ∷ [])) (sym (append-nil ts))
-    (one_ended seat ts ss over s (record { work = world.begun x.number x.begin; fate = world.aborts }) told (record { snapshot = tells; bare = refl; aborted = refl }))
+    (one_ended seat ts ss over s (record { work = world.begun x.number x.begin; fate = world.aborts }) told (record { snapshot = tells; bare = ap (λ (o : Option (ℕ × ℕ)). record (world.begun x.number x.begin) { is_mark = is_some o }) (sym none); ended = ap fate_told (sym none) }))
+
+-- or with its mark
+pub marked_told : (seat : ℕ) (ts : List Transaction) (current : Option Transaction) (f : Transaction → Transaction) (ss : List Snapshot) (s : Snapshot) (w : Work) (stamp safe own : ℕ) (over : List Finished)
+    → TellsOver seat ts ss over → TellsNow seat current (world.sealed w own) → TellsMark s w → stamp ≡ own → safe ≡ w.begin
+    → TellsOver seat (ts ++ option_to_list (option_map f current)) (ss ++ with_mark safe stamp s ∷ []) (over ++ record { work = w; fate = world.marked own w.begin } ∷ [])
+marked_told seat ts (Some t) f ss s w stamp safe own over told now tells at begins = absurd (let marks = ap (λ (u : Work). u.is_mark) tells.bare in let plain = now.1 in cc)
+marked_told seat ts None f ss s w stamp safe own over told now tells at begins =
+    subst (λ (list : List Transaction). TellsOver seat list (ss ++ with_mark safe stamp s ∷ []) (over ++ record { work = w; fate = world.marked own w.begin } ∷ [])) (sym (append-nil ts))
+    (one_ended seat ts ss over (with_mark safe stamp s) (record { work = w; fate = world.marked own w.begin }) told (record {
+      snapshot = record { number_is = tells.snapshot.number_is; begin_is = tells.snapshot.begin_is };
+      bare = tells.bare;
+      ended = ap (λ (n : ℕ). world.marked n w.begin) (sym at) ∙ ap (λ (n : ℕ). world.marked stamp n) (sym begins);
+    }))

@@ -161,6 +161,10 @@ seals v seat stamp t active did =
     (ap (λ (s : Session). s.over) did.own ∙ sym (append-nil (v.session seat).over))
     (w, extends_itself w, inr (inl (stamp, ap (λ (s : Session). s.stand) did.own)))
 
+-- it is no mark
+pub seals_plain : (v : View) (seat stamp : ℕ) (t : View) → phase_at v seat ≡ Active → DidSeal v seat stamp t → (work_at v seat).is_mark ≡ false
+seals_plain v seat stamp t active did = did.unmarked (work_at v seat) (active_in (v.session seat).stand active)
+
 -- the current transaction of an active session
 pub now_active : (seat : ℕ) (p : Progress) (s : Session) → phase_of s.stand ≡ Active → Tells seat p s → TellsNow seat p.current (world.active (work_of s.stand))
 now_active seat p s active told = subst (λ (stand : Stand). TellsNow seat p.current stand) (active_in s.stand active) told.now
@@ -187,8 +191,8 @@ turn_sealed v seat stamp asked t active did = record {
     tells = subst (λ (s : Session). Tells seat (heard seat asked (answer.Sealed stamp) p) s) (sym did.own)
         (record {
           over = told.tells.over;
-          now = sealed_told seat stamp p.current (work_at v seat) (now_active seat p (v.session seat) active told.tells);
-          watched = none_watched p.snapshot (world.sealed (work_at v seat) stamp) tt (none_active seat p (v.session seat) active told.tells);
+          now = sealed_told seat stamp p.current (work_at v seat) (seals_plain v seat stamp t active did) (now_active seat p (v.session seat) active told.tells);
+          watched = none_watched p.snapshot (world.sealed (work_at v seat) stamp) (seals_plain v seat stamp t active did) (none_active seat p (v.session seat) active told.tells);
         });
     runs = sealed_rests v seat stamp t did (heard seat asked (answer.Sealed stamp) p).current;
   };
@@ -200,8 +204,8 @@ told_sealed v seat stamp t p active did told = record {
   tells = subst (λ (s : Session). Tells seat p s) (sym did.own)
       (record {
         over = told.tells.over;
-        now = sealed_untold seat stamp p.current (work_at v seat) (now_active seat p (v.session seat) active told.tells);
-        watched = none_watched p.snapshot (world.sealed (work_at v seat) stamp) tt (none_active seat p (v.session seat) active told.tells);
+        now = sealed_untold seat stamp p.current (work_at v seat) (seals_plain v seat stamp t active did) (now_active seat p (v.session seat) active told.tells);
+        watched = none_watched p.snapshot (world.sealed (work_at v seat) stamp) (seals_plain v seat stamp t active did) (none_active seat p (v.session seat) active told.tells);
       });
   runs = sealed_rests v seat stamp t did p.current;
 }
@@ -224,19 +228,19 @@ turn_aborted v seat asked t active now =
 
 -- One with its commit stamp was decided.
 pub turn_decided : (v : View) (seat : ℕ) (asked : Option Command) (a : Answer) (t : View) (w : Work) (stamp : ℕ) (ending : Ending) (fate : Fate)
-    → (v.session seat).stand ≡ world.sealed w stamp → IsDone v seat w fate t → phase_after asked a (phase_at v seat) ≡ Idle
+    → (v.session seat).stand ≡ world.sealed w stamp → w.is_mark ≡ false → IsDone v seat w fate t → phase_after asked a (phase_at v seat) ≡ Idle
     → ((p : Progress) → heard seat asked a p ≡ ended ending p) → EndsAs ending fate → stamp_of fate ≡ Some stamp
     → ((steps : List Step) → WasRun w steps → RanAs fate w steps) → Turn v seat asked a t
-turn_decided v seat asked a t w stamp ending fate stand now phase hears ends is ran =
+turn_decided v seat asked a t w stamp ending fate stand plain now phase hears ends is ran =
     let f : Finished = record { work = w; fate = fate } in
     let over = (v.session seat).over in
     let s : Session = record { over = over ++ f ∷ []; stand = world.idle } in
     becomes v seat s asked a t now (λ active. cc)
     (continues_from (v.session seat) s (world.sealed w stamp) stand (f ∷ []) refl (inr (f, [], over, refl, refl, is))) phase
     (λ p told. subst (λ (q : Progress). Tells seat q s) (sym (hears p)) (record {
-      over = decided_told seat ending fate p.over p.current p.snapshots p.snapshot over w stamp ends is ran told.over
+      over = decided_told seat ending fate p.over p.current p.snapshots p.snapshot over w stamp plain ends is ran told.over
           (subst (λ (at : Stand). TellsNow seat p.current at) stand told.now)
-          (watched_none p.snapshot (world.sealed w stamp) tt (subst (λ (at : Stand). TellsWatched p.snapshot at) stand told.watched));
+          (watched_none p.snapshot (world.sealed w stamp) plain (subst (λ (at : Stand). TellsWatched p.snapshot at) stand told.watched));
       now = tt;
       watched = tt;
     }))

@@ -1,5 +1,5 @@
 -- Turns of a session that has a snapshot, or begins one.
-use Rattle.std.proofs.Common.{◌≡◌, ℕ, ◌+◌, Bool, true, false, if◌then◌else◌, List, [], ◌∷◌, ◌++◌, append-nil, length, Option, Some, None, option_map, option_to_list, refl, sym, ap, ◌∙◌, subst, arith}
+use Rattle.std.proofs.Common.{◌≡◌, ℕ, ◌+◌, Bool, true, false, if◌then◌else◌, List, [], ◌∷◌, ◌++◌, append-nil, length, Option, Some, None, option_map, option_to_list, refl, sym, ap, ◌∙◌, subst, arith, inr}
 use Rattle.std.specs.Option.{option_map_or}
 use Rattle.erm_model.specs.declared.operation.Reply.{Reply}
 use Rattle.erm_model.specs.declared.outcome.Phase.{Phase}
@@ -8,18 +8,18 @@ use Rattle.erm_report.specs.declared.answer.Answer.{Answer}
 use Rattle.erm_report.specs.declared.answer.Answer.TheVariants as answer
 use Rattle.erm_script.specs.declared.script.Command.{Command}
 use Rattle.erm_script.specs.declared.script.Command.TheVariants as command
-use Rattle.erm_world.specs.Calls.{DidAbort}
-use Rattle.erm_world.specs.Safe.{DidBeginSafe, HasSnapshot, with_snapshot}
+use Rattle.erm_world.specs.Calls.{DidAbort, IsDone}
+use Rattle.erm_world.specs.Safe.{DidBeginSafe, HasSnapshot, with_snapshot, DidMark}
 use Rattle.erm_world.specs.Snapshots.{snapshot_not_active}
 use Rattle.erm_world.specs.World.{Finished, Session, Stand, View, Work, phase_at, phase_of, work_at, work_of}
 use Rattle.erm_world.specs.World as world
 use Rattle.erm_good_report.specs.Phases.{phase_after, refusal_of}
-use Rattle.erm_good_report.specs.Transactions.{Aborts, Progress, Snapshot, Transaction, ended, heard, next_number, own_snapshot, with_end, with_ending, with_line, with_look}
+use Rattle.erm_good_report.specs.Transactions.{Aborts, Progress, Snapshot, Transaction, ended, heard, next_number, own_snapshot, with_end, with_ending, with_line, with_look, with_mark}
 use Rattle.erm_lines.specs.Answers.{DidAskDurable, DidAskSafe, DidAskSnapshot, DidBeginAndAsk, DidOfSnapshot}
-use Rattle.erm_lines.specs.Told.{Tells, TellsNow, TellsOver, TellsSnapshot, TellsWatch, TellsWatched}
+use Rattle.erm_lines.specs.Told.{Tells, TellsNow, TellsOver, TellsSnapshot, TellsWatch, TellsWatched, TellsMark}
 use Rattle.erm_lines.proofs.Watched.{begun_pending, has_phase, pending_where}
 use Rattle.erm_told.proofs.Going.{continues_from, continues_then}
-use Rattle.erm_told.proofs.Sessions.{ended_told, look_watched, next_is, now_none, now_watching, unchanged_told, watched_none}
+use Rattle.erm_told.proofs.Sessions.{ended_told, look_watched, next_is, now_none, now_watching, unchanged_told, watched_none, marked_told}
 use Rattle.erm_told.proofs.Steps.{added}
 use Rattle.erm_told.proofs.Turns.{RunsNow, TellsAt, Turn, becomes, idle_in, runs_still, told_still, turn_still}
 
@@ -68,7 +68,7 @@ own_begun seat begin p over told now watched =
       now = subst (λ (o : Option Transaction). TellsNow seat o (world.snapshot x)) (sym (now_none seat p.current now)) tt;
       watched = subst (λ (o : Option Snapshot). TellsWatch (option_map_or (λ (s : Snapshot). s) o (record { number = next_number p; begin = None; lines = []; placed = false; mark = None })) x)
           (sym (watched_none p.snapshot world.idle tt watched))
-          (record { snapshot = record { number_is = next_is seat p over told; begin_is = tt }; safe = refl; unfinished = refl });
+          (record { snapshot = record { number_is = next_is seat p over told; begin_is = tt }; safe = refl; unfinished = refl; untold = refl });
     }
 
 -- what was told goes on with the snapshot that begins
@@ -92,6 +92,7 @@ module _ (v : View) (seat : ℕ) (x : world.Snapshot) (stand : (v.session seat).
     pub own : Snapshot
     pub is : last ≡ Some own
     pub tells : TellsSnapshot own x.number x.begin
+    pub untold : own.mark ≡ None
 
   turn_over : (asked : Option Command) (a : Answer) (t : View) (last : Progress → Option Snapshot) → DidAbort v seat t → phase_after asked a (phase_at v seat) ≡ Idle
       → ((p : Progress) → heard seat asked a p ≡ ended Aborts (record p { snapshot = last p })) → ((p : Progress) → Tells seat p (v.session seat) → Ends (last p)) → Turn v seat asked a t
@@ -107,16 +108,16 @@ module _ (v : View) (seat : ℕ) (x : world.Snapshot) (stand : (v.session seat).
             subst (λ (o : Option Snapshot). TellsOver seat (p.over ++ option_to_list (option_map (with_ending Aborts) p.current)) (p.snapshots ++ option_to_list o) (over ++ f ∷ [])) (sym own.is)
             (subst (λ (u : Work). TellsOver seat (p.over ++ option_to_list (option_map (with_ending Aborts) p.current)) (p.snapshots ++ own.own ∷ [])
             (over ++ record { work = u; fate = world.aborts } ∷ [])) (sym (ap work_of stand))
-            (ended_told seat p.over p.current (with_ending Aborts) p.snapshots own.own x over told.over (now_at p told) own.tells));
+            (ended_told seat p.over p.current (with_ending Aborts) p.snapshots own.own x over told.over (now_at p told) own.tells own.untold));
         now = tt;
         watched = tt;
       }))
 
   ends_own : (p : Progress) → Tells seat p (v.session seat) → Ends (Some (own_snapshot p))
-  ends_own p told = record { own = own_snapshot p; is = refl; tells = (own_watched p x (watched_at p told)).snapshot }
+  ends_own p told = let w = own_watched p x (watched_at p told) in record { own = own_snapshot p; is = refl; tells = w.snapshot; untold = w.untold }
 
   ends_still : (p : Progress) → Tells seat p (v.session seat) → Ends p.snapshot
-  ends_still p told = let w = watching p.snapshot x (watched_at p told) in record { own = w.own; is = w.is; tells = w.tells.snapshot }
+  ends_still p told = let w = watching p.snapshot x (watched_at p told) in record { own = w.own; is = w.is; tells = w.tells.snapshot; untold = w.tells.untold }
 
   ends_placed : (p : Progress) → Tells seat p (v.session seat) → Ends (option_map with_end p.snapshot)
   ends_placed p told =
@@ -124,6 +125,7 @@ module _ (v : View) (seat : ℕ) (x : world.Snapshot) (stand : (v.session seat).
         own = with_end w.own;
         is = ap (λ (o : Option Snapshot). option_map with_end o) w.is;
         tells = record { number_is = w.tells.snapshot.number_is; begin_is = w.tells.snapshot.begin_is };
+        untold = w.tells.untold;
       }
 
   pub turn_given_up : (asked : Option Command) (t : View) → DidAbort v seat t → Turn v seat asked answer.Aborted t
@@ -170,6 +172,7 @@ module _ (v : View) (seat : ℕ) (x : world.Snapshot) (stand : (v.session seat).
           snapshot = record { number_is = own.snapshot.number_is; begin_is = same ∙ ap (λ (stand : Stand). (work_of stand).begin) at };
           safe = refl;
           unfinished = own.unfinished;
+          untold = own.untold;
         };
       })
 
@@ -191,6 +194,55 @@ module _ (v : View) (seat : ℕ) (x : world.Snapshot) (stand : (v.session seat).
   turn_asks (answer.WaitSeat other seen) t pending did = turn_waits other seen t pending did
   turn_asks (answer.Unsafe other stamp) t pending did = turn_unsafe other stamp t did
   turn_asks a t pending did = absurd did
+
+-- A MARK. The snapshot that was told stays so while its mark is sealed.
+pub told_marking : (v : View) (seat stamp : ℕ) (u : View) (p : Progress) → DidMark v seat stamp u → TellsAt seat p v → TellsAt seat p u
+told_marking v seat stamp u p did told =
+    let x = did.snapshot in record {
+      tells = subst (λ (s : Session). Tells seat p s) (sym did.seals.own)
+          (record {
+            over = told.tells.over;
+            now = now_marking p.current (subst (λ (at : Stand). TellsNow seat p.current at) did.stands told.tells.now);
+            watched = marking_watched p.snapshot (subst (λ (at : Stand). TellsWatched p.snapshot at) did.stands told.tells.watched);
+          });
+      runs = λ one is active. let at = sym (ap (λ (s : Session). phase_of s.stand) did.seals.own) ∙ active in absurd (cc);
+    }
+  where
+    now_marking : (current : Option Transaction) → TellsNow seat current (world.snapshot did.snapshot) → TellsNow seat current (world.sealed (world.marking did.snapshot) stamp)
+    now_marking None now = refl
+    now_marking (Some t) now = absurd now
+
+    marking_watched : (watched : Option Snapshot) → TellsWatched watched (world.snapshot did.snapshot) → TellsWatched watched (world.sealed (world.marking did.snapshot) stamp)
+    marking_watched None now = absurd now
+    marking_watched (Some s) now = record { bare = refl; snapshot = now.snapshot; safe = now.safe ∙ did.safe; unfinished = now.unfinished; untold = now.untold }
+
+-- one whose mark is sealed
+pub record Marking (watched : Option Snapshot) (w : Work) : Type 0 where
+  pub own : Snapshot
+  pub is : watched ≡ Some own
+  pub tells : TellsMark own w
+
+marking_of : (watched : Option Snapshot) (w : Work) (stamp : ℕ) → w.is_mark ≡ true → TellsWatched watched (world.sealed w stamp) → Marking watched w
+marking_of None w stamp marks told = absurd (cc)
+marking_of (Some s) w stamp marks told = record { own = s; is = refl; tells = told }
+
+-- and it is marked
+pub turn_marked : (v : View) (seat : ℕ) (asked : Option Command) (safe stamp : ℕ) (t : View) (w : Work) (own : ℕ) → (v.session seat).stand ≡ world.sealed w own → w.is_mark ≡ true
+    → IsDone v seat w (world.marked own w.begin) t → stamp ≡ own → safe ≡ w.begin → Turn v seat asked (answer.Marked safe stamp) t
+turn_marked v seat asked safe stamp t w own stand marks now at begins =
+    let f : Finished = record { work = w; fate = world.marked own w.begin } in
+    let over = (v.session seat).over in
+    let s : Session = record { over = over ++ f ∷ []; stand = world.idle } in
+    becomes v seat s asked (answer.Marked safe stamp) t now (λ active. cc)
+    (continues_from (v.session seat) s (world.sealed w own) stand (f ∷ []) refl (inr (f, [], over, refl, refl, refl))) refl
+    (λ p told.
+    let it = marking_of p.snapshot w own marks (subst (λ (stands : Stand). TellsWatched p.snapshot stands) stand told.watched) in record {
+      over =
+          subst (λ (o : Option Snapshot). TellsOver seat (p.over ++ option_to_list (option_map (with_ending Aborts) p.current)) (p.snapshots ++ option_to_list (option_map (with_mark safe stamp) o)) (over ++ f ∷ [])) (sym it.is)
+          (marked_told seat p.over p.current (with_ending Aborts) p.snapshots it.own w stamp safe own over told.over (subst (λ (stands : Stand). TellsNow seat p.current stands) stand told.now) it.tells at begins);
+      now = tt;
+      watched = tt;
+    })
 
 -- A SNAPSHOT THAT BEGINS. Whatever the phase was, the answer leaves the same, and tells the same of the snapshot that has begun.
 asked_leaves : (v : View) (seat : ℕ) (a : Answer) (t : View) → DidAskSafe v seat a t → phase_after (Some command.Safe) a Idle ≡ phase_after (Some command.Safe) a Pending
@@ -254,13 +306,14 @@ turn_durable v seat answer.NoReceipt t did =
     turn_still v seat (Some command.Durable) answer.NoReceipt t did.0 refl (λ p told. told_still seat (Some command.Durable) answer.NoReceipt p v refl refl told)
 turn_durable v seat a t did = absurd did
 
-pub turn_of_snapshot : (v : View) (seat : ℕ) (c : Command) (a : Answer) (t : View) → HasSnapshot v seat → refusal_of (phase_at v seat) c ≡ None → DidOfSnapshot v seat c a t → Turn v seat (Some c) a t
-turn_of_snapshot v seat command.Safe a t has free did =
+pub turn_of_snapshot : (v : View) (seat : ℕ) (c : Command) (a : Answer) (t : View) → HasSnapshot v seat → (c ≡ command.Mark → ⊥) → refusal_of (phase_at v seat) c ≡ None → DidOfSnapshot v seat c a t → Turn v seat (Some c) a t
+turn_of_snapshot v seat command.Safe a t has other free did =
     turn_asks v seat has.0 has.1 a t (pending_where (phase_at v seat) command.Safe (has_phase v seat has) free refl) did
-turn_of_snapshot v seat (command.Get table key) (answer.Replied r) t has free did = turn_look v seat has.0 has.1 (command.Get table key) r t did.same
-turn_of_snapshot v seat (command.Next table from) (answer.Replied r) t has free did = turn_look v seat has.0 has.1 (command.Next table from) r t did.same
-turn_of_snapshot v seat (command.Scan table low high) (answer.Replied r) t has free did = turn_look v seat has.0 has.1 (command.Scan table low high) r t did.same
-turn_of_snapshot v seat command.Commit answer.Ended t has free did = turn_placed v seat has.0 has.1 (Some command.Commit) t did
-turn_of_snapshot v seat command.Abort answer.Aborted t has free did = turn_given_up v seat has.0 has.1 (Some command.Abort) t did
-turn_of_snapshot v seat command.Durable a t has free did = turn_durable v seat a t did
-turn_of_snapshot v seat c a t has free did = absurd did
+turn_of_snapshot v seat (command.Get table key) (answer.Replied r) t has other free did = turn_look v seat has.0 has.1 (command.Get table key) r t did.same
+turn_of_snapshot v seat (command.Next table from) (answer.Replied r) t has other free did = turn_look v seat has.0 has.1 (command.Next table from) r t did.same
+turn_of_snapshot v seat (command.Scan table low high) (answer.Replied r) t has other free did = turn_look v seat has.0 has.1 (command.Scan table low high) r t did.same
+turn_of_snapshot v seat command.Commit answer.Ended t has other free did = turn_placed v seat has.0 has.1 (Some command.Commit) t did
+turn_of_snapshot v seat command.Abort answer.Aborted t has other free did = turn_given_up v seat has.0 has.1 (Some command.Abort) t did
+turn_of_snapshot v seat command.Durable a t has other free did = turn_durable v seat a t did
+turn_of_snapshot v seat command.Mark a t has other free did = absurd (other refl)
+turn_of_snapshot v seat c a t has other free did = absurd did

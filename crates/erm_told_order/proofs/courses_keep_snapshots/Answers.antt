@@ -20,6 +20,7 @@ returns c =
       settles = on.settles;
       aborts = on.aborts;
       begins_safe = on.begins_safe;
+      marks = on.marks;
       is_safe = on.is_safe;
       not_begun = refused.begins;
       not_read = refused.reads;
