@@ -85,6 +85,7 @@ module _ (count : Command → ℕ) (seat : ℕ) (c : Command) (p : Progress) (t 
   heard_was (answer.Sealed stamp) e = inr (was_mapped count p.current _ 0 (λ u. omega arith) t e)
   heard_was (answer.Committed stamp succ pred) e = absurd (cc)
   heard_was (answer.Excluded stamp succ pred) e = absurd (cc)
+  heard_was (answer.Marked safe stamp) e = absurd (cc)
   heard_was (answer.ExcludedEarly succ pred) e = absurd (cc)
   heard_was (answer.Owned other number) e = absurd (cc)
   heard_was (answer.Newer stamp) e = absurd (cc)

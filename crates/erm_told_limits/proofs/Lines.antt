@@ -16,7 +16,7 @@ use Rattle.erm_world.specs.Face as face
 use Rattle.erm_world.specs.Going.{Extends}
 use Rattle.erm_world.specs.Laws.{IsSerializable}
 use Rattle.erm_world.specs.Works.{claiming, reading, row_read}
-use Rattle.erm_world.specs.World.{Fate, Finished, Has, IsCurrent, IsOver, IsSession, Session, Stand, View, Work, begun, made_by_all, phase_at, phase_of, work_at, work_of}
+use Rattle.erm_world.specs.World.{Fate, Finished, Has, IsCurrent, IsOver, IsSession, Session, Stand, View, Work, begun, made_by_all, phase_at, phase_of, work_at, work_of, Snapshot, marking}
 use Rattle.erm_world.specs.World as world
 use Rattle.erm_world.proofs.Lists.{∈-last}
 use Rattle.erm_world.proofs.Txns.{stopped}
@@ -58,6 +58,14 @@ same_moved P s t over work =
 pub begun_moved : (P : ℕ → Type 0) (s t : Session) (n b : ℕ) → s.stand ≡ world.idle → t.over ≡ s.over → work_of t.stand ≡ begun n b → Moved P 0 0 0 s t
 begun_moved P s t n b idle over now =
     let before : work_of s.stand ≡ begun 0 0 = ap work_of idle in
+    moved_on P 0 0 s t over
+    (subst (λ (w : Work). Grew (work_of s.stand) w 0 0) (sym now) (record { made = omega arith; claimed = omega arith; few = λ few. omega arith; apart = λ apart. nothing_apart }))
+    (λ x. omega (arith, ap (λ (y : Work). times_made y.made x) before))
+    (λ x read. let none : is_some (row_read (work_of t.stand).reads x) ≡ false = ap (λ (w : Work). is_some (row_read w.reads x)) now in absurd (cc))
+
+pub marked_moved : (P : ℕ → Type 0) (s t : Session) (r : Snapshot) → s.stand ≡ world.snapshot r → t.over ≡ s.over → work_of t.stand ≡ marking r → Moved P 0 0 0 s t
+marked_moved P s t r stand over now =
+    let before : work_of s.stand ≡ begun r.number r.begin = ap work_of stand in
     moved_on P 0 0 s t over
     (subst (λ (w : Work). Grew (work_of s.stand) w 0 0) (sym now) (record { made = omega arith; claimed = omega arith; few = λ few. omega arith; apart = λ apart. nothing_apart }))
     (λ x. omega (arith, ap (λ (y : Work). times_made y.made x) before))

@@ -12,10 +12,10 @@ use Rattle.erm_world.specs.World as world
 use Rattle.erm_good_report.specs.Opening.{Opening, InTurn}
 use Rattle.erm_good_report.specs.Phases.{FitsRefusal, IsAnswerTo, IsClaimStop, IsReadStop, asks_commit, need_of, refusal_in, refusal_of}
 use Rattle.erm_good_report.specs.Refusals.{IsInReach, draws_of, moment_at, most_end, total_of}
-use Rattle.erm_good_report.specs.Stamps.{begin_told, stamp_drawn}
+use Rattle.erm_good_report.specs.Stamps.{begin_told, stamp_drawn, stamp_told}
 use Rattle.erm_good_report.specs.Transactions.{Transaction, said_of}
 use Rattle.erm_good_report.proofs.Phases.{phase_refuses}
-use Rattle.erm_lines.specs.Answers.{DidAsked, DidCommand, DidCommit, DidDecide, DidLine, DidOfSnapshot}
+use Rattle.erm_lines.specs.Answers.{DidAsked, DidCommand, DidCommit, DidDecide, DidLine, DidOfSnapshot, DidAskMark}
 use Rattle.erm_lines.specs.Executions.{DidLog, DidLogLine, IsCourse, IsOpeningOf}
 use Rattle.erm_lines.proofs.Moved.{moved}
 use Rattle.erm_told_limits.proofs.At.{AtMove, take_next}
@@ -72,11 +72,13 @@ phase_stop n c answer.NotSafe is = quiet n c answer.NotSafe refl (either (asks_c
 phase_stop n c a is = absurd (cc)
 
 -- A COMMIT that is decided at once tells the stamp that it drew.
-decided_at : (v : View) (seat stamp : ℕ) (a : Answer) (t : View) → DidDecide v seat a t → stamp_drawn (Some command.Commit) a ≡ Some stamp → (w : world.Work) × ((v.session seat).stand ≡ world.sealed w stamp)
+decided_at : (v : View) (seat stamp : ℕ) (a : Answer) (t : View) → DidDecide v seat a t → stamp_told a ≡ Some stamp → (w : world.Work) × ((v.session seat).stand ≡ world.sealed w stamp)
 decided_at v seat stamp (answer.Committed at succ pred) t (r, at_is, after, before, (w, own, stand, ready, settled)) told =
-    (w, stand ∙ ap (λ (n : ℕ). world.sealed w n) (sym settled.2 ∙ at_is ∙ some_is at stamp told))
+    (w, stand ∙ ap (λ (n : ℕ). world.sealed w n) (sym settled.3 ∙ at_is ∙ some_is at stamp told))
 decided_at v seat stamp (answer.Excluded at succ pred) t (w, own, stand, ready, settled) told =
-    (w, stand ∙ ap (λ (n : ℕ). world.sealed w n) (sym settled.1 ∙ some_is at stamp told))
+    (w, stand ∙ ap (λ (n : ℕ). world.sealed w n) (sym settled.2 ∙ some_is at stamp told))
+decided_at v seat stamp (answer.Marked safe at) t (w, own, stand, ready, settled) told =
+    (w, stand ∙ ap (λ (n : ℕ). world.sealed w n) (sym settled.2 ∙ some_is at stamp told))
 decided_at v seat stamp (answer.WaitSeat other seen) t did told = absurd (cc)
 decided_at v seat stamp (answer.WaitRing flushed) t did told = absurd (cc)
 decided_at v seat stamp a t did told = absurd did
@@ -90,15 +92,39 @@ stamp_sealed w u m n is = ap stamp_of is
     stamp_of (world.sealed x k) = k
     stamp_of (world.snapshot s) = 0
 
+commits_told : (v : View) (seat : ℕ) (a : Answer) (t : View) → DidDecide v seat a t → stamp_drawn (Some command.Commit) a ≡ stamp_told a
+commits_told v seat (answer.Committed at succ pred) t did = refl
+commits_told v seat (answer.Excluded at succ pred) t did = refl
+commits_told v seat (answer.Marked safe at) t did = refl
+commits_told v seat (answer.WaitSeat other seen) t did = refl
+commits_told v seat (answer.WaitRing flushed) t did = refl
+commits_told v seat a t did = absurd did
+
+marks_told : (v : View) (seat : ℕ) (a : Answer) (t : View) → DidDecide v seat a t → stamp_drawn (Some command.Mark) a ≡ stamp_told a
+marks_told v seat (answer.Committed at succ pred) t did = refl
+marks_told v seat (answer.Excluded at succ pred) t did = refl
+marks_told v seat (answer.Marked safe at) t did = refl
+marks_told v seat (answer.WaitSeat other seen) t did = refl
+marks_told v seat (answer.WaitRing flushed) t did = refl
+marks_told v seat a t did = absurd did
+
+-- so does a mark
+mark_starts : (v : View) (seat : ℕ) (a : Answer) (t : View) → DidAskMark v seat a t → (stamp : ℕ) → stamp_drawn (Some command.Mark) a ≡ Some stamp → stamp ≡ v.tail
+mark_starts v seat a t did stamp told =
+    let decided = decided_at did.between seat stamp a t did.decided (sym (marks_told did.between seat a t did.decided) ∙ told) in
+    let same = stamp_sealed (world.marking did.sealed.snapshot) decided.0 did.stamp stamp (sym (ap (λ (s : Session). s.stand) did.sealed.seals.own) ∙ decided.1) in
+    sym same ∙ did.sealed.seals.stamp_is
+
 commit_starts : (v : View) (seat : ℕ) (a : Answer) (t : View) → DidCommit v seat a t → (stamp : ℕ) → stamp_drawn (Some command.Commit) a ≡ Some stamp → stamp ≡ v.tail
 commit_starts v seat a t did stamp told =
-    let decided = decided_at did.between seat stamp a t did.decided told in
+    let decided = decided_at did.between seat stamp a t did.decided (sym (commits_told did.between seat a t did.decided) ∙ told) in
     let same = stamp_sealed (world.work_at v seat) decided.0 did.stamp stamp (sym (ap (λ (s : Session). s.stand) did.sealed.own) ∙ decided.1) in
     sym same ∙ did.sealed.stamp_is
 
 no_begin : (v : View) (seat : ℕ) (a : Answer) (t : View) → DidDecide v seat a t → begin_told a ≡ None
 no_begin v seat (answer.Committed at succ pred) t did = refl
 no_begin v seat (answer.Excluded at succ pred) t did = refl
+no_begin v seat (answer.Marked safe at) t did = refl
 no_begin v seat (answer.WaitSeat other seen) t did = refl
 no_begin v seat (answer.WaitRing flushed) t did = refl
 no_begin v seat a t did = absurd did
@@ -106,6 +132,7 @@ no_begin v seat a t did = absurd did
 settles : (n : ℕ) (v : View) (seat : ℕ) (a : Answer) (t : View) → DidDecide v seat a t → Starts n command.Settle a
 settles n v seat (answer.Committed at succ pred) t did = quiet n command.Settle (answer.Committed at succ pred) refl refl
 settles n v seat (answer.Excluded at succ pred) t did = quiet n command.Settle (answer.Excluded at succ pred) refl refl
+settles n v seat (answer.Marked safe at) t did = quiet n command.Settle (answer.Marked safe at) refl refl
 settles n v seat (answer.WaitSeat other seen) t did = quiet n command.Settle (answer.WaitSeat other seen) refl refl
 settles n v seat (answer.WaitRing flushed) t did = quiet n command.Settle (answer.WaitRing flushed) refl refl
 settles n v seat a t did = absurd did
@@ -161,15 +188,16 @@ module _ (n : ℕ) where
   safe_starts answer.NumbersEnd fits = quiet n command.Safe answer.NumbersEnd refl refl
   safe_starts a fits = absurd fits
 
-  watched_starts : (v : View) (seat : ℕ) (c : Command) (a : Answer) (t : View) → IsAnswerTo c a → DidOfSnapshot v seat c a t → Starts n c a
-  watched_starts v seat command.Safe a t fits did = safe_starts a fits
-  watched_starts v seat (command.Get table key) a t fits did = get_starts table key a fits
-  watched_starts v seat (command.Next table from) a t fits did = next_starts table from a fits
-  watched_starts v seat (command.Scan table low high) a t fits did = scan_starts table low high a fits
-  watched_starts v seat command.Commit answer.Ended t fits did = quiet n command.Commit answer.Ended refl refl
-  watched_starts v seat command.Abort answer.Aborted t fits did = quiet n command.Abort answer.Aborted refl refl
-  watched_starts v seat command.Durable a t fits did = durable_starts a fits
-  watched_starts v seat c a t fits did = absurd did
+  watched_starts : (v : View) (seat : ℕ) (c : Command) (a : Answer) (t : View) → (c ≡ command.Mark → ⊥) → IsAnswerTo c a → DidOfSnapshot v seat c a t → Starts n c a
+  watched_starts v seat command.Safe a t other fits did = safe_starts a fits
+  watched_starts v seat (command.Get table key) a t other fits did = get_starts table key a fits
+  watched_starts v seat (command.Next table from) a t other fits did = next_starts table from a fits
+  watched_starts v seat (command.Scan table low high) a t other fits did = scan_starts table low high a fits
+  watched_starts v seat command.Commit answer.Ended t other fits did = quiet n command.Commit answer.Ended refl refl
+  watched_starts v seat command.Mark a t other fits did = absurd (other refl)
+  watched_starts v seat command.Abort answer.Aborted t other fits did = quiet n command.Abort answer.Aborted refl refl
+  watched_starts v seat command.Durable a t other fits did = durable_starts a fits
+  watched_starts v seat c a t other fits did = absurd did
 
 command_starts : (v : View) (seat : ℕ) (c : Command) (a : Answer) (t : View) → IsAnswerTo c a → DidCommand v seat c a t → Starts v.tail c a
 command_starts v seat command.Begin (answer.Began begin) t fits did = record { begin = λ stamp told. sym (some_is begin stamp told) ∙ did.2; drawn = λ stamp told. absurd (cc) }
@@ -194,9 +222,16 @@ command_starts v seat command.Abort answer.Aborted t fits did = quiet v.tail com
 command_starts v seat command.Durable a t fits did = durable_starts v.tail a fits
 command_starts v seat c a t fits did = absurd did
 
+snapshot_line_starts : (v : View) (seat : ℕ) (c : Command) (a : Answer) (t : View) → IsAnswerTo c a → DidOfSnapshot v seat c a t → Starts v.tail c a
+snapshot_line_starts v seat command.Mark a t fits did = record {
+  begin = λ stamp told. none_is (begin_told a) stamp (stamp ≡ v.tail) (no_begin did.between seat a t did.decided) told;
+  drawn = λ stamp told. (mark_starts v seat a t did stamp told, refl);
+}
+snapshot_line_starts v seat c a t fits did = watched_starts v.tail v seat c a t (λ (marks : c ≡ command.Mark). cc) fits did
+
 asked_starts : (v : View) (seat : ℕ) (c : Command) (a : Answer) (t : View) (refusal : Option Answer) → refusal_of (phase_at v seat) c ≡ refusal → FitsRefusal refusal c a → DidAsked refusal v seat c a t → Starts v.tail c a
 asked_starts v seat c a t None is fits did =
-    in_either (Starts v.tail c a) v t seat c a (λ plain done. command_starts v seat c a t fits done) (λ has done. watched_starts v.tail v seat c a t fits done) did
+    in_either (Starts v.tail c a) v t seat c a (λ plain done. command_starts v seat c a t fits done) (λ has done. snapshot_line_starts v seat c a t fits done) did
 asked_starts v seat c a t (Some r) is fits did =
     phase_stop v.tail c a (subst (λ (x : Answer). refusal_in x ≡ Some x) (sym fits) (phase_refuses (need_of c) (phase_at v seat) r is))
 

@@ -29,6 +29,7 @@ ran_tail (event ∷ events) v seat t active ran =
 decided_tail : (v : View) (seat : ℕ) (t : View) (a : Answer) → DidDecide v seat a t → t.tail ≡ v.tail
 decided_tail v seat t (answer.Committed stamp succ pred) did = did.4.4.0.tail
 decided_tail v seat t (answer.Excluded stamp succ pred) did = did.4.0.tail
+decided_tail v seat t (answer.Marked safe stamp) did = did.4.0.tail
 decided_tail v seat t (answer.WaitSeat other seen) did = ap (λ (x : View). x.tail) did.0
 decided_tail v seat t (answer.WaitRing flushed) did = ap (λ (x : View). x.tail) did.0
 decided_tail v seat t a did = absurd did
@@ -48,15 +49,21 @@ snapshot_tail v t seat (answer.LogEnd tail) did = ap (λ (x : View). x.tail) did
 snapshot_tail v t seat answer.NumbersEnd did = ap (λ (x : View). x.tail) did.0
 snapshot_tail v t seat a did = asked_tail did.between t seat a did.asked ∙ did.began.3.tail
 
-watched_tail : (v t : View) (seat : ℕ) (c : Command) (a : Answer) → DidOfSnapshot v seat c a t → t.tail ≡ v.tail
-watched_tail v t seat command.Safe a did = asked_tail v t seat a did
-watched_tail v t seat (command.Get table key) (answer.Replied r) did = ap (λ (x : View). x.tail) did.same
-watched_tail v t seat (command.Next table from) (answer.Replied r) did = ap (λ (x : View). x.tail) did.same
-watched_tail v t seat (command.Scan table low high) (answer.Replied r) did = ap (λ (x : View). x.tail) did.same
-watched_tail v t seat command.Commit answer.Ended did = did.tail
-watched_tail v t seat command.Abort answer.Aborted did = did.tail
-watched_tail v t seat command.Durable a did = ap (λ (x : View). x.tail) (asked_still v t seat a did)
-watched_tail v t seat c a did = absurd did
+watched_tail : (v t : View) (seat : ℕ) (c : Command) (a : Answer) → (c ≡ command.Mark → ⊥) → DidOfSnapshot v seat c a t → t.tail ≡ v.tail
+watched_tail v t seat command.Mark a other did = absurd (other refl)
+watched_tail v t seat command.Safe a other did = asked_tail v t seat a did
+watched_tail v t seat (command.Get table key) (answer.Replied r) other did = ap (λ (x : View). x.tail) did.same
+watched_tail v t seat (command.Next table from) (answer.Replied r) other did = ap (λ (x : View). x.tail) did.same
+watched_tail v t seat (command.Scan table low high) (answer.Replied r) other did = ap (λ (x : View). x.tail) did.same
+watched_tail v t seat command.Commit answer.Ended other did = did.tail
+watched_tail v t seat command.Abort answer.Aborted other did = did.tail
+watched_tail v t seat command.Durable a other did = ap (λ (x : View). x.tail) (asked_still v t seat a did)
+watched_tail v t seat c a other did = absurd did
+
+-- a mark draws its block
+looked_tail : (v t : View) (seat : ℕ) (c : Command) (a : Answer) → DidOfSnapshot v seat c a t → t.tail ≤ v.tail + GREATEST_BLOCK * draws_of c
+looked_tail v t seat command.Mark a did = omega (arith, did.sealed.seals.tail, did.sealed.seals.fits, decided_tail did.between seat t a did.decided)
+looked_tail v t seat c a did = omega (arith, watched_tail v t seat c a (λ (marks : c ≡ command.Mark). cc) did)
 
 module _ (v : View) (seat : ℕ) (t : View) where
   module _ (active : phase_at v seat ≡ Active) where
@@ -100,7 +107,7 @@ module _ (v : View) (seat : ℕ) (t : View) where
   asked : (c : Command) (a : Answer) (refusal : Option Answer) → refusal_of (phase_at v seat) c ≡ refusal → DidAsked refusal v seat c a t → t.tail ≤ v.tail + GREATEST_BLOCK * draws_of c
   asked c a (Some r) is same = omega (arith, ap (λ (x : View). x.tail) same)
   asked c a None is did =
-      in_either (t.tail ≤ v.tail + GREATEST_BLOCK * draws_of c) v t seat c a (λ plain done. commanded c a is plain done) (λ has done. omega (arith, watched_tail v t seat c a done)) did
+      in_either (t.tail ≤ v.tail + GREATEST_BLOCK * draws_of c) v t seat c a (λ plain done. commanded c a is plain done) (λ has done. looked_tail v t seat c a done) did
 
 pub line_tail : (v : View) (l : ScriptLine) (a : Answer) (t : View) → DidLine v l a t → t.tail ≤ v.tail + GREATEST_BLOCK * draws_of l.command
 line_tail v l a t did = asked v l.session t l.command a (refusal_of (phase_at v l.session) l.command) refl did.did

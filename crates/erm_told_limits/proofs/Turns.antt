@@ -21,17 +21,17 @@ use Rattle.erm_script.specs.declared.script.Command.TheVariants as command
 use Rattle.erm_script.specs.declared.script.ScriptLine.{ScriptLine}
 use Rattle.erm_good_report.specs.Phases.{HasNoSnapshot, NeedsReader, NeedsWriter, refusal_of}
 use Rattle.erm_good_report.specs.Refusals.{claims_of, makes_of}
-use Rattle.erm_lines.specs.Answers.{DidAskSafe, DidAskSnapshot, DidAsked, DidCommand, DidDecide, DidIn, DidOfSnapshot, DidLine, DidOperation, WasRefusedAs}
+use Rattle.erm_lines.specs.Answers.{DidAskSafe, DidAskSnapshot, DidAsked, DidCommand, DidDecide, DidIn, DidOfSnapshot, DidLine, DidOperation, WasRefusedAs, DidAskMark}
 use Rattle.erm_lines.specs.Operations.{AsksOf, DidCalls, FrontOf, WereCutOff, WholeOf}
 use Rattle.erm_lines.specs.Whole.{is_snapshot}
 use Rattle.erm_lines.proofs.Keeping.{NoneRuns, begins_run}
 use Rattle.erm_lines.proofs.Moved.{active_where, asked_still}
 use Rattle.erm_lines.proofs.Saved.{saved_runs, went_back_runs}
 use Rattle.erm_lines.proofs.Watched.{asked_snapshot, has_phase, idle_where, safe_rests, snapshot_rests, snapshot_there, start_where, watched}
-use Rattle.erm_world.specs.Safe.{HasSnapshot, with_snapshot}
+use Rattle.erm_world.specs.Safe.{HasSnapshot, with_snapshot, DidMark}
 use Rattle.erm_told_limits.proofs.Arrays.{HaveRowsBelow}
 use Rattle.erm_told_limits.proofs.Grown.{all_active}
-use Rattle.erm_told_limits.proofs.Lines.{HasRun, Known, begun_session, begun_turned, cut_of, cut_turned, done_as_was, same_turned, whole_turned}
+use Rattle.erm_told_limits.proofs.Lines.{HasRun, Known, begun_session, begun_turned, cut_of, cut_turned, done_as_was, same_turned, whole_turned, marked_moved}
 use Rattle.erm_told_limits.proofs.Moved.{Turned, turned_nothing, turned_then, turned_within}
 use Rattle.erm_told_limits.proofs.Reached.{Ways}
 use Rattle.erm_told_limits.proofs.Saved.{back_turned, saved_turned}
@@ -54,12 +54,21 @@ module _ (P : ℕ → Type 0) (v : View) (seat : ℕ) (t : View) where
   decided (answer.Committed stamp succ pred) did =
       let settle = did.4 in settled settle.0 settle.1 (world.commits settle.1 did.0.succ did.0.pred) settle.2 settle.4.0
   decided (answer.Excluded stamp succ pred) did = settled did.0 did.1 (world.excluded did.1 succ pred) did.2 did.4.0
+  decided (answer.Marked safe stamp) did = settled did.0 did.1 (world.marked did.1 did.0.begin) did.2 did.4.0
   decided (answer.WaitSeat other seen) did = within_one 0 0 0 (omega arith) (turned_nothing P v seat t did.0)
   decided (answer.WaitRing flushed) did = within_one 0 0 0 (omega arith) (turned_nothing P v seat t did.0)
   decided a did = absurd did
 
   pub sealed : (stamp : ℕ) → DidSeal v seat stamp t → Turned P 0 0 0 v seat t
   sealed stamp did = same_turned P v seat t (ap (λ (s : Session). s.over) did.own) (ap (λ (s : Session). work_of s.stand) did.own) did.others did.saves did.opening
+
+  pub marking : (stamp : ℕ) → DidMark v seat stamp t → Turned P 0 0 0 v seat t
+  marking stamp did = record {
+    own = marked_moved P (v.session seat) (t.session seat) did.snapshot did.stands (ap (λ (s : Session). s.over) did.seals.own) (ap (λ (s : Session). work_of s.stand) did.seals.own);
+    others = did.seals.others;
+    saves = did.seals.saves;
+    opening = did.seals.opening;
+  }
 
   -- a snapshot was asked whether it is safe, looked, or ended
   still_so : t ≡ v → Turned P 0 0 1 v seat t
@@ -73,15 +82,25 @@ module _ (P : ℕ → Type 0) (v : View) (seat : ℕ) (t : View) where
   asked_safe (answer.Unsafe other stamp) did = done_as_was P v seat t (work_at v seat) world.aborts refl did.0
   asked_safe a did = absurd did
 
-  pub watched_turned : (c : Command) (a : Answer) → DidOfSnapshot v seat c a t → Turned P 0 0 1 v seat t
-  watched_turned command.Safe a did = asked_safe a did
-  watched_turned (command.Get table key) (answer.Replied r) did = still_so did.same
-  watched_turned (command.Next table from) (answer.Replied r) did = still_so did.same
-  watched_turned (command.Scan table low high) (answer.Replied r) did = still_so did.same
-  watched_turned command.Commit answer.Ended did = done_as_was P v seat t (work_at v seat) world.aborts refl did
-  watched_turned command.Abort answer.Aborted did = done_as_was P v seat t (work_at v seat) world.aborts refl did
-  watched_turned command.Durable a did = still_so (asked_still v t seat a did)
-  watched_turned c a did = absurd did
+  unmarked_turned : (c : Command) (a : Answer) → (c ≡ command.Mark → ⊥) → DidOfSnapshot v seat c a t → Turned P 0 0 1 v seat t
+  unmarked_turned command.Mark a other did = absurd (other refl)
+  unmarked_turned command.Safe a other did = asked_safe a did
+  unmarked_turned (command.Get table key) (answer.Replied r) other did = still_so did.same
+  unmarked_turned (command.Next table from) (answer.Replied r) other did = still_so did.same
+  unmarked_turned (command.Scan table low high) (answer.Replied r) other did = still_so did.same
+  unmarked_turned command.Commit answer.Ended other did = done_as_was P v seat t (work_at v seat) world.aborts refl did
+  unmarked_turned command.Abort answer.Aborted other did = done_as_was P v seat t (work_at v seat) world.aborts refl did
+  unmarked_turned command.Durable a other did = still_so (asked_still v t seat a did)
+  unmarked_turned c a other did = absurd did
+
+-- one was marked
+marked_turned : (P : ℕ → Type 0) (v : View) (seat : ℕ) (t : View) (a : Answer) → DidAskMark v seat a t → Turned P 0 0 1 v seat t
+marked_turned P v seat t a did =
+    turned_then P 0 0 0 0 0 1 v seat did.between t (marking P v seat did.between did.stamp did.sealed) (decided P did.between seat t a did.decided)
+
+pub watched_turned : (P : ℕ → Type 0) (v : View) (seat : ℕ) (t : View) (c : Command) (a : Answer) → DidOfSnapshot v seat c a t → Turned P 0 0 1 v seat t
+watched_turned P v seat t command.Mark a did = marked_turned P v seat t a did
+watched_turned P v seat t c a did = unmarked_turned P v seat t c a (λ (marks : c ≡ command.Mark). cc) did
 
 -- one was begun, and asked
 pub snapshot_turned : (P : ℕ → Type 0) (v : View) (seat : ℕ) (t : View) (a : Answer) → phase_at v seat ≡ Idle → DidAskSnapshot v seat a t → Turned P 0 0 1 v seat t
@@ -124,12 +143,22 @@ bare_asked v t seat (answer.WaitSeat other seen) has did = bare_still v t seat h
 bare_asked v t seat (answer.Unsafe other stamp) has did = bare_done v t seat (work_at v seat) world.aborts did.0
 bare_asked v t seat a has did = absurd did
 
+-- a mark is over, or waits
+bare_marked : (u t : View) (seat : ℕ) (r : world.Snapshot) (stamp : ℕ) (a : Answer) → (u.session seat).stand ≡ world.sealed (world.marking r) stamp → DidDecide u seat a t → IsBare (work_at t seat)
+bare_marked u t seat r stamp (answer.Committed at succ pred) stand did = bare_done u t seat did.4.0 _ did.4.4.0
+bare_marked u t seat r stamp (answer.Excluded at succ pred) stand did = bare_done u t seat did.0 _ did.4.0
+bare_marked u t seat r stamp (answer.Marked safe at) stand did = bare_done u t seat did.0 _ did.4.0
+bare_marked u t seat r stamp (answer.WaitSeat other seen) stand did = subst IsBare (sym (ap (λ (x : View). work_at x seat) did.0 ∙ ap work_of stand)) (record { reads = refl; claims = refl })
+bare_marked u t seat r stamp (answer.WaitRing flushed) stand did = subst IsBare (sym (ap (λ (x : View). work_at x seat) did.0 ∙ ap work_of stand)) (record { reads = refl; claims = refl })
+bare_marked u t seat r stamp a stand did = absurd did
+
 pub bare_after : (v t : View) (seat : ℕ) (c : Command) (a : Answer) → HasSnapshot v seat → DidOfSnapshot v seat c a t → IsBare (work_at t seat)
 bare_after v t seat command.Safe a has did = bare_asked v t seat a has did
 bare_after v t seat (command.Get table key) (answer.Replied r) has did = bare_still v t seat has did.same
 bare_after v t seat (command.Next table from) (answer.Replied r) has did = bare_still v t seat has did.same
 bare_after v t seat (command.Scan table low high) (answer.Replied r) has did = bare_still v t seat has did.same
 bare_after v t seat command.Commit answer.Ended has did = bare_done v t seat (work_at v seat) world.aborts did
+bare_after v t seat command.Mark a has did = bare_marked did.between t seat did.sealed.snapshot did.stamp a (ap (λ (s : Session). s.stand) did.sealed.seals.own) did.decided
 bare_after v t seat command.Abort answer.Aborted has did = bare_done v t seat (work_at v seat) world.aborts did
 bare_after v t seat command.Durable a has did = bare_still v t seat has (asked_still v t seat a did)
 bare_after v t seat c a has did = absurd did
@@ -211,6 +240,7 @@ same_after v seat t is has_run = subst (λ (x : View). phase_at x seat ≡ Activ
 decide_after : (v : View) (seat : ℕ) (t : View) (a : Answer) → DidDecide v seat a t → (phase_at v seat ≡ Active → HasRun v seat) → phase_at t seat ≡ Active → HasRun t seat
 decide_after v seat t (answer.Committed stamp succ pred) did has_run active = done_after v seat t did.4.0 _ did.4.4.0 active
 decide_after v seat t (answer.Excluded stamp succ pred) did has_run active = done_after v seat t did.0 _ did.4.0 active
+decide_after v seat t (answer.Marked safe stamp) did has_run active = done_after v seat t did.0 _ did.4.0 active
 decide_after v seat t (answer.WaitSeat other seen) did has_run active = same_after v seat t did.0 has_run active
 decide_after v seat t (answer.WaitRing flushed) did has_run active = same_after v seat t did.0 has_run active
 decide_after v seat t a did has_run active = absurd did
