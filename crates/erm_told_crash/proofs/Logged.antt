@@ -6,7 +6,7 @@ use Rattle.erm_model.specs.Committed.{Committed}
 use Rattle.erm_model.specs.Member.{◌∈◌}
 use Rattle.erm_machine.proofs.Listed.{∈-map, ∈-map_from}
 use Rattle.erm_block.specs.declared.block.Block.{Block}
-use Rattle.erm_block.specs.declared.block.Kind.TheVariants.{Commit, Skip}
+use Rattle.erm_block.specs.declared.block.Kind.TheVariants.{Commit, Skip, Mark}
 use Rattle.erm_node.specs.Sound.{sound_law}
 use Rattle.erm_world.specs.Laws.{IsSerializable}
 use Rattle.erm_world.specs.Log.{IsLog, Log, StandFrom, gathered_to, place_behind}
@@ -46,6 +46,7 @@ its_stamp : (fate : Fate) (stamp succ : ℕ) → HasStamps fate stamp succ → s
 its_stamp (world.commits at last pred) stamp succ has = ap (λ (n : ℕ). Some n) (sym has.0)
 its_stamp (world.excluded at last pred) stamp succ has = ap (λ (n : ℕ). Some n) (sym has.0)
 its_stamp world.aborts stamp succ has = absurd has
+its_stamp (world.marked at safe) stamp succ has = ap (λ (n : ℕ). Some n) (sym has.0)
 
 -- a block is that of a commit of the history
 record IsOf (b : Block) (u : TransactionRecord) : Type 0 where
@@ -56,22 +57,23 @@ record IsOf (b : Block) (u : TransactionRecord) : Type 0 where
   pub succ : b.succ ≡ u.succ
 
 module _ (v : View) (lawful : IsSerializable sound_law v) (apart : StandApart v) (log : Log) (of : IsLogOf v log) (is : IsLog sound_law.meets log) where
-  block_tells : (b : Block) → IsBlockOf v v.opening.run b → (b.kind ≡ Skip) ⊎ ((u : TransactionRecord) × (u ∈ history_of v) × IsOf b u)
+  block_tells : (b : Block) → IsBlockOf v v.opening.run b → (b.kind ≡ Skip) ⊎ (b.kind ≡ Mark) ⊎ ((u : TransactionRecord) × (u ∈ history_of v) × IsOf b u)
   block_tells b its = by its.of.fate refl its.stamps
     where
-      by : (fate : Fate) → its.of.fate ≡ fate → HasStamps fate b.stamp b.succ → (b.kind ≡ Skip) ⊎ ((u : TransactionRecord) × (u ∈ history_of v) × IsOf b u)
+      by : (fate : Fate) → its.of.fate ≡ fate → HasStamps fate b.stamp b.succ → (b.kind ≡ Skip) ⊎ (b.kind ≡ Mark) ⊎ ((u : TransactionRecord) × (u ∈ history_of v) × IsOf b u)
       by (world.commits stamp succ pred) fate has =
           let over : record { work = its.of.work; fate = world.commits stamp succ pred } ∈ (v.session b.seat).over =
           subst (λ (x : Fate). record { work = its.of.work; fate = x } ∈ (v.session b.seat).over) fate its.over
           in
           let u : TransactionRecord = record_of b.seat its.of.work stamp succ pred in
-          inr (
+          inr (inr (
             u,
             (tells_commits v).each u (record { seat = b.seat; session = its.session; work = its.of.work; stamp = stamp; succ = succ; pred = pred; over = over; is = refl }),
             record { kind = its.kind_is ∙ ap kind_of fate; seat = refl; number = its.number; stamp = has.0; succ = has.1 },
-          )
+          ))
       by (world.excluded stamp succ pred) fate has = inl (its.kind_is ∙ ap kind_of fate)
       by world.aborts fate has = absurd has
+      by (world.marked stamp safe) fate has = inr (inl (its.kind_is ∙ ap kind_of fate))
 
   commit_within : (u : TransactionRecord) → u ∈ history_of v → (log.opened.at ≤ u.stamp) × (u.stamp < log.tail)
   commit_within u m =
@@ -122,8 +124,11 @@ module _ (v : View) (lawful : IsSerializable sound_law v) (apart : StandApart v)
   pub has_commits : (operations : Told) → HasCommits log (told_commits operations (history_of v))
   has_commits operations = record {
     each = λ b m. ⊎_elim (λ (skips : b.kind ≡ Skip). inl skips)
+        (λ (more : (b.kind ≡ Mark) ⊎ ((u : TransactionRecord) × (u ∈ history_of v) × IsOf b u)).
+        ⊎_elim (λ (marks : b.kind ≡ Mark). inr (inl marks))
         (λ (found : (u : TransactionRecord) × (u ∈ history_of v) × IsOf b u).
-        inr (told_commit operations found.0, ∈-map_from (told_commit operations) (history_of v) found.0 found.1, logged b found.0 operations found.2))
+        inr (inr (told_commit operations found.0, ∈-map_from (told_commit operations) (history_of v) found.0 found.1, logged b found.0 operations found.2)))
+        more)
         (block_tells b (of.blocks b m));
     all = λ c m below.
         let found = ∈-map (told_commit operations) (history_of v) c m in

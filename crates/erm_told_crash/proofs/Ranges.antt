@@ -10,12 +10,12 @@ use Rattle.erm_report.specs.declared.answer.Answer.TheVariants as answer
 use Rattle.erm_script.specs.declared.script.Command.{Command}
 use Rattle.erm_script.specs.declared.script.Command.TheVariants as command
 use Rattle.erm_script.specs.declared.script.ScriptLine.{ScriptLine}
-use Rattle.erm_world.specs.Calls.{Becomes, DidSeal, IsDone, Works}
+use Rattle.erm_world.specs.Calls.{Becomes, DidSeal, IsDone, Works, Seals}
 use Rattle.erm_world.specs.Face.{Goes, Grows, ends, same, works}
 use Rattle.erm_world.specs.Onward.{goes_then}
 use Rattle.erm_world.specs.Safe.{with_snapshot}
 use Rattle.erm_world.specs.Snapshots.{snapshot_not_sealed}
-use Rattle.erm_world.specs.World.{Fate, Finished, HasStamp, IsSession, Session, Snapshot, Stand, View, Work, phase_at, phase_of, size_of, stamp_of, work_at}
+use Rattle.erm_world.specs.World.{Fate, Finished, HasStamp, IsSession, Session, Snapshot, Stand, View, Work, phase_at, phase_of, size_of, stamp_of, work_at, marking}
 use Rattle.erm_world.specs.World as world
 use Rattle.erm_world.proofs.Txns.{stopped}
 use Rattle.erm_good_report.specs.Phases.{HasNoSnapshot, NeedsReader, NeedsWriter, refusal_of}
@@ -152,16 +152,19 @@ decided v seat w fate own t stand stamped now =
     let s : Session = record { over = (v.session seat).over ++ g ∷ []; stand = world.idle } in
     keeps_one v seat s t now (ended_keeps (v.session seat) s g refl refl (λ stamp is. stand ∙ one_stamp w own stamp (sym stamped ∙ is)))
 
-sealed_one : (v : View) (seat stamp : ℕ) (t : View) → DidSeal v seat stamp t → Draws v t
-sealed_one v seat stamp t did = of_one v seat t did.others did.opening (omega (arith, did.tail)) (λ w n has. by w n (subst (λ (s : Session). HasIn s w n) did.own has))
+sealed_with : (v : View) (seat : ℕ) (own : Work) (stamp : ℕ) (t : View) → Seals v seat own stamp t → Draws v t
+sealed_with v seat own stamp t did = of_one v seat t did.others did.opening (omega (arith, did.tail)) (λ w n has. by w n (subst (λ (s : Session). HasIn s w n) did.own has))
   where
-    by : (w : Work) (n : ℕ) → HasIn (record { over = (v.session seat).over; stand = world.sealed (work_at v seat) stamp }) w n → HasStamp v seat w n ⊎ IsDrawn v t w n
+    by : (w : Work) (n : ℕ) → HasIn (record { over = (v.session seat).over; stand = world.sealed own stamp }) w n → HasStamp v seat w n ⊎ IsDrawn v t w n
     by w n (inl over) = inl (inl over)
     by w n (inr is) =
-        let work : work_at v seat ≡ w = ap world.work_of is in
+        let work : own ≡ w = ap world.work_of is in
         let same : stamp ≡ n = cc in
-        let size : size_of (work_at v seat) ≡ size_of w = ap size_of work in
+        let size : size_of own ≡ size_of w = ap size_of work in
         inr (omega (arith, same, did.stamp_is), omega (arith, same, did.stamp_is, did.tail, size))
+
+sealed_one : (v : View) (seat stamp : ℕ) (t : View) → DidSeal v seat stamp t → Draws v t
+sealed_one v seat stamp t did = sealed_with v seat (work_at v seat) stamp t did
 
 grows_keeps : (s t : Session) → Grows s t → Keeps s t
 grows_keeps s t (same is) w stamp has = subst (λ (r : Session). HasIn r w stamp) is has
@@ -195,6 +198,7 @@ decides : (v : View) (seat : ℕ) (a : Answer) (t : View) → DidDecide v seat a
 decides v seat (answer.Committed at succ pred) t (r, at_is, after, before, (w, own, stand, ready, settled)) =
     decided v seat w (world.commits own r.succ r.pred) own t stand refl settled.0
 decides v seat (answer.Excluded at succ pred) t (w, own, stand, ready, settled) = decided v seat w (world.excluded own succ pred) own t stand refl settled.0
+decides v seat (answer.Marked safe at) t (w, own, stand, ready, settled) = decided v seat w (world.marked own w.begin) own t stand refl settled.0
 decides v seat (answer.WaitSeat other seen) t did = still v t did.0
 decides v seat (answer.WaitRing place) t did = still v t did.0
 decides v seat a t did = absurd did
@@ -215,15 +219,16 @@ snapshot_apart v seat answer.NumbersEnd t did are = apart_then v t (still v t di
 snapshot_apart v seat a t did are =
     apart_then did.between t (asked_safe did.between seat a t did.asked) (apart_then v did.between (watches v seat _ did.between did.began.3) are)
 
-watched : (v : View) (seat : ℕ) (c : Command) (a : Answer) (t : View) → DidOfSnapshot v seat c a t → Draws v t
-watched v seat command.Safe a t did = asked_safe v seat a t did
-watched v seat (command.Get table key) (answer.Replied r) t did = still v t did.same
-watched v seat (command.Next table from) (answer.Replied r) t did = still v t did.same
-watched v seat (command.Scan table low high) (answer.Replied r) t did = still v t did.same
-watched v seat command.Commit answer.Ended t did = aborted v seat (work_at v seat) t did
-watched v seat command.Abort answer.Aborted t did = aborted v seat (work_at v seat) t did
-watched v seat command.Durable a t did = still v t (asked_still v t seat a did)
-watched v seat c a t did = absurd did
+watched : (v : View) (seat : ℕ) (c : Command) (a : Answer) (t : View) → (c ≡ command.Mark → ⊥) → DidOfSnapshot v seat c a t → Draws v t
+watched v seat command.Mark a t other did = absurd (other refl)
+watched v seat command.Safe a t other did = asked_safe v seat a t did
+watched v seat (command.Get table key) (answer.Replied r) t other did = still v t did.same
+watched v seat (command.Next table from) (answer.Replied r) t other did = still v t did.same
+watched v seat (command.Scan table low high) (answer.Replied r) t other did = still v t did.same
+watched v seat command.Commit answer.Ended t other did = aborted v seat (work_at v seat) t did
+watched v seat command.Abort answer.Aborted t other did = aborted v seat (work_at v seat) t did
+watched v seat command.Durable a t other did = still v t (asked_still v t seat a did)
+watched v seat c a t other did = absurd did
 
 -- a line of a session keeps the ranges apart
 command_apart : (v : View) (seat : ℕ) (c : Command) (a : Answer) (t : View) → refusal_of (phase_at v seat) c ≡ None → HasNoSnapshot (phase_at v seat) → DidCommand v seat c a t → StandApart v → StandApart t
@@ -247,9 +252,14 @@ command_apart v seat (command.Back n) a t none plain did = apart_then v t (savep
 command_apart v seat command.Durable a t none plain did = apart_then v t (still v t (asked_still v t seat a did))
 command_apart v seat c a t none plain did = absurd did
 
+snapshot_line_apart : (v : View) (seat : ℕ) (c : Command) (a : Answer) (t : View) → DidOfSnapshot v seat c a t → StandApart v → StandApart t
+snapshot_line_apart v seat command.Mark a t did are =
+    apart_then did.between t (decides did.between seat a t did.decided) (apart_then v did.between (sealed_with v seat (marking did.sealed.snapshot) did.stamp did.between did.sealed.seals) are)
+snapshot_line_apart v seat c a t did are = apart_then v t (watched v seat c a t (λ (marks : c ≡ command.Mark). cc) did) are
+
 asked_apart : (v : View) (seat : ℕ) (c : Command) (a : Answer) (t : View) (refusal : Option Answer) → refusal_of (phase_at v seat) c ≡ refusal → DidAsked refusal v seat c a t → StandApart v → StandApart t
 asked_apart v seat c a t None is did are =
-    in_phase (StandApart t) v t seat c a (λ plain done. command_apart v seat c a t is plain done are) (λ rests done. apart_then v t (watched v seat c a t done) are) did
+    in_phase (StandApart t) v t seat c a (λ plain done. command_apart v seat c a t is plain done are) (λ rests done. snapshot_line_apart v seat c a t done are) did
 asked_apart v seat c a t (Some r) is did are = apart_then v t (still v t did) are
 
 line_apart : (v : View) (l : ScriptLine) (a : Answer) (t : View) → DidLine v l a t → StandApart v → StandApart t

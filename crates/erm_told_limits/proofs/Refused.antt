@@ -67,21 +67,25 @@ pub record Full (a : Answer) (why : RowStop) : Type 0 where
 never_reads : (v : View) (seat : ℕ) (c : Command) (t : View) → DidOfSnapshot v seat c answer.ReadsFull t → ⊥
 never_reads v seat command.Safe t did = did
 never_reads v seat command.Durable t did = did
+never_reads v seat command.Mark t did = did.decided
 never_reads v seat c t did = did
 
 never_writes : (v : View) (seat : ℕ) (c : Command) (t : View) → DidOfSnapshot v seat c answer.WritesFull t → ⊥
 never_writes v seat command.Safe t did = did
 never_writes v seat command.Durable t did = did
+never_writes v seat command.Mark t did = did.decided
 never_writes v seat c t did = did
 
 never_cells : (drawn : ℕ) (v : View) (seat : ℕ) (c : Command) (t : View) → DidOfSnapshot v seat c (answer.CellsFull drawn) t → ⊥
 never_cells drawn v seat command.Safe t did = did
 never_cells drawn v seat command.Durable t did = did
+never_cells drawn v seat command.Mark t did = did.decided
 never_cells drawn v seat c t did = did
 
 never_oids : (drawn : ℕ) (v : View) (seat : ℕ) (c : Command) (t : View) → DidOfSnapshot v seat c (answer.OidsFull drawn) t → ⊥
 never_oids drawn v seat command.Safe t did = did
 never_oids drawn v seat command.Durable t did = did
+never_oids drawn v seat command.Mark t did = did.decided
 never_oids drawn v seat c t did = did
 
 pub reads_full : Full answer.ReadsFull stop.ReadsFull
