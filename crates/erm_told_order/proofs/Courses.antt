@@ -95,7 +95,8 @@ module _ (v : View) (lawful : IsSerializable sound_law v) (seat : ℕ) (session 
       from : (stand : Stand) → (v.session seat).stand ≡ stand → TellsWatched (Some s) stand → 0 < begin
       from world.idle stood told = absurd told
       from (world.active w) stood told = absurd told
-      from (world.sealed w stamp) stood told = absurd told
+      from (world.sealed w stamp) stood told =
+          above_nothing w begin (inr (subst (λ (at : Stand). IsCurrent at w) (sym stood) refl)) (told_as s.begin begin w.begin is told.snapshot.begin_is)
       from (world.snapshot x) stood told =
           let w : Work = world.begun x.number x.begin in
           above_nothing w begin (inr (subst (λ (at : Stand). IsCurrent at w) (sym stood) refl)) (told_as s.begin begin x.begin is told.snapshot.begin_is)

@@ -11,9 +11,10 @@ use Rattle.erm_world.specs.World.{Fate, Finished, Session, Stand, Work, commit_o
 use Rattle.erm_world.specs.World as world
 use Rattle.erm_maps.specs.Runs.{Told, told_commit, told_commits}
 use Rattle.erm_good_report.specs.Transactions.{Ending, Unfinished, Commits, Excludes, Aborts, Progress, Transaction, committed_as, committed_of, history_of, steps_of}
-use Rattle.erm_lines.specs.Told.{EndsAs, TellsNow, TellsWork}
+use Rattle.erm_lines.specs.Told.{EndsAs, TellsNow, TellsWork, fate_told}
 use Rattle.erm_told_order.proofs.Places.{all_of, range_more}
 use Rattle.erm_told_order.proofs.Sessions.{AreToldOver}
+use Rattle.erm_model.specs.History.{History}
 
 -- two commits that agree in all
 same_commit : (a b c d e f : ℕ) (steps : List Step) (x : Committed) → a ≡ x.session → b ≡ x.number → c ≡ x.begin → d ≡ x.stamp → e ≡ x.succ → f ≡ x.pred → steps ≡ x.steps
@@ -29,16 +30,25 @@ module _ (told : Told) (seat : ℕ) where
       (same_commit t.session t.number t.begin stamp succ pred (steps_of t) (told_commit told (record_of seat w s u p)) tells.session tells.number tells.begin ends.0 ends.1 ends.2 (sym steps))
   commit_told (Commits stamp succ pred) (world.excluded s u p) t w rest ends tells steps = absurd ends
   commit_told (Commits stamp succ pred) world.aborts t w rest ends tells steps = absurd ends
+  commit_told (Commits stamp succ pred) (world.marked s safe) t w rest ends tells steps = absurd ends
   commit_told (Excludes (Some stamp) succ pred) (world.excluded s u p) t w rest ends tells steps = refl
   commit_told (Excludes (Some stamp) succ pred) (world.commits s u p) t w rest ends tells steps = absurd ends
   commit_told (Excludes (Some stamp) succ pred) world.aborts t w rest ends tells steps = absurd ends
+  commit_told (Excludes (Some stamp) succ pred) (world.marked s safe) t w rest ends tells steps = absurd ends
   commit_told (Excludes None succ pred) (world.excluded s u p) t w rest ends tells steps = absurd ends
   commit_told (Excludes None succ pred) (world.commits s u p) t w rest ends tells steps = absurd ends
   commit_told (Excludes None succ pred) world.aborts t w rest ends tells steps = refl
+  commit_told (Excludes None succ pred) (world.marked s safe) t w rest ends tells steps = absurd ends
   commit_told Aborts (world.excluded s u p) t w rest ends tells steps = absurd ends
   commit_told Aborts (world.commits s u p) t w rest ends tells steps = absurd ends
+  commit_told Aborts (world.marked s safe) t w rest ends tells steps = absurd ends
   commit_told Aborts world.aborts t w rest ends tells steps = refl
   commit_told Unfinished fate t w rest ends tells steps = absurd ends
+
+  -- a snapshot hasn't committed
+  none_commits : (w : Work) (mark : Option (ℕ × ℕ)) → commit_of seat w (fate_told mark) ≡ []
+  none_commits w None = refl
+  none_commits w (Some mark) = refl
 
   -- those that are over
   over_commits : (ts : List Transaction) (fs : List Finished) → AreToldOver seat (told seat) ts fs → history_of ts ≡ told_commits told (committed_in seat fs)
@@ -48,8 +58,8 @@ module _ (told : Told) (seat : ℕ) where
       ∙ commit_told t.ending f.fate t f.work (history_of us) one.ends one.work steps
       ∙ ap (λ rest. told_commits told (commit_of seat f.work f.fate) ++ rest) (over_commits us fs rest)
       ∙ sym (map-append (told_commit told) (commit_of seat f.work f.fate) (committed_in seat fs))
-  over_commits ts (f ∷ fs) (inr (aborts, none, rest)) =
-      over_commits ts fs rest ∙ sym (ap (λ (fate : Fate). told_commits told (commit_of seat f.work fate ++ committed_in seat fs)) aborts)
+  over_commits ts (f ∷ fs) (inr (bare, none, rest)) =
+      over_commits ts fs rest ∙ sym (ap (λ (list : History). told_commits told (list ++ committed_in seat fs)) (ap (λ (fate : Fate). commit_of seat f.work fate) bare.1 ∙ none_commits f.work bare.0))
 
   -- what isn't over hasn't committed
   none_unfinished : (ending : Ending) (t : Transaction) → ending ≡ Unfinished → cons_option (committed_as ending t) [] ≡ []

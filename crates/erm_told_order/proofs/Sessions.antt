@@ -1,5 +1,5 @@
 -- A session's transactions, beside what is told of them.
-use Rattle.std.proofs.Common.{◌≡◌, ◌≢◌, ℕ, zero, ◌+◌, ◌<◌, ◌≤◌, ◌⊎◌, List, [], ◌∷◌, Option, Some, None, length, refl, sym, ap, ◌∙◌, subst, inl, inr, ⊎_elim, arith}
+use Rattle.std.proofs.Common.{◌≡◌, ◌≢◌, ℕ, zero, ◌+◌, ◌<◌, ◌≤◌, ◌⊎◌, List, [], ◌∷◌, Option, Some, None, length, refl, sym, ap, ◌∙◌, subst, inl, inr, ⊎_elim, arith, Bool, true, is_some}
 use Rattle.std.specs.Option.{option_to_list}
 use Rattle.erm_model.specs.Member.{◌∈◌}
 use Rattle.erm_model.specs.Run.{Step}
@@ -10,17 +10,21 @@ use Rattle.erm_world.specs.World.{Fate, Finished, IsCurrent, IsOver, Session, St
 use Rattle.erm_world.specs.World as world
 use Rattle.erm_maps.specs.Runs.{IsAnswered, WasRun}
 use Rattle.erm_good_report.specs.Transactions.{Progress, Snapshot, Transaction, steps_of}
-use Rattle.erm_lines.specs.Told.{RanAs, Tells, TellsCurrent, TellsNow, TellsOne, TellsOver}
+use Rattle.erm_lines.specs.Told.{RanAs, Tells, TellsCurrent, TellsNow, TellsOne, TellsOver, TellsWatched, fate_told}
 use Rattle.erm_told.proofs.Reported.{in_option, number_last, Numbered, numbered_behind, over_between, told_ascend, told_at}
 use Rattle.erm_told.proofs.Sessions.{now_watching}
 use Rattle.erm_told_order.proofs.Places.{all_of, steps_none, steps_of_number, steps_there}
 
--- What is over is told, in turn: a transaction with its operations, or one that was aborted, of which none is told, as each snapshot is.
+-- a snapshot that is over: it was aborted, or marked, and has done nothing
+abbrev pub IsBareEnd : Finished → Type 0
+IsBareEnd f = (mark : Option (ℕ × ℕ)) × (f.fate ≡ fate_told mark) × (f.work ≡ record (world.begun f.work.number f.work.begin) { is_mark = is_some mark })
+
+-- What is over is told, in turn: a transaction with its operations, or a snapshot, of which none is told.
 abbrev pub AreToldOver : ℕ → (ℕ → List Step) → List Transaction → List Finished → Type 0
 AreToldOver seat told ts [] = ts ≡ []
 AreToldOver seat told ts (f ∷ fs) =
     ((t : Transaction) × (us : List Transaction) × (ts ≡ t ∷ us) × TellsOne seat t f × (told f.work.number ≡ steps_of t) × AreToldOver seat told us fs)
-    ⊎ ((f.fate ≡ world.aborts) × (told f.work.number ≡ []) × AreToldOver seat told ts fs)
+    ⊎ (IsBareEnd f × (told f.work.number ≡ []) × AreToldOver seat told ts fs)
 
 -- so it is where each transaction's operations are told by its number, and none by the other numbers
 told_over : (seat : ℕ) (told : ℕ → List Step) (ts : List Transaction) (ss : List Snapshot) (fs : List Finished) (c : ℕ) → TellsOver seat ts ss fs → Numbered c fs
@@ -47,7 +51,7 @@ told_over seat told ts ss (f ∷ fs) c (inr (s, more, is, one, rest)) numbered e
     let later = numbered_behind c f fs numbered in
     let first = numbered zero f refl in
     inr (
-      one.aborted,
+      (s.mark, one.ended, one.bare),
       blank f.work.number (omega (arith, first)) (omega (arith, first)) (λ t m same. let between = over_between seat ts more fs (c + 1) rest later t m in omega (arith, between.0, same, first)),
       told_over seat told ts more fs (c + 1) rest later each (λ n above below none. blank n (omega (arith, above)) (omega (arith, below)) none),
     )
@@ -60,20 +64,20 @@ pub record HasTold (seat : ℕ) (told : ℕ → List Step) (ts : List Transactio
   pub steps : told f.work.number ≡ steps_of t
 
 has_told : (seat : ℕ) (told : ℕ → List Step) (ts : List Transaction) (fs : List Finished) → AreToldOver seat told ts fs
-    → (f : Finished) → f ∈ fs → HasTold seat told ts f ⊎ ((f.fate ≡ world.aborts) × (told f.work.number ≡ []))
+    → (f : Finished) → f ∈ fs → HasTold seat told ts f ⊎ (IsBareEnd f × (told f.work.number ≡ []))
 has_told seat told ts [] are f m = absurd (none_in_nil f m)
 has_told seat told ts (g ∷ fs) (inl (t, us, is, one, steps, rest)) f m =
     let at_head : t ∈ ts = subst (λ (list : List Transaction). t ∈ list) (sym is) (∈-head t us) in
-    ⊎_elim (λ (here : g ≡ f). subst (λ (h : Finished). HasTold seat told ts h ⊎ ((h.fate ≡ world.aborts) × (told h.work.number ≡ []))) here
+    ⊎_elim (λ (here : g ≡ f). subst (λ (h : Finished). HasTold seat told ts h ⊎ (IsBareEnd h × (told h.work.number ≡ []))) here
     (inl (record { t = t; stands = at_head; tells = one; steps = steps })))
     (λ (later : f ∈ fs).
     ⊎_elim (λ (found : HasTold seat told us f).
     inl (record { t = found.t; stands = subst (λ (list : List Transaction). found.t ∈ list) (sym is) (∈-behind t us found.t found.stands); tells = found.tells; steps = found.steps }))
-    (λ (bare : (f.fate ≡ world.aborts) × (told f.work.number ≡ [])). inr bare)
+    (λ (bare : IsBareEnd f × (told f.work.number ≡ [])). inr bare)
     (has_told seat told us fs rest f later))
     (∈-cons f g fs m)
 has_told seat told ts (g ∷ fs) (inr (aborts, none, rest)) f m =
-    ⊎_elim (λ (here : g ≡ f). subst (λ (h : Finished). HasTold seat told ts h ⊎ ((h.fate ≡ world.aborts) × (told h.work.number ≡ []))) here (inr (aborts, none)))
+    ⊎_elim (λ (here : g ≡ f). subst (λ (h : Finished). HasTold seat told ts h ⊎ (IsBareEnd h × (told h.work.number ≡ []))) here (inr (aborts, none)))
     (λ (later : f ∈ fs). has_told seat told ts fs rest f later)
     (∈-cons f g fs m)
 
@@ -86,7 +90,7 @@ pub record IsToldNow (seat : ℕ) (current : Option Transaction) (w : Work) : Ty
 told_now : (seat : ℕ) (current : Option Transaction) (stand : Stand) (w : Work) → TellsNow seat current stand → IsCurrent stand w → IsToldNow seat current w ⊎ (current ≡ None)
 told_now seat current world.idle w tells now = absurd now
 told_now seat None (world.active u) w tells now = absurd tells
-told_now seat None (world.sealed u stamp) w tells now = absurd tells
+told_now seat None (world.sealed u stamp) w tells now = inr refl
 told_now seat (Some t) (world.active u) w tells now = inl (record { t = t; is = refl; tells = subst (λ x. TellsCurrent seat t x) now tells.0 })
 told_now seat (Some t) (world.sealed u stamp) w tells now = inl (record { t = t; is = refl; tells = subst (λ x. TellsCurrent seat t x) now tells.0 })
 told_now seat current (world.snapshot x) w tells now = inr (now_watching seat current x tells)
@@ -108,11 +112,13 @@ answered_as : (fate : Fate) (w : Work) (steps : List Step) → RanAs fate w step
 answered_as (world.commits s u p) w steps ran = ran.run
 answered_as (world.excluded s u p) w steps ran = ran.run
 answered_as world.aborts w steps ran = ran
+answered_as (world.marked stamp safe) w steps ran = absurd ran
 
 run_as : (fate : Fate) (w : Work) (steps : List Step) (stamp : ℕ) → RanAs fate w steps → stamp_of fate ≡ Some stamp → WasRun w steps
 run_as (world.commits s u p) w steps stamp ran e = ran
 run_as (world.excluded s u p) w steps stamp ran e = ran
 run_as world.aborts w steps stamp ran e = absurd (cc)
+run_as (world.marked own safe) w steps stamp ran e = absurd ran
 
 -- a transaction of the world, over or in progress
 abbrev pub IsOf : Session → Work → Type 0
@@ -166,7 +172,7 @@ module _ (seat : ℕ) (p : Progress) (s : Session) (tells : Tells seat p s) (num
       (⊎_elim
       (λ (r : HasTold seat (λ number. steps_of_number (all_of p) number) p.over f).
       subst (λ steps. IsAnswered f.work steps) (sym r.steps) (answered_as f.fate f.work (steps_of r.t) r.tells.ran))
-      (λ (bare : (f.fate ≡ world.aborts) × (steps_of_number (all_of p) f.work.number ≡ [])). bare_answered f.work (steps_of_number (all_of p) f.work.number) bare.1)
+      (λ (bare : IsBareEnd f × (steps_of_number (all_of p) f.work.number ≡ [])). bare_answered f.work (steps_of_number (all_of p) f.work.number) bare.1)
       (has_told seat (λ number. steps_of_number (all_of p) number) p.over s.over over_told f over.1))
   answered w (inr now) =
       ⊎_elim
@@ -174,26 +180,34 @@ module _ (seat : ℕ) (p : Progress) (s : Session) (tells : Tells seat p s) (num
       (λ (none : p.current ≡ None). bare_answered w (steps_of_number (all_of p) w.number) (steps_bare w now none))
       (told_now seat p.current s.stand w tells.now now)
 
-  aborts_none : (fate : Fate) (stamp : ℕ) (P : Type 0) → fate ≡ world.aborts → stamp_of fate ≡ Some stamp → P
-  aborts_none fate stamp P aborts is = let no : None ≡ Some stamp = sym (ap stamp_of aborts) ∙ is in absurd (cc)
+  -- what has done nothing is the run of nothing
+  bare_run : (w : Work) (b : Bool) (steps : List Step) → w ≡ record (world.begun w.number w.begin) { is_mark = b } → steps ≡ [] → WasRun w steps
+  bare_run w b steps bare none =
+      subst (λ (list : List Step). WasRun w list) (sym none)
+      (subst (λ (u : Work). WasRun u []) (sym bare)
+      (record { run = λ rows sound fits. tt; after = λ rows sound fits. refl; lawful = record { meets = λ rows fits. fits.meets; reach = λ rows x fits. omega arith } }))
 
   run_over : (f : Finished) (stamp : ℕ) → f ∈ s.over → stamp_of f.fate ≡ Some stamp → WasRun f.work (steps_of_number (all_of p) f.work.number)
   run_over f stamp m e =
       ⊎_elim
       (λ (r : HasTold seat (λ number. steps_of_number (all_of p) number) p.over f).
       subst (λ steps. WasRun f.work steps) (sym r.steps) (run_as f.fate f.work (steps_of r.t) stamp r.tells.ran e))
-      (λ (bare : (f.fate ≡ world.aborts) × (steps_of_number (all_of p) f.work.number ≡ [])).
-      aborts_none f.fate stamp (WasRun f.work (steps_of_number (all_of p) f.work.number)) bare.0 e)
+      (λ (bare : IsBareEnd f × (steps_of_number (all_of p) f.work.number ≡ [])).
+      bare_run f.work (is_some bare.0.0) (steps_of_number (all_of p) f.work.number) bare.0.2 bare.1)
       (has_told seat (λ number. steps_of_number (all_of p) number) p.over s.over over_told f m)
 
   run_now : (w : Work) (stamp : ℕ) → s.stand ≡ world.sealed w stamp → WasRun w (steps_of_number (all_of p) w.number)
-  run_now w stamp stand =
-      let now = sealed_now p.current (subst (λ st. TellsNow seat p.current st) stand tells.now) in
-      subst (λ steps. WasRun w steps) (sym (steps_now now.0 w now.1 now.2)) now.2.ran
+  run_now w stamp stand = from p.current refl (subst (λ st. TellsNow seat p.current st) stand tells.now)
     where
-      sealed_now : (current : Option Transaction) → TellsNow seat current (world.sealed w stamp) → (t : Transaction) × (current ≡ Some t) × TellsCurrent seat t w
-      sealed_now None told = absurd told
-      sealed_now (Some t) told = (t, refl, told.0)
+      marked : (watched : Option Snapshot) → w.is_mark ≡ true → TellsWatched watched (world.sealed w stamp) → w ≡ record (world.begun w.number w.begin) { is_mark = true }
+      marked None marks told = absurd (cc)
+      marked (Some s) marks told = told.bare
+
+      from : (current : Option Transaction) → p.current ≡ current → TellsNow seat current (world.sealed w stamp) → WasRun w (steps_of_number (all_of p) w.number)
+      from None is marks =
+          bare_run w true (steps_of_number (all_of p) w.number) (marked p.snapshot marks (subst (λ st. TellsWatched p.snapshot st) stand tells.watched))
+          (steps_bare w (subst (λ (at : Stand). IsCurrent at w) (sym stand) refl) is)
+      from (Some t) is told = subst (λ steps. WasRun w steps) (sym (steps_now t w is told.0)) told.0.ran
 
   pub run : (w : Work) (stamp : ℕ) → ((f : Finished) × (f ∈ s.over) × (f.work ≡ w) × (stamp_of f.fate ≡ Some stamp)) ⊎ (s.stand ≡ world.sealed w stamp)
       → WasRun w (steps_of_number (all_of p) w.number)
