@@ -31,7 +31,7 @@ pub still : (x y : Part) → y.over ≡ x.over → y.current ≡ x.current → S
 still x y over current = same_current x y over current
 
 -- of the current transaction claims and stamps stay
-same_work : (x y : Part) → y.over ≡ x.over → y.current.decision ≡ x.current.decision → y.current.stamp ≡ x.current.stamp → y.current.succ ≡ x.current.succ
+pub same_work : (x y : Part) → y.over ≡ x.over → y.current.decision ≡ x.current.decision → y.current.stamp ≡ x.current.stamp → y.current.succ ≡ x.current.succ
     → y.current.writes ≡ x.current.writes → Same x y
 same_work x y over decision stamp succ writes = same_claims x y over decision stamp succ writes
 

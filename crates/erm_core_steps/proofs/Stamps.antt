@@ -259,14 +259,14 @@ pub mark_done : (sessions seat : ℕ) (b c d e : Core) → Sound b → Sound c �
     → IsQuiet sessions e × DidMark (view_of sessions b) seat c.shared.tail (view_of sessions e)
 mark_done sessions seat b c d e sound_b sound_c sound_d quiet session may safe at has first second third =
     let x : Part = b.seats seat in
-    let as = sealed_mark b seat sound_b safe in
-    let done = seals_done sessions seat LEAST_BLOCK b c d e sound_b sound_c sound_d quiet session may at has (sym (ap size_of as)) (omega arith) first second third in (
+    let bare = sealed_mark b seat sound_b safe in
+    let done = seals_done sessions seat LEAST_BLOCK b c d e sound_b sound_c sound_d quiet session may at has (sym (ap size_of bare)) (omega arith) first second third in (
       done.0,
       record {
         snapshot = marked_snapshot x.current;
         stands = stands_shown x.place x.task x.current may.active ∙ shown_safe x.task x.current safe;
         safe = refl;
-        seals = subst (λ (w : Work). Seals (view_of sessions b) seat w c.shared.tail (view_of sessions e)) as done.1;
+        seals = subst (λ (w : Work). Seals (view_of sessions b) seat w c.shared.tail (view_of sessions e)) bare done.1;
       },
     )
 

@@ -59,11 +59,11 @@ module _ (seat : ℕ) (x : Part) (back : OwnBack seat x) where
       (new_as of.attempt true ((back.marks of.attempt of.stands).new (and_parts _ _ is).0) is)
 
   ends_by : (d : Decision) (t : Attempt) → d ≢ Undecided → (d ≢ Abort → 0 < t.stamp) → IsMarkedAs d t.is_mark → EndsAsMarked (work_of t) (fate_of d t)
-  ends_by Undecided t decided drawn as = absurd (decided refl)
-  ends_by Commit t decided drawn as = ap (λ (b : Bool). b && nat_lt 0 t.stamp) as
-  ends_by Skip t decided drawn as = ap (λ (b : Bool). b && nat_lt 0 t.stamp) as
-  ends_by Abort t decided drawn as = ap (λ (b : Bool). b && nat_lt 0 t.stamp) as
-  ends_by Mark t decided drawn as = (and_from t.is_mark (nat_lt 0 t.stamp) as (lt-ltb 0 t.stamp (drawn (λ (e : Mark ≡ Abort). cc))), refl)
+  ends_by Undecided t decided drawn marked = absurd (decided refl)
+  ends_by Commit t decided drawn marked = ap (λ (b : Bool). b && nat_lt 0 t.stamp) marked
+  ends_by Skip t decided drawn marked = ap (λ (b : Bool). b && nat_lt 0 t.stamp) marked
+  ends_by Abort t decided drawn marked = ap (λ (b : Bool). b && nat_lt 0 t.stamp) marked
+  ends_by Mark t decided drawn marked = (and_from t.is_mark (nat_lt 0 t.stamp) marked (lt-ltb 0 t.stamp (drawn (λ (e : Mark ≡ Abort). cc))), refl)
 
   pub ends_marked : ((t : Attempt) → t ∈ x.over → t.decision ≢ Undecided) → ((t : Attempt) → t ∈ x.over → t.decision ≢ Abort → 0 < t.stamp)
       → (f : Finished) → f ∈ map finished_of x.over → EndsAsMarked f.work f.fate

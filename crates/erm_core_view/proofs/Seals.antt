@@ -204,13 +204,13 @@ module _ (short : (row : List ℕ) → stored_length row ≤ length row) where
   marks seat c sound session active safe sessions =
       let x : Part = c.seats seat in
       let tail : ℕ = c.shared.tail in
-      let as = sealed_mark c seat sound safe in
-      let size : world.size_of (work_of x.current) ≡ LEAST_BLOCK = ap world.size_of as in
+      let bare = sealed_mark c seat sound safe in
+      let size : world.size_of (work_of x.current) ≡ LEAST_BLOCK = ap world.size_of bare in
       record {
         snapshot = marked_snapshot x.current;
         stands = stands_shown x.place x.task x.current active ∙ shown_safe x.task x.current safe;
         safe = refl;
-        seals = subst (λ (w : Work). Seals (view_of sessions c) seat w tail (view_of sessions (run_from c (seal_steps seat LEAST_BLOCK tail)))) as
+        seals = subst (λ (w : Work). Seals (view_of sessions c) seat w tail (view_of sessions (run_from c (seal_steps seat LEAST_BLOCK tail)))) bare
             (subst (λ (n : ℕ). Seals (view_of sessions c) seat (sealed_work x) tail (view_of sessions (run_from c (seal_steps seat n tail)))) size
             (seals_as seat c sound session active (safe_seals x.task safe) sessions));
       }

@@ -108,7 +108,7 @@ module _ (mode : Mode) (opening : Opening) (sessions : ℕ) (script : List Scrip
       let same : p ≡ place = cc in
       let cause : HasLogCause (moment i l) (answer.Flushed p) = (owes.refusals.each i l (answer.Flushed p) at answered).log in
       subst (StopsAt i l) same (elim cause.1 [
-        | inl open ↦ open_at i l p open
+        | inl opened ↦ open_at i l p opened
         | inr all ↦ inr (inr all.0)
       ])
   stops_at i place l (answer.Unfilled p) at answered is =

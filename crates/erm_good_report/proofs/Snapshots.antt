@@ -178,7 +178,7 @@ pub both_true : (a b : Bool) → a ≡ true → b ≡ true → (a && b) ≡ true
 both_true true b one other = other
 both_true false b one other = one
 
-take_passes : (said : List Said) (i : ℕ) → tell_none said ≡ true → tell_none (take i said) ≡ true
+pub take_passes : (said : List Said) (i : ℕ) → tell_none said ≡ true → tell_none (take i said) ≡ true
 take_passes [] zero pass = refl
 take_passes [] (suc i) pass = refl
 take_passes (s ∷ said) zero pass = refl

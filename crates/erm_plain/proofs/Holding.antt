@@ -96,7 +96,7 @@ change_held v t seat held more opening others keeps own all q w session stand =
     elim (cases_eq q seat) [
       | inl is ↦ subst (λ (at : ℕ). MayGoBack w (more at)) (sym is) (own w (subst (IsSession v) is before) (subst (λ (at : ℕ). (t.session at).stand ≡ world.active w) is stand))
       | inr another ↦ subst (λ (saves : List (List VersionWritten)). MayGoBack w saves) (sym (keeps q another))
-      (all q w before (ap (λ (s : Session). s.stand) (sym (others q another)) ∙ stand))
+          (all q w before (ap (λ (s : Session). s.stand) (sym (others q another)) ∙ stand))
     ]
 
 -- The opening stays, and the sessions may go back to what they hold.

@@ -1,5 +1,5 @@
 -- A sealed transaction that has passed all versions is decided, and ends.
-use Rattle.std.proofs.Common.{◌≡◌, ℕ, ◌≤◌, ◌+◌, Bool, true, false, ltb, List, [], length, Some, sym, ap, ◌∙◌, subst, arith, Option, None}
+use Rattle.std.proofs.Common.{◌≡◌, ℕ, ◌≤◌, ◌+◌, Bool, true, false, ltb, List, [], length, Some, sym, ap, ◌∙◌, subst, arith, Option, None, refl}
 use Rattle.std.specs.Prelude.{if◌then◌else◌, vec_capacity, is_some}
 use Rattle.erm_block.specs.declared.block.TheConstants.{BLOCK_WORDS, LEAST_SAFE}
 use Rattle.erm_cells.specs.Spare.{SpareIs}
@@ -89,19 +89,21 @@ outcome_by false false number t x e same kept = let a = kept.stamp in let b = ke
 outcome_by true false number t x e same kept = absurd (cc)
 outcome_by false true number t x e same kept = absurd (cc)
 
+-- what it becomes where it is no mark, by what is kept, and by its part
+abbrev plain_kept : ℕ → Pre → Bool → Outcome
+plain_kept number t opens = if opens then Committed (record { number = number; stamp = t.stamp; end = t.stamp + t.size; succ = t.succ; pred = t.pred }) else Excluded t.stamp t.succ t.pred
+
+abbrev plain_part : Part → Outcome
+plain_part x =
+    if ltb x.current.pred x.current.succ
+    then Committed (record { number = x.current.number; stamp = x.current.stamp; end = x.current.stamp + x.current.size; succ = x.current.succ; pred = x.current.pred })
+    else Excluded x.current.stamp x.current.succ x.current.pred
+
 kept_becomes : (number : ℕ) (t : Pre) (x : Part) (opens : Bool) → number ≡ x.current.number → IsPre t x → opens ≡ ltb x.current.pred x.current.succ → kept_outcome number t opens ≡ outcome_of x.current
-kept_becomes number t x opens same kept is = ap (λ (o : Option ℕ). option_map_or (λ begin. Marked t.stamp begin) o plain) kept.mark ∙ by x.current.is_mark
+kept_becomes number t x opens same kept is = ap (λ (o : Option ℕ). option_map_or (λ begin. Marked t.stamp begin) o (plain_kept number t opens)) kept.mark ∙ by x.current.is_mark
   where
-    abbrev plain : Outcome
-    plain = if opens then Committed (record { number = number; stamp = t.stamp; end = t.stamp + t.size; succ = t.succ; pred = t.pred }) else Excluded t.stamp t.succ t.pred
-
-    abbrev decided : Outcome
-    decided =
-        if ltb x.current.pred x.current.succ
-        then Committed (record { number = x.current.number; stamp = x.current.stamp; end = x.current.stamp + x.current.size; succ = x.current.succ; pred = x.current.pred })
-        else Excluded x.current.stamp x.current.succ x.current.pred
-
-    by : (m : Bool) → option_map_or (λ begin. Marked t.stamp begin) (if m then Some x.current.begin else None) plain ≡ (if m then Marked x.current.stamp x.current.begin else decided)
+    by : (m : Bool)
+        → option_map_or (λ begin. Marked t.stamp begin) (if m then Some x.current.begin else None) (plain_kept number t opens) ≡ (if m then Marked x.current.stamp x.current.begin else plain_part x)
     by true = ap (λ (n : ℕ). Marked n x.current.begin) kept.stamp
     by false = outcome_by opens (ltb x.current.pred x.current.succ) number t x is same kept
 

@@ -102,13 +102,13 @@ fresh_in c seat sound active safe nothing =
     let t : Attempt = x.current in
     let reads = no_elements t.reads nothing.reads in
     let writes = no_elements t.writes nothing.writes in
-    let open = active_open x.place t active (sound.own seat).ranges.current in
-    let numbers = sound.common.decided.running seat open.1 (may_commit x.place x.task safe) in
+    let opened = active_open x.place t active (sound.own seat).ranges.current in
+    let numbers = sound.common.decided.running seat opened.1 (may_commit x.place x.task safe) in
     record {
       reads = reads;
       writes = writes;
       succ = elim numbers.succ_attained [
-        | inl own ↦ own ∙ open.0
+        | inl own ↦ own ∙ opened.0
         | inr by ↦ absurd (none_overwrites seat t by.0 reads by.3)
       ];
       pred = elim numbers.pred_attained [

@@ -230,10 +230,10 @@ module _ (law : Law) (seat tail flushed stamp : ℕ) (b e : Book) (may : MayCall
       let t : View = own_view seat (stamp + size) flushed e in
       let r : Snapshot = shows_of x in
       let stands : (u.session seat).stand ≡ world.snapshot r = own_stand seat stamp flushed b snaps in
-      let as : (let z : Work = record (work_of x.current) { is_mark = true } in z) ≡ marking r = ap (λ (z : Work). let y : Work = record z { is_mark = true } in y) new in
+      let marks : (let z : Work = record (work_of x.current) { is_mark = true } in z) ≡ marking r = ap (λ (z : Work). let y : Work = record z { is_mark = true } in y) new in
       let some : ltb 0 stamp ≡ true = lt-ltb 0 stamp did.positive in
       let shows = sealed_shows x size stamp true (marked_bit (is_safe x.task) x.current.is_mark (ltb 0 stamp) safe some) in
-      let sealed = sealed_with (marking r) (shows ∙ ap (λ (z : Work). let y : Session = record { over = map finished_of x.over; stand = world.sealed z stamp } in y) as) (sym (size_shown x.current) ∙ ap size_of as) did in
+      let sealed = sealed_with (marking r) (shows ∙ ap (λ (z : Work). let y : Session = record { over = map finished_of x.over; stand = world.sealed z stamp } in y) marks) (sym (size_shown x.current) ∙ ap size_of marks) did in
       record {
         more = sealed.more;
         seen_now = sealed.seen_now;

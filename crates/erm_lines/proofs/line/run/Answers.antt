@@ -44,7 +44,7 @@ abort-requires-clause-active g c = active_in (phase_at (g.W.RowWorld.view c.args
 pub operate-requires : goal.operate-requires
 operate-requires g c =
     let it = operates c.args.command.now c.requires.asks c.in_default.not-Begin c.in_default.not-Safe c.in_default.not-Save c.in_default.not-Back c.in_default.not-Seal c.in_default.not-Settle c.in_default.not-Commit c.in_default.not-Abort
-        (phase_at (g.W.RowWorld.view c.args.world.now) c.args.seat) c.requires.plain c.requires.free in
+    (phase_at (g.W.RowWorld.view c.args.world.now) c.args.seat) c.requires.plain c.requires.free in
     let active = active_in (phase_at (g.W.RowWorld.view c.args.world.now) c.args.seat) c.args.command.now it.need it.needs it.of c.requires.plain c.requires.free in
     record {
       law = c.requires.law;
