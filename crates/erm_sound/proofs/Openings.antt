@@ -16,7 +16,7 @@ use Rattle.erm_machine.specs.declared.part.Part.{Part}
 use Rattle.erm_machine.specs.declared.task.Task.TheVariants.{Rest}
 use Rattle.erm_machine.specs.declared.place.Place.{Place}
 use Rattle.erm_machine.specs.declared.place.Place.TheVariants.{Vacant, Idle}
-use Rattle.erm_machine.specs.Back.{IsLeaving}
+use Rattle.erm_machine.specs.Back.{IsLeaving, MarkFits}
 use Rattle.erm_machine.specs.Begins.{BeginsAt}
 use Rattle.erm_machine.specs.Bounds.{words_stored}
 use Rattle.erm_machine.specs.Lives.{IsBeginning, IsPin, OwnLives, in_progress}
@@ -272,6 +272,8 @@ module _ (sessions : ℕ) (rows : Rows) (tail run first cells : ℕ) (few : sess
       leaving = λ leaving. absurd (idle_or (λ pl. IsLeaving pl → ⊥) (is_taken sessions p) (λ h. h) (λ h. h) leaving);
       of = inl refl;
       snapshot = λ none. absurd (omega (arith, none));
+      unmarked = λ _. refl;
+      marks = λ t m. subst MarkFits (sym (only_blank t m)) (record { new = λ _. refl; decided = tt });
       only = λ _ t m. absurd (none_in_nil t m);
     };
     raised = record { raised = λ none. absurd (omega (arith, none)) };
