@@ -121,6 +121,7 @@ IsOfClient command.Save = ⊥
 IsOfClient (command.Back n) = ⊥
 IsOfClient command.Seal = ⊥
 IsOfClient command.Settle = ⊥
+IsOfClient command.Mark = ⊥
 IsOfClient command.Flush = ⊥
 IsOfClient command.Checkpoint = ⊥
 IsOfClient c = Unit {0}

@@ -23,6 +23,7 @@ pub fn table_of(command: &Command) -> Option<u8>
         | Command::Settle
         | Command::Commit
         | Command::Abort
+        | Command::Mark
         | Command::Durable
         | Command::Flush
         | Command::Checkpoint => None,

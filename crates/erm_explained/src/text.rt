@@ -170,6 +170,7 @@ fn push_command(out: &mut Vec<u8>, command: &Command) -> Result<(), AllocError>
         | Command::Settle
         | Command::Commit
         | Command::Abort
+        | Command::Mark
         | Command::Durable
         | Command::Flush
         | Command::Checkpoint

@@ -69,6 +69,7 @@ given_lack c command.Seal apart ok = tt
 given_lack c command.Settle apart ok = tt
 given_lack c command.Commit apart ok = tt
 given_lack c command.Abort apart ok = tt
+given_lack c command.Mark apart ok = tt
 given_lack c command.Durable apart ok = tt
 given_lack c command.Flush apart ok = tt
 given_lack c command.Checkpoint apart ok = tt
@@ -100,6 +101,7 @@ wordly keyword.Seal = record { space = refl; end = refl; kept = λ rest. refl }
 wordly keyword.Settle = record { space = refl; end = refl; kept = λ rest. refl }
 wordly keyword.Commit = record { space = refl; end = refl; kept = λ rest. refl }
 wordly keyword.Abort = record { space = refl; end = refl; kept = λ rest. refl }
+wordly keyword.Mark = record { space = refl; end = refl; kept = λ rest. refl }
 wordly keyword.Durable = record { space = refl; end = refl; kept = λ rest. refl }
 wordly keyword.Flush = record { space = refl; end = refl; kept = λ rest. refl }
 wordly keyword.Checkpoint = record { space = refl; end = refl; kept = λ rest. refl }
@@ -145,6 +147,7 @@ lone_given command.Seal unnamed = cc
 lone_given command.Settle unnamed = cc
 lone_given command.Commit unnamed = cc
 lone_given command.Abort unnamed = cc
+lone_given command.Mark unnamed = cc
 lone_given command.Durable unnamed = cc
 lone_given command.Flush unnamed = refl
 lone_given command.Checkpoint unnamed = refl

@@ -80,6 +80,7 @@ fn word(command: &Command) -> &'static [u8]
         Command::Settle => b"settle".as_slice(),
         Command::Commit => b"commit".as_slice(),
         Command::Abort => b"abort".as_slice(),
+        Command::Mark => b"mark".as_slice(),
         Command::Durable => b"durable".as_slice(),
         Command::Flush => b"flush".as_slice(),
         Command::Checkpoint => b"checkpoint".as_slice(),

@@ -51,6 +51,7 @@ added_step command.Seal a = refl
 added_step command.Settle a = refl
 added_step command.Commit a = refl
 added_step command.Abort a = refl
+added_step command.Mark a = refl
 added_step command.Durable a = refl
 added_step command.Flush a = refl
 added_step command.Checkpoint a = refl
@@ -340,7 +341,7 @@ module _ (script : List ScriptLine) (answers : List Answer) where
   begun_watched : (p : Progress) (s : Session) (w : Watched) → s.watched ≡ None → w.number ≡ s.over + 1 → w.begin ≡ None → w.lines.items ≡ [] → Follows script answers p s → IsWatched script answers (own_snapshot p) w
   begun_watched p s w none number begin lines f =
       let nothing : p.snapshot ≡ None = no_watched p.snapshot (subst (IsWatching script answers p.snapshot) none f.watched) in
-      let fresh : Snapshot = record { number = next_number p; begin = None; lines = []; placed = false } in
+      let fresh : Snapshot = record { number = next_number p; begin = None; lines = []; placed = false; mark = None } in
       let own : own_snapshot p ≡ fresh = ap (λ (o : Option Snapshot). option_map_or (λ (x : Snapshot). x) o fresh) nothing in
       subst (λ (x : Snapshot). IsWatched script answers x w) (sym own) (record {
         number = omega (arith, number, f.over);
@@ -352,7 +353,7 @@ module _ (script : List ScriptLine) (answers : List Answer) where
   kept_watched : (p : Progress) (s : Session) (w : Watched) → s.watched ≡ Some w → Follows script answers p s → IsWatched script answers (own_snapshot p) w
   kept_watched p s w some f =
       let its = watched_of p.snapshot w (subst (IsWatching script answers p.snapshot) some f.watched) in
-      let fresh : Snapshot = record { number = next_number p; begin = None; lines = []; placed = false } in
+      let fresh : Snapshot = record { number = next_number p; begin = None; lines = []; placed = false; mark = None } in
       let own : own_snapshot p ≡ its.0 = ap (λ (o : Option Snapshot). option_map_or (λ (x : Snapshot). x) o fresh) its.1 in
       subst (λ (x : Snapshot). IsWatched script answers x w) (sym own) its.2
 

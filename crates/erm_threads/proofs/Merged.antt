@@ -28,6 +28,7 @@ move_own command.Seal seat l a = refl
 move_own command.Settle seat l a = refl
 move_own command.Commit seat l a = refl
 move_own command.Abort seat l a = refl
+move_own command.Mark seat l a = refl
 move_own command.Durable seat l a = refl
 
 no_moves : (lines : List ScriptLine) → line_moves lines [] ≡ []

@@ -70,6 +70,7 @@ fn copied_command(command: &Command) -> Command
         Command::Settle => Command::Settle,
         Command::Commit => Command::Commit,
         Command::Abort => Command::Abort,
+        Command::Mark => Command::Mark,
         Command::Durable => Command::Durable,
         Command::Flush => Command::Flush,
         Command::Checkpoint => Command::Checkpoint,

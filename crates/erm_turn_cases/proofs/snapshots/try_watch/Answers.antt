@@ -38,7 +38,7 @@ pub look-requires : goal.look-requires
 look-requires g c =
     let seat = g.S.SharedSession.seat c.args.session.now in
     let v = g.S.SharedSession.own c.args.session.now in
-    let it = looks_are_safe (phase_at v seat) c.args.command.now (has_phase v seat c.requires.snapshot) c.in_default.not-Safe c.in_default.not-Commit c.in_default.not-Abort c.requires.asks c.requires.allowed in
+    let it = looks_are_safe (phase_at v seat) c.args.command.now (has_phase v seat c.requires.snapshot) c.in_default.not-Safe c.in_default.not-Commit c.in_default.not-Abort c.requires.asks c.requires.allowed c.in_default.not-Mark in
     record {
       law = c.requires.law;
       stands = c.requires.stands;
