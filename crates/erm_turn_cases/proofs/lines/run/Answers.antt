@@ -59,7 +59,7 @@ pub operate-requires : goal.operate-requires
 operate-requires g c =
     let phase = phase_at (g.S.SharedSession.own c.args.session.now) (g.S.SharedSession.seat c.args.session.now) in
     let it = operates c.args.command.now c.requires.asks c.in_default.not-Begin c.in_default.not-Safe c.in_default.not-Save c.in_default.not-Back c.in_default.not-Seal c.in_default.not-Settle c.in_default.not-Commit c.in_default.not-Abort
-        phase c.requires.plain c.requires.allowed in
+    phase c.requires.plain c.requires.allowed in
     let active = active_in phase c.args.command.now it.need it.needs it.of c.requires.plain c.requires.allowed in
     record { law = c.requires.law; stands = c.requires.stands; active = active; ran = c.requires.ran active; named = it.named; table = c.requires.table }
 
