@@ -1,0 +1,1 @@
+date; tail -2 /w/logs/mk.main; git -C /w/saves.git log --format='%h %ar %s' | head -${1:-10}; for p in $(pgrep -x rattle); do echo "$(ps -o ni=,etimes=,rss= -p $p) $(tr '\0' ' ' < /proc/$p/cmdline | cut -d' ' -f2) $(readlink /proc/$p/cwd)"; done | sort -k5 | uniq -f4 | head -30; free -g | head -2 | tail -1; uptime; ls /w | tr '\n' ' '
