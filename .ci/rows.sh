@@ -160,7 +160,7 @@ def made_both_ways(_):
 
 
 def windows_at_once(_):
-    """Six sessions at once write sixteen keys that are there: both ends of each window are those of the definitions."""
+    """Six sessions at once write sixteen keys that are there, and take back some of it: both ends of each window are those of the definitions."""
     pick = random.Random(1)
     load = "a begin\n" + "".join(f"a put {at // 8} {at % 8} aa\n" for at in range(16)) + "a commit\n"
     status, loaded = call(["run"], load.encode())
@@ -170,10 +170,10 @@ def windows_at_once(_):
     def operation():
         key = f"{pick.randrange(2)} {pick.randrange(8)}"
         kinds = f"get {key}", f"get {key}", f"put {key} {pick.randrange(256):02x}", f"del {key}", f"next {key}", f"scan {key} 7", f"tidy {key}"
-        return pick.choice(kinds)
+        return pick.choice((*kinds, "save", f"back {pick.randint(1, 2)}"))
 
     def transaction():
-        return ["begin", *(operation() for _ in range(pick.randint(1, 4))), *pick.choice((["commit"], ["seal", "settle"]))]
+        return ["begin", *(operation() for _ in range(pick.randint(1, 6))), *pick.choice((["commit"], ["seal", "settle"]))]
 
     parts = [[line for _ in range(100) for line in transaction()] for _ in range(6)]
     lines = [f"s{seat} {part[at]}\n" for at in range(max(map(len, parts))) for seat, part in enumerate(parts) if at < len(part)]

@@ -5,9 +5,9 @@
 #   TRANSACTIONS=N bench/stress.sh ..     a script has N transactions in place of 100,000
 #   SESSIONS=N bench/stress.sh ..         a script has N sessions, from 1 to 48, in place of 48
 #   FIRST=N bench/stress.sh ..            the first script's number is N in place of 1, so that several calls side by side try scripts of their own
-# The keys are sixteen of each of four tables. A transaction gets, scans, sets and deletes a few, tidies now and then, and ends by a commit, by a
-# seal and a settle, or by an abort; behind some commits its session waits until they last. One in fifty is a snapshot that only reads, which gets and scans
-# some keys. A run before each script, line by line, sets all keys, so that the rows written are those of keys, and no put of a new key that is refused leaves
+# The keys are sixteen of each of four tables. A transaction gets, scans, sets and deletes a few, tidies now and then; one in twenty goes back to a
+# savepoint; and it ends by a commit, by a seal and a settle, or by an abort; behind some commits its session waits until they last. One in fifty is a
+# snapshot that only reads, which gets and scans some keys. A run before each script, line by line, sets all keys, so that the rows written are those of keys, and no put of a new key that is refused leaves
 # an object used up.
 # It prints a row for each script: how its transactions ended, seconds and peak memory of the call, and what the checks say. The folder of one whose
 # report or log isn't good, or whose disk then recovers to another map, is kept and named; then the status is 1. It needs python3.
@@ -56,13 +56,15 @@ def look(pick):
 
 
 def transaction(pick):
-    """The lines of a transaction, and of the wait behind some; or of a snapshot that only reads."""
+    """The lines of a transaction, of which some go back to a savepoint, and of the wait behind some; or of a snapshot that only reads."""
     if pick.random() < 0.02:
         yield from ("safe", *(look(pick) for _ in range(pick.randint(1, 6))), "commit")
         return
     yield "begin"
     for _ in range(pick.randint(1, 4)):
         yield operation(pick)
+    if pick.random() < 0.05:
+        yield from ("save", operation(pick), operation(pick), "back 1", operation(pick))
     yield from pick.choices((["commit"], ["seal", "settle"], ["abort"]), (80, 17, 3))[0]
     if pick.random() < 0.01:
         yield "durable"

@@ -13,8 +13,9 @@ import os
 import re
 
 TOP = os.path.dirname(os.path.dirname(os.path.abspath(__file__)))
-PROGRAMS = ("erm_main", "erm_explain_main", "erm_log_main", "erm_desk_checkpoint", "erm_tellers")
+PROGRAMS = ("erm_main", "erm_explain_main", "erm_log_main", "erm_desk_checkpoint", "erm_bank")
 MEMORY = "AllocError"
+WITHIN = {"ProgramsOnDisk": "ProgramsStop"}  # what is answered beside other things, in a field
 
 
 class Call:
@@ -109,6 +110,7 @@ def refusals(uses):
     by_type = collections.defaultdict(list)
     for call in calls:
         bare = [call.refusal()] if call.refusal() else [it for it in re.findall(r"\w*Stop(?:ped)?\b", call.answer) if it in known]
+        bare += [WITHIN[it] for it in re.findall(r"\w+", call.answer) if it in WITHIN]
         for it in bare:
             by_type[call.kind(it)].append(call)
     return by_type

@@ -326,23 +326,30 @@ class Heard:
         if answer[0] in ("safe", "unsafe", "ended", "read") or answer == ["not", "safe"]:
             raise Bad(f"line {number} tells of a snapshot that there isn't")
         if words[0] in DRAWERS and answer[0] in ("sealed", "committed", "excluded", "wait"):
-            self.current[session].within = self.log_end()
+            self.in_progress(number, session).within = self.log_end()
         if answer[0] == "begin":
             self.begin(number, session, int(answer[1]))
         elif answer[0] == "sealed":
-            self.current[session].sealed = int(answer[1])
-            self.check_reach(number, self.current[session].within, int(answer[1]))
+            transaction = self.in_progress(number, session)
+            transaction.sealed = int(answer[1])
+            self.check_reach(number, transaction.within, int(answer[1]))
         elif answer[0] == "durable" and int(answer[1]) != self.last.get(session):
             raise Bad(f"line {number} tells another commit than the session's last")
         elif words[0] in ("save", "back") and (answer[0] in REPLIES or answer == ["saves", "full"] or answer[:2] == ["no", "save"]):
-            self.savepoint(number, self.current[session], words, answer)
+            self.savepoint(number, self.in_progress(number, session), words, answer)
         elif answer[0] in REPLIES:
-            self.current[session].steps.append((words, answer[:1] if words[0] == "tidy" else answer))
+            self.in_progress(number, session).steps.append((words, answer[:1] if words[0] == "tidy" else answer))
         else:
             self.end(number, session, answer, words)
         if words[0] in DRAWERS and answer[0] in ("sealed", "committed") or answer[:2] == ["excluded", "at"] and words[0] == "commit":
             stamp = int(answer[2] if answer[0] == "excluded" else answer[1])
             self.passes(session, stamp, stamp + LEAST_BLOCK)
+
+    def in_progress(self, number, session):
+        """The session's transaction, which a line is answered in."""
+        if session not in self.current:
+            raise Bad(f"line {number} is answered as in a transaction, and its session has none")
+        return self.current[session]
 
     def savepoint(self, number, transaction, words, answer):
         """The answer to a line that makes a savepoint, or goes back to one."""

@@ -4,6 +4,7 @@ pub mod OfCutSnapshots
 pub mod OfCutWaits
 pub mod OfDecided
 pub mod OfFlushed
+pub mod OfForgotten
 pub mod OfGood
 pub mod OfGoodSaves
 pub mod OfLaterCommits

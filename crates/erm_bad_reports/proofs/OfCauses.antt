@@ -92,8 +92,8 @@ keeps_but_opens Serial not = record { same = IsPermutation-refl (history_of both
 keeps_but_opens Ascending not = λ i j d less within. absurd (omega arith)
 keeps_but_opens Runs not = record { run = ((ap reply.Value (sym (value_at-empty 0 1)), tt), ((refl, tt), refl)) }
 keeps_but_opens LowEnds not = each_in (λ t. IsLowAt t.ending both t) both (
-  λ table key stamp succ u touches commit less puts. absurd (omega (arith, from_13 u stamp succ commit, less)),
-  (λ table key stamp succ u touches commit less puts. absurd (omega (arith, from_13 u stamp succ commit, less)), tt),
+  λ table key stamp succ u touches commit less overwrites. absurd (omega (arith, from_13 u stamp succ commit, less)),
+  (λ table key stamp succ u touches commit less overwrites. absurd (omega (arith, from_13 u stamp succ commit, less)), tt),
 )
 keeps_but_opens HighEnds not = each_in (λ t. IsHighAt t.ending both t) both (
   λ table key stamp succ v gets put next less. absurd (omega (arith, from_13 put.by put.stamp put.succ put.commit, put.below)),
@@ -140,8 +140,8 @@ module _ (succ pred : ℕ) (low : succ < 2 ^ 64) (high : pred < 2 ^ 64) (shut : 
   keeps_but_end Ascending not = λ i j d less within. absurd (omega arith)
   keeps_but_end Runs not = record { run = ((refl, tt), refl) }
   keeps_but_end LowEnds not = each_in (λ t. IsLowAt t.ending (told_of (excluded_with succ pred)) t) (told_of (excluded_with succ pred)) (
-    λ table key stamp next u touches commit less puts. absurd (omega (arith, above_12 u stamp next commit, less)),
-    (λ table key stamp next u touches commit less puts. absurd (omega (arith, above_12 u stamp next commit, less)), tt),
+    λ table key stamp next u touches commit less overwrites. absurd (omega (arith, above_12 u stamp next commit, less)),
+    (λ table key stamp next u touches commit less overwrites. absurd (omega (arith, above_12 u stamp next commit, less)), tt),
   )
   keeps_but_end HighEnds not = each_in (λ t. IsHighAt t.ending (told_of (excluded_with succ pred)) t) (told_of (excluded_with succ pred)) (
     λ table key stamp next v gets put next_writer less. absurd (omega (arith, above_12 put.by put.stamp put.succ put.commit, put.below)),

@@ -56,8 +56,8 @@ keeps_but_later Serial not = record { same = IsPermutation-refl (history_of late
 keeps_but_later Ascending not = λ i j d less within. absurd (omega arith)
 keeps_but_later Runs not = record { run = ((ap reply.Value (sym (value_at-empty 0 1)), tt), ((refl, tt), refl)) }
 keeps_but_later LowEnds not = each_in (λ t. IsLowAt t.ending later_told t) later_told (
-  λ table key stamp succ u touches commit less puts. absurd (omega (arith, from_13 u stamp succ commit, less)),
-  (λ table key stamp succ u touches commit less puts. absurd (omega (arith, from_13 u stamp succ commit, less)), tt),
+  λ table key stamp succ u touches commit less overwrites. absurd (omega (arith, from_13 u stamp succ commit, less)),
+  (λ table key stamp succ u touches commit less overwrites. absurd (omega (arith, from_13 u stamp succ commit, less)), tt),
 )
 keeps_but_later HighEnds not = each_in (λ t. IsHighAt t.ending later_told t) later_told (
   λ table key stamp succ v gets put next less. absurd (omega (arith, from_13 put.by put.stamp put.succ put.commit, put.below)),
@@ -119,8 +119,8 @@ keeps_but_excluded Serial not = one_commit_ordered _
 keeps_but_excluded Ascending not = λ i j d less within. absurd (omega arith)
 keeps_but_excluded Runs not = record { run = ((refl, tt), refl) }
 keeps_but_excluded LowEnds not = each_in (λ t. IsLowAt t.ending excluded_told t) excluded_told (
-  λ table key stamp succ u touches commit less puts. absurd (omega (arith, not_before u stamp succ commit, less)),
-  (λ table key stamp succ u touches commit less puts. absurd (omega (arith, not_before u stamp succ commit, less)), tt),
+  λ table key stamp succ u touches commit less overwrites. absurd (omega (arith, not_before u stamp succ commit, less)),
+  (λ table key stamp succ u touches commit less overwrites. absurd (omega (arith, not_before u stamp succ commit, less)), tt),
 )
 keeps_but_excluded HighEnds not = each_in (λ t. IsHighAt t.ending excluded_told t) excluded_told (
   λ table key stamp succ v gets put next less. absurd (omega (arith, not_before put.by put.stamp put.succ put.commit, put.below)),

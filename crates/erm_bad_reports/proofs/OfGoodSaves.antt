@@ -31,7 +31,7 @@ use Rattle.erm_bad_reports.proofs.OfSaves.{in_mode, made_save, not_there, went_b
 use Rattle.erm_bad_reports.proofs.OfStampsOfTwo.{in_time}
 use Rattle.erm_bad_reports.proofs.OfUntold.{none_kept}
 use Rattle.erm_bad_reports.proofs.OfWatched.{named_kept}
-use Rattle.erm_bad_reports.proofs.Tests.{byte, first_snapshot, less_from, no_pair_ascends, one_commit_ordered, phases_kept, reaches, refusals_kept, safe_kept, stamps_agree}
+use Rattle.erm_bad_reports.proofs.Tests.{byte, first_snapshot, less_from, no_pair_ascends, none_overwrites, one_commit_ordered, phases_kept, reaches, refusals_kept, safe_kept, stamps_agree}
 
 -- a report that keeps each clause is a tight one
 tight_at : (told : List Transaction) (t : Transaction) (ending : Ending) → IsLowAt ending told t → IsHighAt ending told t → IsTightAt ending told t
@@ -115,8 +115,8 @@ gone_back_keeps mode Serial = record { same = IsPermutation-refl (history_of (to
 gone_back_keeps mode Ascending = all_pairs_of_two (λ a b. key_cmp a.key b.key ≡ Less) _ _ refl
 gone_back_keeps mode Runs = record { run = ((refl, (refl, tt)), ((refl, (refl, (ap reply.Value (sym put_again), (refl, (ap reply.Value (sym first_key), tt))))), refl)) }
 gone_back_keeps mode LowEnds = each_in (λ t. IsLowAt t.ending (told_of (gone_back mode)) t) (told_of (gone_back mode)) (
-  λ table key stamp succ u touches commit less puts. elim (is_commit mode u stamp succ commit) [ inl is ↦ absurd (omega (arith, is.0, less)) | inr is ↦ absurd (omega (arith, is.0, less)) ],
-  (λ table key stamp succ u touches commit less puts. elim (is_commit mode u stamp succ commit) [ inl is ↦ omega (arith, is.0, less) | inr is ↦ absurd (omega (arith, is.0, less)) ], tt),
+  λ table key stamp succ u touches commit less overwrites. elim (is_commit mode u stamp succ commit) [ inl is ↦ absurd (omega (arith, is.0, less)) | inr is ↦ absurd (omega (arith, is.0, less)) ],
+  (λ table key stamp succ u touches commit less overwrites. elim (is_commit mode u stamp succ commit) [ inl is ↦ omega (arith, is.0, less) | inr is ↦ absurd (omega (arith, is.0, less)) ], tt),
 )
 gone_back_keeps mode HighEnds = each_in (λ t. IsHighAt t.ending (told_of (gone_back mode)) t) (told_of (gone_back mode)) (
   λ table key stamp succ v gets put next less. absurd (omega (arith, next.above, less)),
@@ -164,7 +164,7 @@ claim_stays_keeps mode Safe = safe_kept (claim_stays mode) refl
 claim_stays_keeps mode Serial = one_commit_ordered _
 claim_stays_keeps mode Ascending = no_pair_ascends
 claim_stays_keeps mode Runs = record { run = ((refl, (refl, (refl, tt))), refl) }
-claim_stays_keeps mode LowEnds = each_in (λ t. IsLowAt t.ending (told_of (claim_stays mode)) t) (told_of (claim_stays mode)) (λ table key stamp succ u touches commit less puts. absurd (claim_stays_puts_none mode u commit.of table key puts), (tt, tt))
+claim_stays_keeps mode LowEnds = each_in (λ t. IsLowAt t.ending (told_of (claim_stays mode)) t) (told_of (claim_stays mode)) (λ table key stamp succ u touches commit less overwrites. absurd (none_overwrites _ (claim_stays_puts_none mode) u commit.of table key overwrites), (tt, tt))
 claim_stays_keeps mode HighEnds = each_in (λ t. IsHighAt t.ending (told_of (claim_stays mode)) t) (told_of (claim_stays mode)) (λ table key stamp succ v gets put next less. absurd (claim_stays_puts_none mode put.by put.commit.of table key put.puts), (tt, tt))
 
 pub claim_stays_is_good : (mode : Mode) → IsTightReport mode (opening_at 8) (claim_stays mode).names (claim_stays mode).script (lines_of (claim_stays mode))
@@ -223,7 +223,7 @@ new_key_undone_keeps mode Safe = safe_kept (new_key_undone mode) refl
 new_key_undone_keeps mode Serial = record { same = IsPermutation-refl (history_of (told_of (new_key_undone mode))); ascends = all_pairs_of_two (λ a b. ComesBefore (rank_of a) (rank_of b)) _ _ (inl (omega arith)) }
 new_key_undone_keeps mode Ascending = no_pair_ascends
 new_key_undone_keeps mode Runs = record { run = ((refl, (refl, (refl, tt))), ((ap reply.Value (sym (value_at-empty 0 1)), tt), refl)) }
-new_key_undone_keeps mode LowEnds = each_in (λ t. IsLowAt t.ending (told_of (new_key_undone mode)) t) (told_of (new_key_undone mode)) (λ table key stamp succ u touches commit less puts. absurd (new_key_undone_puts_none mode u commit.of table key puts), (λ table key stamp succ u touches commit less puts. absurd (new_key_undone_puts_none mode u commit.of table key puts), tt))
+new_key_undone_keeps mode LowEnds = each_in (λ t. IsLowAt t.ending (told_of (new_key_undone mode)) t) (told_of (new_key_undone mode)) (λ table key stamp succ u touches commit less overwrites. absurd (none_overwrites _ (new_key_undone_puts_none mode) u commit.of table key overwrites), (λ table key stamp succ u touches commit less overwrites. absurd (none_overwrites _ (new_key_undone_puts_none mode) u commit.of table key overwrites), tt))
 new_key_undone_keeps mode HighEnds = each_in (λ t. IsHighAt t.ending (told_of (new_key_undone mode)) t) (told_of (new_key_undone mode)) (λ table key stamp succ v gets put next less. absurd (new_key_undone_puts_none mode put.by put.commit.of table key put.puts), (λ table key stamp succ v gets put next less. absurd (new_key_undone_puts_none mode put.by put.commit.of table key put.puts), tt))
 
 pub new_key_undone_is_good : (mode : Mode) → IsTightReport mode (opening_at 8) (new_key_undone mode).names (new_key_undone mode).script (lines_of (new_key_undone mode))

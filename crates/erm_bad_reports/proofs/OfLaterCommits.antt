@@ -53,7 +53,7 @@ keeps_but_later Safe not = safe_kept newer_later refl
 keeps_but_later Serial not = one_commit_ordered _
 keeps_but_later Ascending not = λ i j d less within. absurd (omega arith)
 keeps_but_later Runs not = record { run = ((refl, tt), refl) }
-keeps_but_later LowEnds not = each_in (λ t. IsLowAt t.ending later_told t) later_told (tt, (λ table key stamp succ u touches commit less puts. absurd (omega (arith, later_commit u stamp succ commit, less)), tt))
+keeps_but_later LowEnds not = each_in (λ t. IsLowAt t.ending later_told t) later_told (tt, (λ table key stamp succ u touches commit less overwrites. absurd (omega (arith, later_commit u stamp succ commit, less)), tt))
 keeps_but_later HighEnds not = each_in (λ t. IsHighAt t.ending later_told t) later_told (tt, (λ table key stamp succ v gets put next less. absurd (omega (arith, later_commit put.by put.stamp put.succ put.commit, put.below)), tt))
 
 later_is_early : Meets Refusals newer_later → ⊥
@@ -102,7 +102,7 @@ keeps_but_shut Safe not = safe_kept shut_later refl
 keeps_but_shut Serial not = one_commit_ordered _
 keeps_but_shut Ascending not = λ i j d less within. absurd (omega arith)
 keeps_but_shut Runs not = record { run = ((refl, tt), refl) }
-keeps_but_shut LowEnds not = each_in (λ t. IsLowAt t.ending shut_told t) shut_told (tt, (λ table key stamp succ u touches commit less puts. absurd (omega (arith, shut_commit u stamp succ commit, less)), tt))
+keeps_but_shut LowEnds not = each_in (λ t. IsLowAt t.ending shut_told t) shut_told (tt, (λ table key stamp succ u touches commit less overwrites. absurd (omega (arith, shut_commit u stamp succ commit, less)), tt))
 keeps_but_shut HighEnds not = each_in (λ t. IsHighAt t.ending shut_told t) shut_told (tt, (λ table key stamp succ v gets put next less. absurd (omega (arith, shut_commit put.by put.stamp put.succ put.commit, put.below)), tt))
 
 shut_is_early : Meets Refusals shut_later → ⊥

@@ -151,7 +151,7 @@ keeps_but_newer Safe not = safe_kept begun_at_a_newer refl
 keeps_but_newer Serial not = one_commit_ordered _
 keeps_but_newer Ascending not = λ i j d less within. absurd (omega arith)
 keeps_but_newer Runs not = record { run = ((refl, tt), refl) }
-keeps_but_newer LowEnds not = each_in (λ t. IsLowAt t.ending newer_told t) newer_told (λ table key stamp succ u touches commit less puts. absurd (omega (arith, no_earlier u stamp succ commit, less)), (tt, (tt, tt)))
+keeps_but_newer LowEnds not = each_in (λ t. IsLowAt t.ending newer_told t) newer_told (λ table key stamp succ u touches commit less overwrites. absurd (omega (arith, no_earlier u stamp succ commit, less)), (tt, (tt, tt)))
 keeps_but_newer HighEnds not = each_in (λ t. IsHighAt t.ending newer_told t) newer_told (λ table key stamp succ v gets put next less. absurd (omega (arith, no_earlier put.by put.stamp put.succ put.commit, put.below)), (tt, (tt, tt)))
 
 parts_but_newer : (other : Part) → other ≢ Begins → MeetsPart other begun_at_a_newer

@@ -87,8 +87,8 @@ keeps_but_precedes Serial not = record { same = IsPermutation-refl (history_of p
 keeps_but_precedes Ascending not = no_pair_ascends
 keeps_but_precedes Runs not = record { run = ((ap reply.Value (sym (value_at-empty 0 1)), tt), ((ap reply.Value (sym (value_at-empty 0 1)), tt), refl)) }
 keeps_but_precedes LowEnds not = each_in (λ t. IsLowAt t.ending precedes_told t) precedes_told (
-  λ table key stamp succ u touches commit less puts. absurd (late precedes_told precedes_from u stamp succ commit less),
-  (λ table key stamp succ u touches commit less puts. absurd (late precedes_told precedes_from u stamp succ commit less), tt),
+  λ table key stamp succ u touches commit less overwrites. absurd (late precedes_told precedes_from u stamp succ commit less),
+  (λ table key stamp succ u touches commit less overwrites. absurd (late precedes_told precedes_from u stamp succ commit less), tt),
 )
 keeps_but_precedes HighEnds not = each_in (λ t. IsHighAt t.ending precedes_told t) precedes_told (
   λ table key stamp succ v gets put next less. absurd (late precedes_told precedes_from put.by put.stamp put.succ put.commit put.below),
@@ -140,8 +140,8 @@ keeps_but_waits Serial not = record { same = IsPermutation-refl (history_of wait
 keeps_but_waits Ascending not = no_pair_ascends
 keeps_but_waits Runs not = record { run = ((ap reply.Value (sym (value_at-empty 0 1)), tt), ((ap reply.Value (sym (value_at-empty 0 1)), tt), refl)) }
 keeps_but_waits LowEnds not = each_in (λ t. IsLowAt t.ending waits_told t) waits_told (
-  λ table key stamp succ u touches commit less puts. absurd (late waits_told waits_from u stamp succ commit less),
-  (λ table key stamp succ u touches commit less puts. absurd (late waits_told waits_from u stamp succ commit less), tt),
+  λ table key stamp succ u touches commit less overwrites. absurd (late waits_told waits_from u stamp succ commit less),
+  (λ table key stamp succ u touches commit less overwrites. absurd (late waits_told waits_from u stamp succ commit less), tt),
 )
 keeps_but_waits HighEnds not = each_in (λ t. IsHighAt t.ending waits_told t) waits_told (
   λ table key stamp succ v gets put next less. absurd (late waits_told waits_from put.by put.stamp put.succ put.commit put.below),
@@ -228,10 +228,10 @@ keeps_but_excludes Serial not = record { same = IsPermutation-refl (history_of e
 keeps_but_excludes Ascending not = λ i j d less within. absurd (omega arith)
 keeps_but_excludes Runs not = record { run = ((refl, tt), ((ap reply.Value (sym (value_at-insert empty 0 1 (1 ∷ []) 0 2 ∙ value_at-empty 0 2)), tt), refl)) }
 keeps_but_excludes LowEnds not = each_in (λ t. IsLowAt t.ending excludes_told t) excludes_told (
-  λ table key stamp succ u touches commit less puts. absurd (late excludes_told excludes_from u stamp succ commit less),
+  λ table key stamp succ u touches commit less overwrites. absurd (late excludes_told excludes_from u stamp succ commit less),
   (
-    λ table key stamp succ u touches commit less puts. absurd (late excludes_told excludes_from u stamp succ commit less),
-    (λ table key stamp succ u touches commit less puts. absurd (late excludes_told excludes_from u stamp succ commit less), tt),
+    λ table key stamp succ u touches commit less overwrites. absurd (late excludes_told excludes_from u stamp succ commit less),
+    (λ table key stamp succ u touches commit less overwrites. absurd (late excludes_told excludes_from u stamp succ commit less), tt),
   ),
 )
 keeps_but_excludes HighEnds not = each_in (λ t. IsHighAt t.ending excludes_told t) excludes_told (

@@ -200,7 +200,7 @@ keeps_but_now Safe not = absurd (not refl)
 keeps_but_now Serial not = one_commit_ordered _
 keeps_but_now Ascending not = λ i j d less within. absurd (omega arith)
 keeps_but_now Runs not = record { run = ((refl, tt), refl) }
-keeps_but_now LowEnds not = in_one _ _ (λ table key stamp succ u touches commit less puts. absurd (omega (arith, now_commit u stamp succ commit, less)))
+keeps_but_now LowEnds not = in_one _ _ (λ table key stamp succ u touches commit less overwrites. absurd (omega (arith, now_commit u stamp succ commit, less)))
 keeps_but_now HighEnds not = in_one _ _ (λ table key stamp succ v gets put next less. absurd (omega (arith, now_commit put.by put.stamp put.succ put.commit, put.below)))
 
 seen_now : Meets Safe reply_of_now → ⊥

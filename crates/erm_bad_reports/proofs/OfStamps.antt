@@ -1,5 +1,5 @@
 -- Stamps that do not agree.
-use Rattle.std.proofs.Common.{◌≡◌, ◌≢◌, ◌≤◌, ℕ, List, [], ◌∷◌, take, Some, None, refl, sym, ap, inl, arith}
+use Rattle.std.proofs.Common.{◌≡◌, ◌≢◌, ◌≤◌, ℕ, List, [], ◌∷◌, take, Some, None, refl, sym, ap, inl, inr, arith}
 use Rattle.std.proofs.lemmas.List.Elements.{All-from_recursion}
 use Rattle.std.proofs.lemmas.List.Sorted.{IsPermutation-refl}
 use Rattle.std.specs.FinMap.{empty, insert}
@@ -9,7 +9,7 @@ use Rattle.erm_model.specs.SerialOrder.{ComesBefore, IsSerialOrder}
 use Rattle.erm_model.specs.Database.{Database, at, value_at}
 use Rattle.erm_model.specs.declared.operation.Reply.TheVariants as reply
 use Rattle.erm_model.proofs.Keys.{value_at-insert}
-use Rattle.erm_good_report.specs.Windows.{HasKept, IsCommit, PutsKey}
+use Rattle.erm_good_report.specs.Windows.{IsCommit, OverwritesKey}
 use Rattle.erm_report.specs.declared.answer.Answer.TheVariants as answer
 use Rattle.erm_report.specs.Printable.{FitsTypes}
 use Rattle.erm_good_report.specs.Causes.{HasCauseOf}
@@ -63,14 +63,19 @@ both_ordered = record { same = IsPermutation-refl (history_of told); ascends = a
 no_line : (e : Exchange) → e ∈ [] → ⊥
 no_line e (k, at) = cc
 
--- the commits begin at 13, and the one that puts has stamp 18
+-- the commits begin at 13, and the one that overwrites a record has stamp 18
 least_commit : (u : Transaction) (stamp succ : ℕ) → IsCommit told u stamp succ → 13 ≤ stamp
 least_commit u stamp succ commit = each_in (λ u. (s p q : ℕ) → u.ending ≡ Commits s p q → 13 ≤ s) told
     (λ s p q is. absurd (cc), (λ s p q is. let same : 13 ≡ s = cc in omega (arith, same), (λ s p q is. let same : 18 ≡ s = cc in omega (arith, same), tt))) u commit.of stamp succ commit.pred commit.ending
 
-put_commit : (u : Transaction) (stamp succ table key : ℕ) → IsCommit told u stamp succ → HasKept (PutsKey table key) u → 18 ≤ stamp
-put_commit u stamp succ table key commit puts = each_in (λ u. (s p q : ℕ) → u.ending ≡ Commits s p q → HasKept (PutsKey table key) u → 18 ≤ s) told
-    (λ s p q is has. absurd (cc), (λ s p q is has. absurd (no_line has.0 has.1), (λ s p q is has. let same : 18 ≡ s = cc in omega (arith, same), tt))) u commit.of stamp succ commit.pred commit.ending puts
+overwrite_commit : (u : Transaction) (stamp succ table key : ℕ) → IsCommit told u stamp succ → OverwritesKey told table key u → 18 ≤ stamp
+overwrite_commit u stamp succ table key commit overwrites = each_in (λ u. (s p q : ℕ) → u.ending ≡ Commits s p q → OverwritesKey told table key u → 18 ≤ s) told (
+  λ s p q is has. absurd (cc),
+  (
+    λ s p q is has. absurd (elim has as (λ _. ⊥) [ inl puts ↦ no_line puts.0 puts.1 | inr (line, was) ↦ no_line line.0 line.1 ]),
+    (λ s p q is has. let same : 18 ≡ s = cc in omega (arith, same), tt),
+  ),
+) u commit.of stamp succ commit.pred commit.ending overwrites
 
 keeps_but_draws : (other : Clause) → other ≢ Stamps → Meets other future_was_read
 keeps_but_draws Fit not = All-from_recursion FitsTypes (lines_of future_was_read) ((omega arith, omega arith), ((omega arith, omega arith), ((omega arith, (omega arith, omega arith, omega arith)), ((omega arith, omega arith), ((omega arith, omega arith), ((omega arith, tt), ((omega arith, (omega arith, omega arith, omega arith)), ((omega arith, byte 1 (omega arith)), ((omega arith, tt), (omega arith, ((omega arith, omega arith, omega arith, omega arith), ((omega arith, omega arith, omega arith, omega arith), (omega arith, ((omega arith, omega arith, byte 1 (omega arith)), (tt, tt)))))))))))))))
@@ -94,15 +99,15 @@ keeps_but_draws Runs not = record { run = (tt, ((refl, tt), refl)) }
 keeps_but_draws LowEnds not = each_in (λ t. IsLowAt t.ending told t) told (
   tt,
   (
-    λ table key stamp succ u touches commit less puts. absurd (omega (arith, least_commit u stamp succ commit, less)),
-    (λ table key stamp succ u touches commit less puts. absurd (omega (arith, put_commit u stamp succ table key commit puts, less)), tt),
+    λ table key stamp succ u touches commit less overwrites. absurd (omega (arith, least_commit u stamp succ commit, less)),
+    (λ table key stamp succ u touches commit less overwrites. absurd (omega (arith, overwrite_commit u stamp succ table key commit overwrites, less)), tt),
   ),
 )
 keeps_but_draws HighEnds not = each_in (λ t. IsHighAt t.ending told t) told (
   tt,
   (
     λ table key stamp succ v gets put next less. absurd (omega (arith, least_commit put.by put.stamp put.succ put.commit, put.below)),
-    (λ table key stamp succ v gets put next less. absurd (omega (arith, put_commit put.by put.stamp put.succ table key put.commit put.puts, put.below)), tt),
+    (λ table key stamp succ v gets put next less. absurd (omega (arith, overwrite_commit put.by put.stamp put.succ table key put.commit (inl put.puts), put.below)), tt),
   ),
 )
 

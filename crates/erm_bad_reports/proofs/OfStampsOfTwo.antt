@@ -106,10 +106,10 @@ keeps_but_differ Serial not = record { same = IsPermutation-refl (history_of tol
 keeps_but_differ Ascending not = λ i j d less within. absurd (omega arith)
 keeps_but_differ Runs not = record { run = ((refl, tt), (tt, refl)) }
 keeps_but_differ LowEnds not = each_in (λ t. IsLowAt t.ending told t) told (
-  λ table key stamp succ u touches commit less puts. absurd (omega (arith, no_earlier u stamp succ commit, less)),
+  λ table key stamp succ u touches commit less overwrites. absurd (omega (arith, no_earlier u stamp succ commit, less)),
   (
-    λ table key stamp succ u touches commit less puts. absurd (omega (arith, no_earlier u stamp succ commit, less)),
-    (λ table key stamp succ u touches commit less puts. absurd (omega (arith, no_earlier u stamp succ commit, less)), tt),
+    λ table key stamp succ u touches commit less overwrites. absurd (omega (arith, no_earlier u stamp succ commit, less)),
+    (λ table key stamp succ u touches commit less overwrites. absurd (omega (arith, no_earlier u stamp succ commit, less)), tt),
   ),
 )
 keeps_but_differ HighEnds not = each_in (λ t. IsHighAt t.ending told t) told (

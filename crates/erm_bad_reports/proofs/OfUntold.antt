@@ -21,7 +21,7 @@ use Rattle.erm_good_report.proofs.Parts.{all_pairs_of_two, each_in}
 use Rattle.erm_bad_reports.specs.Clauses.{Clause, Meets, lines_of, told_of, IsLowAt, IsHighAt, Fit, Answered, Closes, Phases, Stamps, Snapshots, Causes, Refusals, Safe, Serial, Ascending, Runs, LowEnds, HighEnds}
 use Rattle.erm_bad_reports.specs.StampParts.{BreaksPartAlone, Part, MeetsPart, Differ, Least, Begun, Sealed, Begins, Draws, Ascends, Flushes, FlushesFirst, BeginsAscend, Stops, UntoldAfter, UntoldBefore, begun_above_untold, begun_below_untold, stamp_below_begin}
 use Rattle.erm_bad_reports.proofs.Reading.{owes_of}
-use Rattle.erm_bad_reports.proofs.Tests.{safe_kept, begins_ascend, begins_stop, first_snapshot, flushed_begin, flushed_drawn, no_pair_ascends, one_commit_ordered, phases_kept, refusals_kept, stamps_ascend, stamps_begin, stamps_differ, stamps_drawn, untold_after, untold_before}
+use Rattle.erm_bad_reports.proofs.Tests.{begins_ascend, begins_stop, first_snapshot, flushed_begin, flushed_drawn, no_pair_ascends, none_overwrites, one_commit_ordered, phases_kept, refusals_kept, safe_kept, stamps_ascend, stamps_begin, stamps_differ, stamps_drawn, untold_after, untold_before}
 
 -- each of these transactions tidies a key
 abbrev pub tidies : ℕ → List Exchange
@@ -96,7 +96,7 @@ keeps_but_begun Safe not = safe_kept stamp_below_begin refl
 keeps_but_begun Serial not = both_ordered_begun
 keeps_but_begun Ascending not = no_pair_ascends
 keeps_but_begun Runs not = record { run = (tt, (tt, refl)) }
-keeps_but_begun LowEnds not = each_in (λ t. IsLowAt t.ending (told_of stamp_below_begin) t) (told_of stamp_below_begin) (λ table key stamp succ u touches commit less puts. absurd (no_puts_begun u commit.of table key puts), (λ table key stamp succ u touches commit less puts. absurd (no_puts_begun u commit.of table key puts), tt))
+keeps_but_begun LowEnds not = each_in (λ t. IsLowAt t.ending (told_of stamp_below_begin) t) (told_of stamp_below_begin) (λ table key stamp succ u touches commit less overwrites. absurd (none_overwrites _ no_puts_begun u commit.of table key overwrites), (λ table key stamp succ u touches commit less overwrites. absurd (none_overwrites _ no_puts_begun u commit.of table key overwrites), tt))
 keeps_but_begun HighEnds not = each_in (λ t. IsHighAt t.ending (told_of stamp_below_begin) t) (told_of stamp_below_begin) (λ table key stamp succ v gets put next less. absurd (no_puts_begun put.by put.commit.of table key put.puts), (λ table key stamp succ v gets put next less. absurd (no_puts_begun put.by put.commit.of table key put.puts), tt))
 
 parts_but_begun : (other : Part) → other ≢ Begun → MeetsPart other stamp_below_begin
@@ -152,7 +152,7 @@ keeps_but_untold_after Safe not = safe_kept begun_above_untold refl
 keeps_but_untold_after Serial not = both_ordered_untold_after
 keeps_but_untold_after Ascending not = no_pair_ascends
 keeps_but_untold_after Runs not = record { run = (tt, (tt, refl)) }
-keeps_but_untold_after LowEnds not = each_in (λ t. IsLowAt t.ending (told_of begun_above_untold) t) (told_of begun_above_untold) (λ table key stamp succ u touches commit less puts. absurd (no_puts_untold_after u commit.of table key puts), (λ table key stamp succ u touches commit less puts. absurd (no_puts_untold_after u commit.of table key puts), (tt, tt)))
+keeps_but_untold_after LowEnds not = each_in (λ t. IsLowAt t.ending (told_of begun_above_untold) t) (told_of begun_above_untold) (λ table key stamp succ u touches commit less overwrites. absurd (none_overwrites _ no_puts_untold_after u commit.of table key overwrites), (λ table key stamp succ u touches commit less overwrites. absurd (none_overwrites _ no_puts_untold_after u commit.of table key overwrites), (tt, tt)))
 keeps_but_untold_after HighEnds not = each_in (λ t. IsHighAt t.ending (told_of begun_above_untold) t) (told_of begun_above_untold) (λ table key stamp succ v gets put next less. absurd (no_puts_untold_after put.by put.commit.of table key put.puts), (λ table key stamp succ v gets put next less. absurd (no_puts_untold_after put.by put.commit.of table key put.puts), (tt, tt)))
 
 parts_but_untold_after : (other : Part) → other ≢ UntoldAfter → MeetsPart other begun_above_untold
@@ -202,7 +202,7 @@ keeps_but_untold_before Safe not = safe_kept begun_below_untold refl
 keeps_but_untold_before Serial not = both_ordered_untold_before
 keeps_but_untold_before Ascending not = no_pair_ascends
 keeps_but_untold_before Runs not = record { run = (tt, (tt, refl)) }
-keeps_but_untold_before LowEnds not = each_in (λ t. IsLowAt t.ending (told_of begun_below_untold) t) (told_of begun_below_untold) (λ table key stamp succ u touches commit less puts. absurd (no_puts_untold_before u commit.of table key puts), (λ table key stamp succ u touches commit less puts. absurd (no_puts_untold_before u commit.of table key puts), (tt, tt)))
+keeps_but_untold_before LowEnds not = each_in (λ t. IsLowAt t.ending (told_of begun_below_untold) t) (told_of begun_below_untold) (λ table key stamp succ u touches commit less overwrites. absurd (none_overwrites _ no_puts_untold_before u commit.of table key overwrites), (λ table key stamp succ u touches commit less overwrites. absurd (none_overwrites _ no_puts_untold_before u commit.of table key overwrites), (tt, tt)))
 keeps_but_untold_before HighEnds not = each_in (λ t. IsHighAt t.ending (told_of begun_below_untold) t) (told_of begun_below_untold) (λ table key stamp succ v gets put next less. absurd (no_puts_untold_before put.by put.commit.of table key put.puts), (λ table key stamp succ v gets put next less. absurd (no_puts_untold_before put.by put.commit.of table key put.puts), (tt, tt)))
 
 parts_but_untold_before : (other : Part) → other ≢ UntoldBefore → MeetsPart other begun_below_untold

@@ -20,7 +20,7 @@ use Rattle.erm_bad_reports.specs.Cases.{waited_out_of_reach}
 use Rattle.erm_bad_reports.specs.Clauses.{BreaksAlone, Clause, Meets, MeetsByLine, lines_of, told_of, IsLowAt, IsHighAt, Fit, Answered, Closes, Phases, Stamps, Snapshots, Causes, Refusals, Safe, Serial, Ascending, Runs, LowEnds, HighEnds}
 use Rattle.erm_bad_reports.proofs.OfUntold.{none_kept, seat_wait}
 use Rattle.erm_bad_reports.proofs.Reading.{owes_of}
-use Rattle.erm_bad_reports.proofs.Tests.{safe_kept, first_snapshot, no_pair_ascends, one_commit_ordered, phases_kept, reach_from_test, stamps_agree}
+use Rattle.erm_bad_reports.proofs.Tests.{first_snapshot, no_pair_ascends, none_overwrites, one_commit_ordered, phases_kept, reach_from_test, safe_kept, stamps_agree}
 
 both_ordered : IsSerialOrder rank_of (history_of (told_of waited_out_of_reach)) (history_of (told_of waited_out_of_reach))
 both_ordered = record { same = IsPermutation-refl (history_of (told_of waited_out_of_reach)); ascends = all_pairs_of_two (λ a b. ComesBefore (rank_of a) (rank_of b)) _ _ (inl (omega arith)) }
@@ -45,7 +45,7 @@ keeps_but_waited_far Safe not = safe_kept waited_out_of_reach refl
 keeps_but_waited_far Serial not = both_ordered
 keeps_but_waited_far Ascending not = no_pair_ascends
 keeps_but_waited_far Runs not = record { run = (tt, (tt, refl)) }
-keeps_but_waited_far LowEnds not = each_in (λ t. IsLowAt t.ending (told_of waited_out_of_reach) t) (told_of waited_out_of_reach) (λ table key stamp succ u touches commit less puts. absurd (no_puts u commit.of table key puts), (λ table key stamp succ u touches commit less puts. absurd (no_puts u commit.of table key puts), tt))
+keeps_but_waited_far LowEnds not = each_in (λ t. IsLowAt t.ending (told_of waited_out_of_reach) t) (told_of waited_out_of_reach) (λ table key stamp succ u touches commit less overwrites. absurd (none_overwrites _ no_puts u commit.of table key overwrites), (λ table key stamp succ u touches commit less overwrites. absurd (none_overwrites _ no_puts u commit.of table key overwrites), tt))
 keeps_but_waited_far HighEnds not = each_in (λ t. IsHighAt t.ending (told_of waited_out_of_reach) t) (told_of waited_out_of_reach) (λ table key stamp succ v gets put next less. absurd (no_puts put.by put.commit.of table key put.puts), (λ table key stamp succ v gets put next less. absurd (no_puts put.by put.commit.of table key put.puts), tt))
 
 -- what is asked line by line

@@ -94,7 +94,7 @@ met_good Safe = safe_by_line safe_at_one_met (λ session number. 13) refl (λ is
 met_good Serial = one_commit_ordered _
 met_good Ascending = λ i j d less within. absurd (omega arith)
 met_good Runs = record { run = ((refl, tt), refl) }
-met_good LowEnds = each_in (λ t. IsLowAt t.ending met_told t) met_told (tt, (λ table key stamp succ u touches commit less puts. absurd (omega (arith, met_commit u stamp succ commit, less)), tt))
+met_good LowEnds = each_in (λ t. IsLowAt t.ending met_told t) met_told (tt, (λ table key stamp succ u touches commit less overwrites. absurd (omega (arith, met_commit u stamp succ commit, less)), tt))
 met_good HighEnds = each_in (λ t. IsHighAt t.ending met_told t) met_told (tt, (λ table key stamp succ v gets put next less. absurd (omega (arith, met_commit v stamp succ next.commit, less)), tt))
 
 rise_but_met : (other : Rise) → other ≢ Watched → MeetsRise other safe_at_one_met
@@ -140,7 +140,7 @@ owned_good Safe = safe_by_line safe_below_its_owner (λ session number. 13) refl
 owned_good Serial = one_commit_ordered _
 owned_good Ascending = no_pair_ascends
 owned_good Runs = record { run = (tt, refl) }
-owned_good LowEnds = each_in (λ t. IsLowAt t.ending owned_told t) owned_told (tt, (λ table key stamp succ u touches commit less puts. absurd (omega (arith, owned_commit u stamp succ commit, less)), (tt, tt)))
+owned_good LowEnds = each_in (λ t. IsLowAt t.ending owned_told t) owned_told (tt, (λ table key stamp succ u touches commit less overwrites. absurd (omega (arith, owned_commit u stamp succ commit, less)), (tt, tt)))
 owned_good HighEnds = each_in (λ t. IsHighAt t.ending owned_told t) owned_told (tt, (λ table key stamp succ v gets put next less. absurd (omega (arith, owned_commit v stamp succ next.commit, less)), (tt, tt)))
 
 rise_but_owned : (other : Rise) → other ≢ Watched → MeetsRise other safe_below_its_owner

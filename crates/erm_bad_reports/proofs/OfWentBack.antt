@@ -201,8 +201,8 @@ own_run = record { run = ((refl, (refl, tt)), ((ap reply.Value (sym ten), (ap re
 
 pub own_lows : (t : Transaction) → t ∈ told → IsLowAt t.ending told t
 own_lows = each_in (λ t. IsLowAt t.ending told t) told (
-  λ table key stamp succ u touches commit less puts. absurd (omega (arith, at_least u stamp succ commit, less)),
-  (λ table key stamp succ u touches commit less puts. first_below u stamp succ commit less, (λ table key stamp succ u touches commit less puts. first_below u stamp succ commit less, tt)),
+  λ table key stamp succ u touches commit less overwrites. absurd (omega (arith, at_least u stamp succ commit, less)),
+  (λ table key stamp succ u touches commit less overwrites. first_below u stamp succ commit less, (λ table key stamp succ u touches commit less overwrites. first_below u stamp succ commit less, tt)),
 )
 
 pub own_highs : (t : Transaction) → t ∈ told → IsHighAt t.ending told t

@@ -99,7 +99,7 @@ keeps_but_low HighEnds not = each_in (λ t. IsHighAt t.ending low_told t) low_to
 low_is_higher : Meets LowEnds predecessor_too_low → ⊥
 low_is_higher low =
     let low_end = low _ (1, refl) in
-    let least : 13 ≤ 0 = low_end 0 1 13 13 _ (_, (0, refl), inl (refl, (_, refl))) (record { of = (0, refl); pred = 0; ending = refl }) (omega arith) (_, (0, refl), ((_, refl), (_, refl))) in
+    let least : 13 ≤ 0 = low_end 0 1 13 13 _ (_, (0, refl), inl (refl, (_, refl))) (record { of = (0, refl); pred = 0; ending = refl }) (omega arith) (inl (_, (0, refl), ((_, refl), (_, refl)))) in
     omega (arith, least)
 
 pub low_breaks : BreaksAlone LowEnds predecessor_too_low
@@ -171,11 +171,11 @@ keeps_but_high Serial not = record { same = IsPermutation-refl (history_of high_
 keeps_but_high Ascending not = λ i j d less within. absurd (omega arith)
 keeps_but_high Runs not = record { run = ((refl, tt), ((refl, tt), ((ap reply.Value (sym again), tt), ends))) }
 keeps_but_high LowEnds not = each_in (λ t. IsLowAt t.ending high_told t) high_told (
-  λ table key stamp succ u touches commit less puts. elim (high_commit u stamp succ commit) [ inl is ↦ absurd (omega (arith, is.0, less)) | inr more ↦ elim more [ inl is ↦ absurd (omega (arith, is.0, less)) | inr is ↦ absurd (omega (arith, is.0, less)) ] ],
+  λ table key stamp succ u touches commit less overwrites. elim (high_commit u stamp succ commit) [ inl is ↦ absurd (omega (arith, is.0, less)) | inr more ↦ elim more [ inl is ↦ absurd (omega (arith, is.0, less)) | inr is ↦ absurd (omega (arith, is.0, less)) ] ],
   (
-    λ table key stamp succ u touches commit less puts. elim (high_commit u stamp succ commit) [ inl is ↦ omega (arith, is.0, less) | inr more ↦ elim more [ inl is ↦ absurd (omega (arith, is.0, less)) | inr is ↦ absurd (omega (arith, is.0, less)) ] ],
+    λ table key stamp succ u touches commit less overwrites. elim (high_commit u stamp succ commit) [ inl is ↦ omega (arith, is.0, less) | inr more ↦ elim more [ inl is ↦ absurd (omega (arith, is.0, less)) | inr is ↦ absurd (omega (arith, is.0, less)) ] ],
     (
-      λ table key stamp succ u touches commit less puts. elim (high_commit u stamp succ commit) [ inl is ↦ omega (arith, is.0, less) | inr more ↦ elim more [ inl is ↦ absurd (omega (arith, is.0, less)) | inr is ↦ absurd (omega (arith, is.0, less)) ] ],
+      λ table key stamp succ u touches commit less overwrites. elim (high_commit u stamp succ commit) [ inl is ↦ omega (arith, is.0, less) | inr more ↦ elim more [ inl is ↦ absurd (omega (arith, is.0, less)) | inr is ↦ absurd (omega (arith, is.0, less)) ] ],
       tt,
     ),
   ),

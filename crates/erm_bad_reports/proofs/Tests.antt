@@ -1,5 +1,5 @@
 -- Stamps that agree by a test, and what is so of transactions without lines.
-use Rattle.std.proofs.Common.{◌≡◌, ◌≢◌, ℕ, ◌<◌, ◌≤◌, Bool, true, false, cond, not, ◌==◌, ◌&&◌, nat_lt, nat_le, List, [], ◌∷◌, ◌++◌, length, Some, None, refl, sym, subst, take, ◌∙◌, ◌+◌, arith}
+use Rattle.std.proofs.Common.{◌≡◌, ◌≢◌, ℕ, ◌<◌, ◌≤◌, Bool, true, false, cond, not, ◌==◌, ◌&&◌, nat_lt, nat_le, List, [], ◌∷◌, ◌++◌, length, Some, None, inl, inr, refl, sym, subst, take, ◌∙◌, ◌+◌, arith}
 use Rattle.std.specs.Prelude.{IfSome}
 use Rattle.std.specs.List.{AllByRecursion, AllPairs}
 use Rattle.std.proofs.lemmas.Bool.Decides.{nat_tests}
@@ -24,7 +24,7 @@ use Rattle.erm_good_report.specs.Refusals.{HasCause, HasLogCause, HasRefusalCaus
 use Rattle.erm_good_report.specs.Opening.{InTurn, Opening, is_before}
 use Rattle.erm_good_report.specs.Stamps.{Told, StampsAgree, begin_told, place_told, stamp_drawn, stamp_printed}
 use Rattle.erm_good_report.specs.Transactions.{Exchange, Ending, Unfinished, Commits, Excludes, Aborts, Progress, Said, Transaction, heard, held_of, history_of, nothing, op_done, progress_of, said_of, stamp_of, stamp_of_ending}
-use Rattle.erm_good_report.specs.Windows.{HasKept, HasLine, IsHighEnd, IsLowEnd}
+use Rattle.erm_good_report.specs.Windows.{HasKept, HasLine, IsHighEnd, IsLowEnd, OverwritesKey, PutsKey}
 use Rattle.erm_bad_reports.specs.Clauses.{Case, Meets, Phases, Refusals, Safe, placed_of, told_of, IsLowAt, IsHighAt}
 pub use Rattle.erm_good_report.proofs.Snapshots.{no_looks, none_agree, serial_alone, tell_none}
 pub use Rattle.erm_good_report.proofs.StampTests.{after_side, before_side, begins_ascend, begins_stop, first_true, places_pass, reach_from_test, reach_pass, reach_side, second_true, some_pass, stamps_ascend, stamps_begin, untold_after, untold_before, untold_in_reach, untold_pass}
@@ -111,6 +111,12 @@ stamps_agree opening told said differ begins draws ascends flushes flushes_first
 pub line_of_kept : (P : Exchange → Type 0) (t : Transaction) → HasKept P t → HasLine P t
 line_of_kept P t has = (has.0, staying_among op_done t.lines has.0 has.1, has.2)
 
+-- where no commit's put stays, no key has a record, and no commit overwrites one
+pub none_overwrites : (told : List Transaction) → ((u : Transaction) → u ∈ told → (table key : ℕ) → HasKept (PutsKey table key) u → ⊥) → (u : Transaction) → u ∈ told → (table key : ℕ)
+    → OverwritesKey told table key u → ⊥
+none_overwrites told none u within table key (inl puts) = none u within table key puts
+none_overwrites told none u within table key (inr (line, was)) = none was.by was.commit.of table key was.puts
+
 -- ---- a transaction without lines has any window
 no_line : (t : Transaction) (P : Exchange → Type 0) → t.lines ≡ [] → HasLine P t → ⊥
 no_line t P none has = nothing_in has.0 (subst (λ (es : List Exchange). has.0 ∈ es) none has.1)
@@ -123,7 +129,7 @@ no_split [] after line same = cc
 no_split (b ∷ before) after line same = cc
 
 low_without_lines : (told : List Transaction) (t : Transaction) (pred : ℕ) → t.lines ≡ [] → IsLowEnd told t pred
-low_without_lines told t pred none = λ table key stamp succ u touches commit less puts. absurd (no_line t _ none touches)
+low_without_lines told t pred none = λ table key stamp succ u touches commit less overwrites. absurd (no_line t _ none touches)
 
 high_without_lines : (told : List Transaction) (t : Transaction) (own succ : ℕ) → t.lines ≡ [] → IsHighEnd told t own succ
 high_without_lines told t own succ none = λ table key stamp next v gets put next_writer less. absurd (let first = gets in no_split first.before first.after first.line (sym none ∙ first.split))

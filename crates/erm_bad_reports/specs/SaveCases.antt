@@ -111,6 +111,21 @@ undone_lines_forgotten mode = record (case_of two_names
     ∷ commit_by 2 1 33 42 42 13 (record { op = op.Save; reply = reply.Done } ∷ record { op = op.Get 0 1; reply = reply.Value (Some (1 ∷ [])) } ∷ record { op = op.Back 1; reply = reply.Done } ∷ []) ∷ [])
     (record { key = at 0 1; value = 1 ∷ [] } ∷ [])) { mode = mode }
 
+-- A key was put; the next transaction put it again, went back, and committed; the third one got the key. Its predecessor stamp is below the second
+-- one's stamp, whose put was undone, and overwrote the key's record all the same.
+abbrev pub undone_put_forgotten : Mode → Case
+undone_put_forgotten mode = record (case_of one_name
+    (a_line command.Begin ∷ a_line (command.Put 0 1 (1 ∷ [])) ∷ a_line command.Commit
+    ∷ a_line command.Begin ∷ a_line command.Save ∷ a_line (command.Put 0 1 (2 ∷ [])) ∷ a_line (command.Back 1) ∷ a_line command.Commit
+    ∷ a_line command.Begin ∷ a_line (command.Get 0 1) ∷ a_line command.Commit ∷ [])
+    (answer.Began 13 ∷ answer.Replied reply.Done ∷ answer.Committed 13 13 0
+    ∷ answer.Began 33 ∷ answer.Saved 1 ∷ answer.Replied reply.Done ∷ answer.Back 1 ∷ answer.Committed 33 33 13
+    ∷ answer.Began 42 ∷ answer.Replied (reply.Value (Some (1 ∷ []))) ∷ answer.Committed 42 42 13 ∷ [])
+    (commit_by 1 1 13 13 13 0 (record { op = op.Put 0 1 (1 ∷ []); reply = reply.Done } ∷ [])
+    ∷ commit_by 1 2 33 33 33 13 (record { op = op.Save; reply = reply.Done } ∷ record { op = op.Put 0 1 (2 ∷ []); reply = reply.Done } ∷ record { op = op.Back 1; reply = reply.Done } ∷ [])
+    ∷ commit_by 1 3 42 42 42 13 (record { op = op.Get 0 1; reply = reply.Value (Some (1 ∷ [])) } ∷ []) ∷ [])
+    (record { key = at 0 1; value = 1 ∷ [] } ∷ [])) { mode = mode }
+
 -- ---- good reports
 -- A commit puts two keys. The next transaction makes a savepoint, puts one of them again, gets what it put, goes back, and gets what the commit put; there
 -- is no second savepoint to go back to.

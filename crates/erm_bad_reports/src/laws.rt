@@ -20,7 +20,7 @@ ghost use Rattle.erm_bad_reports.specs.Refused.{NoneTellsCells, alone, answers_a
 ghost use Rattle.erm_bad_reports.specs.StampParts.{BreaksPartAlone, Differ, Least, Begun, Sealed, Begins, Draws, Ascends, Flushes, FlushesFirst, BeginsAscend, Stops, UntoldAfter, UntoldBefore, stamp_below_begin, sealed_with_another, begun_at_a_commit, begun_at_a_newer, drawn_below, drawn_within, begun_below_the_flushed, drawn_below_the_flushed, stamp_of_two, begins_fall, begun_at_the_stop, begun_above_untold, begun_below_untold};
 ghost use Rattle.erm_bad_reports.specs.SafeCases.{begin_moves, look_refused, reply_of_now, safe_at_a_commit, safe_at_last, safe_at_the_stop, safe_out_of_reach, safe_too_early, safe_behind_one_that_went_back, safe_below_the_flushed, safe_left_open, safes_fall, snapshot_behind, snapshot_left_out, snapshots_turned, unsafe_again, unsafe_by_no_turn, waits_for_idle};
 ghost use Rattle.erm_bad_reports.specs.SafeAtOnceCases.{BreaksRiseAlone, Watched, safe_at_one_met, safe_below_its_owner, safe_beside_one_that_went_back, waits_at_once};
-ghost use Rattle.erm_bad_reports.specs.SaveCases.{claim_stays, given_up, gone_back, held_from_before, lines_miscounted, lines_misread, new_key_undone, saved_idle, saved_safe, saved_sealed, undone_lines_forgotten, undone_was_left};
+ghost use Rattle.erm_bad_reports.specs.SaveCases.{claim_stays, given_up, gone_back, held_from_before, lines_miscounted, lines_misread, new_key_undone, saved_idle, saved_safe, saved_sealed, undone_lines_forgotten, undone_put_forgotten, undone_was_left};
 ghost use Rattle.std.specs.List.{AllByRecursion};
 
 /// Lines: a line is missing; a number doesn't fit its type; an answer is missing; a session that is active isn't closed, nor one that has a safe
@@ -189,8 +189,9 @@ pub fn snapshots_may_be_good()
 
 /// Savepoints, of lines that are run in turn and of sessions at once: they are counted wrongly, or outlive their transaction; a get is answered an undone
 /// value, or not the one that the key had at the savepoint, or as if a refused way back had undone a put; an undone value is left in the map; one is made
-/// by a session without a transaction, by one that is sealed, and by a snapshot that only reads; and a window is told as if an undone get were no read,
-/// and an undone put overwrote nothing.
+/// by a session without a transaction, by one that is sealed, and by a snapshot that only reads; and windows are told as if an undone get were no read,
+/// and as if an undone put overwrote nothing: the successor stamp of one that read the key before it is too high, and the predecessor stamp of one that
+/// gets the key behind it too low.
 pub fn savepoints_are_needed()
     ensures counts { (mode : Mode) → AllByRecursion (λ lines. BreaksAlone Refusals (given_up mode lines)) lines_miscounted }
     ensures ends { (mode : Mode) → BreaksAlone Refusals (held_from_before mode) }
@@ -199,7 +200,8 @@ pub fn savepoints_are_needed()
     ensures idle { (mode : Mode) → BreaksAlone Phases (saved_idle mode) }
     ensures sealed { (mode : Mode) → BreaksAlone Phases (saved_sealed mode) }
     ensures safe { (mode : Mode) → BreaksAlone Phases (saved_safe mode) }
-    ensures windows { (mode : Mode) → BreaksAlone HighEnds (undone_lines_forgotten mode) }
+    ensures high { (mode : Mode) → BreaksAlone HighEnds (undone_lines_forgotten mode) }
+    ensures low { (mode : Mode) → BreaksAlone LowEnds (undone_put_forgotten mode) }
 {}
 
 /// Reports with savepoints may be good, and their windows tight, in turn and at once: of a transaction that goes back, and reads what it read before; of one

@@ -175,16 +175,16 @@ module _ (table : ℕ → ℕ) where
   begun_fine v t seat number begin p told run idle works fine =
       let bare : t.saves seat ≡ [] = begins_without v t seat (world.begun number begin) (ap phase_of idle) works in
       subst (λ (s : Session). IsFine table (history_of t) (record p { current = Some told }) (t.saves seat) s) (sym works.own) (record {
-    over = over_later table (history_of v) (history_of t)
-        (history_grows v t seat (own_turned v t seat (world.active (world.begun number begin)) works.own works.others works.saves.others works.opening)) p.over (v.session seat).over fine.over;
-    now = subst (λ (held : Saves). FineNow table (Some told) held (world.active (world.begun number begin))) (sym bare) (record {
-      touches = touches_nothing table told number begin;
-      keeps = λ rows sound fits are. are;
-      saved = saved_none table (world.begun number begin);
-      steps = [];
-      run = run;
-    });
-  })
+        over = over_later table (history_of v) (history_of t)
+            (history_grows v t seat (own_turned v t seat (world.active (world.begun number begin)) works.own works.others works.saves.others works.opening)) p.over (v.session seat).over fine.over;
+        now = subst (λ (held : Saves). FineNow table (Some told) held (world.active (world.begun number begin))) (sym bare) (record {
+          touches = touches_nothing table told number begin;
+          keeps = λ rows sound fits are. are;
+          saved = saved_none table (world.begun number begin);
+          steps = [];
+          run = run;
+        });
+      })
 
   done_fine : (v t : View) (seat : ℕ) (w : Work) (fate : Fate) (ending : Ending) (p : Progress) → HasNow (v.session seat).stand w → IsDone v seat w fate t → WasClosed (history_of t) ending w
       → TellsNow seat p.current (v.session seat).stand → IsFine table (history_of v) p (v.saves seat) (v.session seat) → IsFine table (history_of t) (ended ending p) (t.saves seat) (t.session seat)

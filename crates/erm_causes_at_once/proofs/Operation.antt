@@ -96,15 +96,15 @@ module _ (tree : TreeLaws) (laws : HistoryLaws) (table : ℕ → ℕ) (f : View)
       → (steps : List Step) → IsRunOf (kept_at u seat) steps → Going table f with_it (kept_at u seat)
   going_on all same touches steps run = record {
     fine = λ keep.
-    let fine = now.going.fine (keep_first (work_at u seat) all.begin keep) in
-    let is = touches keep in record {
-      touches = is.0;
-      keeps = is.1;
-      saved = subst (λ (held : List (List VersionWritten)). KeepsSaved table (record { work = work_at u seat; saves = held })) (sym same)
-          (saved_more table first (work_at u seat) (v.saves seat) all.more fine.saved);
-      steps = steps;
-      run = run;
-    };
+        let fine = now.going.fine (keep_first (work_at u seat) all.begin keep) in
+        let is = touches keep in record {
+          touches = is.0;
+          keeps = is.1;
+          saved = subst (λ (held : List (List VersionWritten)). KeepsSaved table (record { work = work_at u seat; saves = held })) (sym same)
+              (saved_more table first (work_at u seat) (v.saves seat) all.more fine.saved);
+          steps = steps;
+          run = run;
+        };
     steps = steps;
     run = run;
   }

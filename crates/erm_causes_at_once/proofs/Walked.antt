@@ -173,14 +173,14 @@ module _ (tree : TreeLaws) (laws : HistoryLaws) (begun : NoneRuns)
       let at : IsRunAt u seat = (going.steps, going.run) in
       let steps = saved_run u t seat at did in record {
         fine = λ keep.
-        let before = going.fine (subst (λ (n : ℕ). KeepBelow table f n) (saved_begin u t seat at did) keep) in
-        at_fine table u t seat (with_line (Some c) a told) did (record {
-          touches = touches_more table told (with_line (Some c) a told) (work_at u seat) (lines_before c a told) before.touches;
-          keeps = before.keeps;
-          saved = before.saved;
-          steps = before.steps;
-          run = before.run;
-        });
+            let before = going.fine (subst (λ (n : ℕ). KeepBelow table f n) (saved_begin u t seat at did) keep) in
+            at_fine table u t seat (with_line (Some c) a told) did (record {
+              touches = touches_more table told (with_line (Some c) a told) (work_at u seat) (lines_before c a told) before.touches;
+              keeps = before.keeps;
+              saved = before.saved;
+              steps = before.steps;
+              run = before.run;
+            });
         steps = steps.0;
         run = steps.1;
       }

@@ -12,7 +12,7 @@ use Rattle.erm_client.specs.declared.refusal.Refusal.{Refusal}
 use Rattle.erm_client.specs.Refusals.{refusal_told}
 use Rattle.erm_client.specs.Transcripts.{EndsWith, HasMore, IsAnswered, IsRefused, IsSame, IsTranscript, Starves}
 use Rattle.erm_client.specs.Transcripts as refused
-use Rattle.erm_good_report.specs.Transactions.{Commits, Ending, Exchange, Progress, Said, Snapshot, Transaction, begun, ended, exchange_of, heard, looks_of, next_number, nothing, op_of, own_snapshot, progress_of, said_of, step_of, steps_of, with_begin, with_ending, with_line, with_look}
+use Rattle.erm_good_report.specs.Transactions.{Commits, Ending, Exchange, Progress, Said, Snapshot, Transaction, begun, exchange_of, heard, looks_of, next_number, nothing, op_of, own_snapshot, progress_of, said_of, step_of, steps_of, with_begin, with_ending, with_line, with_look}
 use Rattle.erm_good_report.specs.Transactions as dealt
 use Rattle.erm_model.proofs.Members.{∈-push}
 use Rattle.erm_model.specs.declared.operation.Op.{Op}

@@ -1,5 +1,5 @@
 -- A transcript with one line more: whose lines it has, and how it goes on.
-use Rattle.std.proofs.Common.{◌≡◌, ℕ, zero, suc, ◌+◌, List, [], ◌∷◌, ◌++◌, length, Some, inl, inr, sym, ap, ◌∙◌, subst, arith, le_trans}
+use Rattle.std.proofs.Common.{◌≡◌, ℕ, zero, suc, ◌+◌, ◌≤◌, List, [], ◌∷◌, ◌++◌, length, Some, inl, inr, sym, ap, ◌∙◌, subst, arith, le_trans}
 use Rattle.std.proofs.lemmas.List.{length-append}
 use Rattle.std.specs.List.{slice_get}
 use Rattle.erm_client.proofs.Runs.{more_ran, none_ran, stopped_ran}
@@ -119,12 +119,14 @@ module _ (f v u t : View) (c d : Transcript) where
       (subst (λ (ls : List ScriptLine). RanLines f c.seat ls d.answers.items v t) (sym ends.lines)
       (subst (λ (gs : List Answer). RanLines f c.seat (c.lines.items ++ l ∷ []) gs v t) (sym ends.answers) it)))
 
-  pub run_starves : IsTranscript c → c.standing ≡ standing.Open → Starves c d → Grows (u.session c.seat) (t.session c.seat) → HasRun f v c u → HasRun f v d t
-  run_starves ok opened starves grown ran =
+  pub run_starves : IsTranscript c → c.standing ≡ standing.Open → Starves c d → (u.tail ≤ f.tail) × (u.flushed ≤ f.flushed) → Grows (u.session c.seat) (t.session c.seat) → HasRun f v c u
+      → HasRun f v d t
+  run_starves ok opened starves within grown ran =
       let it = now_open opened ran in
       let short : RanStarved f c.seat c.lines.items c.answers.items v t = record {
         last = it.last;
         run = it.run;
+        within = subst (λ (x : View). (x.tail ≤ f.tail) × (x.flushed ≤ f.flushed)) (sym (it.whole (open_each c ok opened))) within;
         went = subst (λ (x : View). Grows (x.session c.seat) (t.session c.seat)) (sym (it.whole (open_each c ok opened))) grown;
       } in
       subst (λ (s : Standing). RanUpTo s f d.seat d.lines.items d.answers.items v t) (sym starves.standing_so)

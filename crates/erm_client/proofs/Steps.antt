@@ -1,5 +1,5 @@
 -- One step of a client: a line was answered, it was told to stop, memory ran out, or nothing was asked.
-use Rattle.std.proofs.Common.{◌≡◌, ◌≢◌, ℕ, ◌+◌, length, Option, Some, None, Result, Ok, Err, IfErr, IfOk, IsErr, IsErrAnd, OnOk, List, [], ◌∷◌, ◌++◌, ◌⊎◌, ⊎_elim, inl, inr, refl, sym, ap, ◌∙◌, subst, arith}
+use Rattle.std.proofs.Common.{◌≡◌, ◌≢◌, ℕ, ◌+◌, ◌≤◌, length, Option, Some, None, Result, Ok, Err, IfErr, IfOk, IsErr, IsErrAnd, OnOk, List, [], ◌∷◌, ◌++◌, ◌⊎◌, ⊎_elim, inl, inr, refl, sym, ap, ◌∙◌, subst, arith}
 use Rattle.erm_beside.specs.Laws.{GoesOnward}
 use Rattle.erm_client.proofs.Dealt.{dealt_more, dealt_same}
 use Rattle.erm_client.proofs.Grown.{ended_transcript, more_transcript, open_each, room_then, run_ends, run_more, run_same, run_starves, same_transcript}
@@ -126,8 +126,9 @@ module _ {S T X : Type 0} (stands : X → S → Type 0) (seat : S → ℕ) (own 
   }
 
   -- memory ran out
-  pub starved_goes : Grows ((own c.session).session (seat c.session)) ((own d.session).session (seat c.session)) → Starves c.transcript d.transcript → GoesOn stands seat own ends told c d
-  starved_goes grown starves = record {
+  pub starved_goes : ((f : View) → ends c.session f → ((own c.session).tail ≤ f.tail) × ((own c.session).flushed ≤ f.flushed))
+      → Grows ((own c.session).session (seat c.session)) ((own d.session).session (seat c.session)) → Starves c.transcript d.transcript → GoesOn stands seat own ends told c d
+  starved_goes within grown starves = record {
     client = record {
       stands_so = standing_so;
       seat_is = starves.seat ∙ client.seat_is ∙ sym onward.seat_is;
@@ -140,7 +141,7 @@ module _ {S T X : Type 0} (stands : X → S → Type 0) (seat : S → ℕ) (own 
     };
     same = same;
     onward = onward;
-    ran = λ v before f end. run_starves f v (own c.session) (own d.session) c.transcript d.transcript client.transcript_ok opened starves
+    ran = λ v before f end. run_starves f v (own c.session) (own d.session) c.transcript d.transcript client.transcript_ok opened starves (within f (onward.ends_so f end))
         (subst (λ (n : ℕ). Grows ((own c.session).session n) ((own d.session).session n)) (sym client.seat_is) grown) (before f (onward.ends_so f end));
     stops = λ _ stopped. absurd (starved_differ d.transcript.standing starves.standing_so stopped);
     over = λ over. absurd (over opened);

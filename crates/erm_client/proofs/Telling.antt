@@ -6,7 +6,7 @@ use Rattle.erm_client.specs.declared.transcript.Standing.{Standing}
 use Rattle.erm_client.specs.declared.transcript.Standing.TheVariants as standing
 use Rattle.erm_client.specs.Laws.{AnswersRefuse, MemoryLeavesNothing, StopsAreStops}
 use Rattle.erm_client.specs.Refusals.{IsByAnswer, refusal_told}
-use Rattle.erm_client.specs.Transcripts.{IsRefused, over_told}
+use Rattle.erm_client.specs.Transcripts.{over_told}
 use Rattle.erm_client.specs.Transcripts as refused
 use Rattle.erm_report.specs.declared.answer.Answer.{Answer}
 use Rattle.erm_report.specs.declared.answer.Answer.TheVariants as answer

@@ -1,13 +1,14 @@
 -- What a line leaves of its session's phase, and of what is told to be in progress there.
-use Rattle.std.proofs.Common.{◌≡◌, ◌⊎◌, ℕ, true, List, [], Option, Some, None, IfSome, option_map, inl, inr, refl, sym, ap, ◌∙◌, subst}
+use Rattle.std.proofs.Common.{◌≡◌, ◌⊎◌, ℕ, true, List, Option, Some, None, IfSome, option_map, inl, inr, refl, sym, ap, ◌∙◌, subst}
 use Rattle.erm_client.specs.Clients.{IsInPhase}
 use Rattle.erm_client.specs.Dealings.{ComesAlone}
 use Rattle.erm_client.specs.Refusals.{IsOfClient, MayTell, TellsEnd}
 use Rattle.erm_good_report.specs.Phases.{FitsPhase, IsAnswerTo, phase_after, refusal_of}
 use Rattle.erm_good_report.specs.Transactions.{Progress, Snapshot, Transaction, heard, with_line, with_look}
+use Rattle.erm_lines.proofs.Keeping.{NoneRuns}
 use Rattle.erm_lines.specs.Whole.{is_snapshot}
 use Rattle.erm_lines_at_once.specs.Answers.{DidAskedBeside, DidInBeside, DidLineBeside, DidOfSnapshotBeside}
-use Rattle.erm_maps.specs.Runs.{IsAnswered, IsRunOf}
+use Rattle.erm_maps.specs.Runs.{IsAnswered}
 use Rattle.erm_model.specs.declared.outcome.Phase.{Phase}
 use Rattle.erm_model.specs.declared.outcome.Phase.TheVariants.{Active, Idle, Sealed, Pending, Safe}
 use Rattle.erm_model.specs.Run.{Step}
@@ -19,7 +20,6 @@ use Rattle.erm_script.specs.declared.script.ScriptLine.{ScriptLine}
 use Rattle.erm_told_at_once.proofs.Lines.{turns_line}
 use Rattle.erm_world.specs.Going.{Extends}
 use Rattle.erm_world.specs.World.{View, Work, phase_at}
-use Rattle.erm_world.specs.World as world
 
 -- WHICH COMMAND it was
 safe_asks : (c : Command) (stamp : ℕ) → IsOfClient c → MayTell c (answer.Safe stamp) → c ≡ command.Safe
@@ -242,7 +242,7 @@ line_ends f l a v t done has asks =
 abbrev pub LinesLeave : Type 0
 LinesLeave = (f : View) (l : ScriptLine) (a : Answer) (v t : View) → DidLineBeside f l a v t → phase_at t l.session ≡ phase_after (Some l.command) a (phase_at v l.session)
 
-pub lines_leave : ((number begin : ℕ) → IsRunOf (world.begun number begin) []) → ((w u : Work) (steps : List Step) → Extends w u → IsAnswered w steps → IsAnswered u steps) → LinesLeave
+pub lines_leave : NoneRuns → ((w u : Work) (steps : List Step) → Extends w u → IsAnswered w steps → IsAnswered u steps) → LinesLeave
 lines_leave runs stay f l a v t did = sym (turns_line runs stay f l a v t did).took.phase
 
 pub in_phase_line : LinesLeave → (f : View) (l : ScriptLine) (a : Answer) (v t : View) (p : Progress) → IsOfClient l.command → MayTell l.command a → DidLineBeside f l a v t

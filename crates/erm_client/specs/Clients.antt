@@ -1,5 +1,5 @@
 -- Clients: what is so of one between its calls, and how it goes on from one call to the next.
-use Rattle.std.specs.Prelude.{◌≡◌, ℕ, ◌⊎◌, List, Option, None, IfSome}
+use Rattle.std.specs.Prelude.{◌≡◌, ℕ, ◌≤◌, ◌⊎◌, List, Option, None, IfSome}
 use Rattle.erm_beside.specs.Laws.{GoesOnward}
 use Rattle.erm_client.specs.Dealings.{HasNothing, dealings_of}
 use Rattle.erm_client.specs.declared.client.Client.{Client}
@@ -20,10 +20,11 @@ use Rattle.erm_world.specs.Face.{Grows}
 use Rattle.erm_world.specs.World.{View, phase_at}
 
 -- The lines were answered in order, with others going on between; behind them memory ran out, in a line of which nothing is told: there the session's
--- transaction in progress may have gone on, and no more was done.
+-- transaction in progress may have gone on, and no more was done. The log had come no further before it than in the world in which all end.
 pub record RanStarved (f : View) (seat : ℕ) (lines : List ScriptLine) (answers : List Answer) (v t : View) : Type 0 where
   pub last : View
   pub run : IsOwnRun f seat v (line_moves lines answers) last
+  pub within : (last.tail ≤ f.tail) × (last.flushed ≤ f.flushed)
   pub went : Grows (last.session seat) (t.session seat)
 
 -- The lines were answered in order, with others going on between, and the session was left where its client was told to stop, or where memory ran out.

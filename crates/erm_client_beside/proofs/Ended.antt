@@ -51,23 +51,20 @@ module _ {L P : Type 0} (law : Law) (table : Table L) (o : Opening) (promises : 
 
   -- ONE PROGRAM at the end
   module _ (failed : Bool) (why : so → failed ≡ true) where
-    is_open : (seat : ℕ) (p : P) (s : TableSession L) (r : ProgramRun P) → IsLeft law table o promises so seat p s r → failed ≡ false → r.lacked ≡ false → (now : Standing)
-        → r.transcript.standing ≡ now → r.transcript.standing ≡ standing.Open
+    is_open : (seat : ℕ) (p : P) (s : TableSession L) (r : ProgramRun P) → IsLeft law table o promises so seat p s r → failed ≡ false → (r.transcript.standing ≡ standing.Starved → ⊥)
+        → (now : Standing) → r.transcript.standing ≡ now → r.transcript.standing ≡ standing.Open
     is_open seat p s r is sound had standing.Open now = now
-    is_open seat p s r is sound had standing.Stopped now = absurd (not_both failed (why (is.stops had now)) sound)
-    is_open seat p s r is sound had standing.Starved now = absurd (is.unstarved had now)
+    is_open seat p s r is sound had standing.Stopped now = absurd (not_both failed (why (is.stops now)) sound)
+    is_open seat p s r is sound had standing.Starved now = absurd (had now)
 
     is_decided : (seat : ℕ) (p : P) (s : TableSession L) (r : ProgramRun P) (f : View) (closed : Option Answer) → r.closed ≡ closed → IsLeft law table o promises so seat p s r → failed ≡ false
-        → r.lacked ≡ false → r.transcript.standing ≡ standing.Open
+        → r.transcript.standing ≡ standing.Open
         → DidWork f seat r.transcript.lines.items r.transcript.answers.items closed (opened_view (start_of o)) (own_of s) → phase_at (own_of s) seat ≡ Sealed → ⊥
-    is_decided seat p s r f None at is sound had opened did sealed = not_both failed (why (is.waits had opened at sealed)) sound
-    is_decided seat p s r f (Some a) at is sound had opened did sealed =
+    is_decided seat p s r f None at is sound opened did sealed = not_both failed (why (is.waits opened at sealed)) sound
+    is_decided seat p s r f (Some a) at is sound opened did sealed =
         let idle = closed_idle f seat r.transcript.lines.items r.transcript.answers.items a (opened_view (start_of o)) (own_of s) did (open_each r.transcript is.transcript_ok opened) in
         let same : Sealed ≡ Idle = sym sealed ∙ idle in
         cc
-
-    not_starved : (now : Standing) → now ≡ standing.Open → now ≡ standing.Starved → ⊥
-    not_starved now opened starved = cc
 
     pub one_run : (seat : ℕ) (p : P) (s : TableSession L) (r : ProgramRun P) (f : View) → IsLeft law table o promises so seat p s r → HasEnded law (seat_of s) (book s.pass) (own_of s) f
         → IsRun promises failed f seat (opened_view (start_of o)) p r
@@ -82,10 +79,11 @@ module _ {L P : Type 0} (law : Law) (table : Table L) (o : Opening) (promises : 
           at_end = record { own = sym here.session; given_up = sym here.given_up; tail = here.tail; flushed = here.flushed };
           rests = is.rests;
           did = λ some. is.did some f ends;
-          unstarved = is.unstarved;
+          starved = λ lacked. is.starved lacked f ends;
+          stopped = λ sound was. not_both failed (why (is.stops was)) sound;
           whole = λ sound had.
               let opened = is_open seat p s r is sound had r.transcript.standing refl in
-              (opened, is_decided seat p s r f r.closed refl is sound had opened (is.did (λ starved. not_starved r.transcript.standing opened starved) f ends));
+              (opened, is_decided seat p s r f r.closed refl is sound opened (is.did had f ends));
         }
 
     -- and all

@@ -1,9 +1,9 @@
 -- The jobs of programs with sessions just handed out may be worked, and what their threads left.
-use Rattle.std.proofs.Common.{◌≡◌, ℕ, ◌+◌, Bool, false, List, length, Some, sym, ◌∙◌, subst, arith}
+use Rattle.std.proofs.Common.{◌≡◌, ℕ, ◌+◌, List, length, Some, sym, ◌∙◌, subst, arith}
 use Rattle.std.specs.List.{All, slice_get}
 use Rattle.std.proofs.lemmas.Option.{slice_get-get_or}
+use Rattle.erm_client.specs.Clients.{WasStarved}
 use Rattle.erm_client.specs.declared.client.Finished.{Finished}
-use Rattle.erm_client.specs.declared.transcript.Standing.TheVariants as standing
 use Rattle.erm_client.specs.declared.transcript.Transcript.{Transcript}
 use Rattle.erm_client_beside.specs.Back.{AreBack, HasFinished, IsBack}
 use Rattle.erm_client_beside.specs.declared.ran.ProgramRun.{ProgramRun}
@@ -39,12 +39,11 @@ module _ {L T P : Type 0} (law : Law) (table : Table L) (o : Opening) where
       one_job (k + 1) p.0 _ (are.each k p.0 _ p.1 there)
 
   -- ONE PROGRAM behind its thread
-  module _ (promises : P → P → Transcript → Type 0) (so : Type 0) (told : T → Type 0) (starved : T → Bool) where
-    left_now : (seat : ℕ) (program : P) (j b : Job (TableSession L) T P (Table L)) (left : Finished (TableSession L) T) (lacked : Bool) (is : IsJobOf law table o seat program j)
+  module _ (promises : P → P → Transcript → Type 0) (so : Type 0) (told : T → Type 0) where
+    left_now : (seat : ℕ) (program : P) (j b : Job (TableSession L) T P (Table L)) (left : Finished (TableSession L) T) (is : IsJobOf law table o seat program j)
         → work.IsLeft (λ t s. Stands law t s) seat_of own_of (λ s f. Ends law s f) told is.client left → promises j.program b.program left.transcript
-        → (lacked ≡ false → left.transcript.standing ≡ standing.Starved → ⊥) → (lacked ≡ false → told left.turns → so)
-        → IsLeft law table o promises so seat program left.session (record { program = b.program; transcript = left.transcript; closed = left.closed; lacked = lacked })
-    left_now seat program j b left lacked is was promised unstarved why =
+        → (told left.turns → so) → IsLeft law table o promises so seat program left.session (record { program = b.program; transcript = left.transcript; closed = left.closed })
+    left_now seat program j b left is was promised why =
         let place : seat_of is.client.session ≡ seat = is.session.seat_is in
         let own : own_of is.client.session ≡ opened_view (start_of o) = is.session.own in
         record {
@@ -57,27 +56,29 @@ module _ {L T P : Type 0} (law : Law) (table : Table L) (o : Opening) where
           did = λ some f end.
               subst (λ (q : ℕ). DidWork f q left.transcript.lines.items left.transcript.answers.items left.closed (opened_view (start_of o)) (own_of left.session)) (was.seat_is ∙ place)
               (subst (λ (v : View). DidWork f left.transcript.seat left.transcript.lines.items left.transcript.answers.items left.closed v (own_of left.session)) own (was.did some f end));
-          unstarved = unstarved;
-          stops = λ had stopped. why had (was.stops stopped);
-          waits = λ had opened none sealed. why had (was.waits opened none (subst (λ (q : ℕ). phase_at (own_of left.session) q ≡ Sealed) (sym place) sealed));
+          starved = λ lacked f end.
+              subst (λ (q : ℕ). WasStarved f q left.transcript.lines.items left.transcript.answers.items left.closed (opened_view (start_of o)) (own_of left.session)) (was.seat_is ∙ place)
+              (subst (λ (v : View). WasStarved f left.transcript.seat left.transcript.lines.items left.transcript.answers.items left.closed v (own_of left.session)) own (was.starved lacked f end));
+          stops = λ stopped. why (was.stops stopped);
+          waits = λ opened none sealed. why (was.waits opened none (subst (λ (q : ℕ). phase_at (own_of left.session) q ≡ Sealed) (sym place) sealed));
         }
 
     pub one_left : (seat : ℕ) (program : P) (j b : Job (TableSession L) T P (Table L)) (s : TableSession L) (r : ProgramRun P) → IsJobOf law table o seat program j
-        → Worked (λ t x. Stands law t x) seat_of own_of (λ x f. Ends law x f) told promises j b → IsBack starved b s r
-        → ((left : Finished (TableSession L) T) → b.finished ≡ Some left → told left.turns → starved left.turns ≡ false → so)
+        → Worked (λ t x. Stands law t x) seat_of own_of (λ x f. Ends law x f) told promises j b → IsBack b s r
+        → ((left : Finished (TableSession L) T) → b.finished ≡ Some left → told left.turns → so)
         → IsLeft law table o promises so seat program s r
     one_left seat program j b s r is worked back why =
         let same = the_client worked.left back.left b.finished worked.is back.is in
         subst (λ (x : TableSession L). IsLeft law table o promises so seat program x r) (sym back.session_is)
         (subst (λ (x : ProgramRun P). IsLeft law table o promises so seat program back.left.session x) (sym back.run_is)
-        (left_now seat program j b back.left back.lacked is
+        (left_now seat program j b back.left is
         (subst (λ (x : Finished (TableSession L) T). work.IsLeft (λ t y. Stands law t y) seat_of own_of (λ y f. Ends law y f) told is.client x) same (worked.is_left is.client is.is))
-        (subst (λ (x : Finished (TableSession L) T). promises j.program b.program x.transcript) same worked.promised) back.unstarved
-        (λ had was. why back.left back.is was (back.sufficed had))))
+        (subst (λ (x : Finished (TableSession L) T). promises j.program b.program x.transcript) same worked.promised)
+        (why back.left back.is)))
 
     pub all_left : (programs : List P) (js bs : List (Job (TableSession L) T P (Table L))) (ss : List (TableSession L)) (rs : List (ProgramRun P)) → length bs ≡ length js → AreJobs law table o programs js
-        → AllWorked (λ t x. Stands law t x) seat_of own_of (λ x f. Ends law x f) told promises js bs → AreBack starved bs ss rs
-        → ((k : ℕ) (b : Job (TableSession L) T P (Table L)) → slice_get bs k ≡ Some b → (left : Finished (TableSession L) T) → b.finished ≡ Some left → told left.turns → starved left.turns ≡ false → so)
+        → AllWorked (λ t x. Stands law t x) seat_of own_of (λ x f. Ends law x f) told promises js bs → AreBack bs ss rs
+        → ((k : ℕ) (b : Job (TableSession L) T P (Table L)) → slice_get bs k ≡ Some b → (left : Finished (TableSession L) T) → b.finished ≡ Some left → told left.turns → so)
         → AreLeft law table o promises so programs ss rs
     all_left programs js bs ss rs long are worked back why = record {
       many = let a = are.many in let b = back.many in omega (arith, a, b, long);

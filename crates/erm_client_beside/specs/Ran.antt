@@ -1,5 +1,6 @@
 -- What is so once programs have run on threads, and the table is closed.
 use Rattle.std.specs.Prelude.{◌≡◌, ℕ, ◌+◌, ◌<◌, ◌≤◌, Bool, false, List, length, Option}
+use Rattle.erm_client.specs.Clients.{WasStarved}
 use Rattle.erm_client.specs.declared.transcript.Standing.TheVariants as standing
 use Rattle.erm_client.specs.declared.transcript.Transcript.{Transcript}
 use Rattle.erm_client.specs.Transcripts.{IsTranscript}
@@ -23,7 +24,7 @@ use Rattle.erm_world.specs.World.{IsSession, View, phase_at}
 
 -- A program ran with the client of the session of this seat, which stands in this world as it was left: that wasn't with a transaction in progress. The
 -- program keeps its promise. Unless memory ran out in a line the session did the work that the transcript tells, from the world as it was opened: to the end,
--- where memory sufficed, unless the disk failed too, so that it doesn't wait.
+-- unless the disk failed, so that it doesn't wait. Where memory ran out the session did its lines, and what it had in progress was given up.
 pub record IsRun {P : Type 0} (promises : P → P → Transcript → Type 0) (failed : Bool) (f : View) (seat : ℕ) (v : View) (program : P) (r : ProgramRun P) : Type 0 where
   pub place : r.transcript.seat ≡ seat
   pub transcript_ok : IsTranscript r.transcript
@@ -32,8 +33,9 @@ pub record IsRun {P : Type 0} (promises : P → P → Transcript → Type 0) (fa
   pub at_end : IsAtEnd f seat last
   pub rests : phase_at last seat ≡ Active → ⊥
   pub did : (r.transcript.standing ≡ standing.Starved → ⊥) → DidWork f seat r.transcript.lines.items r.transcript.answers.items r.closed v last
-  pub unstarved : r.lacked ≡ false → r.transcript.standing ≡ standing.Starved → ⊥
-  pub whole : failed ≡ false → r.lacked ≡ false → (r.transcript.standing ≡ standing.Open) × (phase_at last seat ≡ Sealed → ⊥)
+  pub starved : r.transcript.standing ≡ standing.Starved → WasStarved f seat r.transcript.lines.items r.transcript.answers.items r.closed v last
+  pub stopped : failed ≡ false → r.transcript.standing ≡ standing.Stopped → ⊥
+  pub whole : failed ≡ false → (r.transcript.standing ≡ standing.Starved → ⊥) → (r.transcript.standing ≡ standing.Open) × (phase_at last seat ≡ Sealed → ⊥)
 
 -- THE END. There is one state in which the table of this opening was closed, to which the desk's book leads on, and each program ran so in the world that it
 -- shows. Nothing was done in the sessions behind theirs. Where no session waits, and the disk hasn't failed, all of the log is flushed.

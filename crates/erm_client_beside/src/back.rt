@@ -1,38 +1,26 @@
 //! What clients leave behind their programs, taken apart.
-ghost use Rattle.std.specs.Prelude.{◌≡◌, ◌≤◌, ℕ, [], Some, false, vec_capacity, vec_len};
+ghost use Rattle.std.specs.Prelude.{◌≡◌, ◌≤◌, ℕ, [], Some, vec_capacity, vec_len};
 ghost use Rattle.std.specs.List.{slice_get};
 ghost use Rattle.erm_client_beside.specs.Back.{AreBack, HasFinished, IsBack};
 
 use crate::ran::ProgramRun;
-use erm_client::{Finished, Standing, Transcript};
+use crate::turns::ClientTurns;
+use erm_client::Finished;
 use erm_client_threads::Job;
 use erm_desk::Naming;
 use erm_model::RowLaw;
 use erm_outside::{Disk, Gate};
-use erm_run_beside::DeskTurns;
 use erm_shared_session::TableSession;
-use erm_worker::Turns;
 use std::sync::Wait;
 use std::sync::ledger::{Ledger, Share};
 
-// Whether memory ran out for a client in a line, or what it waited by was told so of another.
-fn has_lacked<T: Turns>(turns: &T, transcript: &Transcript) -> bool
-    ensures sufficed { result ≡ false → T.starved turns.now ≡ false }
-    ensures unstarved { result ≡ false → transcript.now.standing ≡ Standing.Starved → ⊥ }
-{
-    match transcript.standing {
-        Standing::Starved => true,
-        _ => turns.is_starved(),
-    }
-}
-
 // A program behind its job, with its session, and what was met by what it waited by.
 fn take_one<'a, L: RowLaw, D: Disk + Drop, B: Naming + Ledger, G: Gate, R: Wait, P>(
-    job: Job<'a, TableSession<L>, DeskTurns<'a, L, D, B, G, R>, P>,
+    job: Job<'a, TableSession<L>, ClientTurns<'a, L, D, B, G, R>, P>,
 ) -> (Share<B>, TableSession<L>, ProgramRun<P>)
     requires done { HasFinished job }
-    ensures back { IsBack (λ turns. turns.starved) job.entry result.1 result.2 }
-    ensures met { (left : _) → job.entry.finished ≡ Some left → result.0.amount ≡ left.turns.met.amount }
+    ensures back { IsBack job.entry result.1 result.2 }
+    ensures met { (left : _) → job.entry.finished ≡ Some left → result.0.amount ≡ left.turns.turns.met.amount }
 {
     let Job {
         program,
@@ -52,12 +40,10 @@ fn take_one<'a, L: RowLaw, D: Disk + Drop, B: Naming + Ledger, G: Gate, R: Wait,
         transcript,
         closed,
     } = left;
-    let lacked = has_lacked(&turns, &transcript);
     let run = ProgramRun {
         program,
         transcript,
         closed,
-        lacked,
     };
     (turns.into_met(), session, run)
 }
@@ -72,7 +58,7 @@ pub(crate) fn take_back<
     R: Wait,
     P: Drop,
 >(
-    back: Vec<Job<'a, TableSession<L>, DeskTurns<'a, L, D, B, G, R>, P>>,
+    back: Vec<Job<'a, TableSession<L>, ClientTurns<'a, L, D, B, G, R>, P>>,
     met: &mut Share<B>,
     sessions: &mut Vec<TableSession<L>>,
     runs: &mut Vec<ProgramRun<P>>,
@@ -80,8 +66,8 @@ pub(crate) fn take_back<
     requires done { (k : ℕ) (b : _) → slice_get back.items k ≡ Some b → HasFinished b }
     requires none { (sessions.old.items ≡ []) × (runs.old.items ≡ []) }
     requires room { (vec_len back ≤ vec_capacity sessions.old) × (vec_len back ≤ vec_capacity runs.old) }
-    ensures back { AreBack (λ turns. turns.starved) back.entry.items sessions.new.items runs.new.items }
-    ensures met { (k : ℕ) (b : _) → slice_get back.entry.items k ≡ Some b → (left : _) → b.finished ≡ Some left → left.turns.met.amount ≤ met.new.amount }
+    ensures back { AreBack back.entry.items sessions.new.items runs.new.items }
+    ensures met { (k : ℕ) (b : _) → slice_get back.entry.items k ≡ Some b → (left : _) → b.finished ≡ Some left → left.turns.turns.met.amount ≤ met.new.amount }
 {
     let mut left = back.into_iter();
     while let Some(job) = left.next() {

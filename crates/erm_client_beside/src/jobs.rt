@@ -4,6 +4,7 @@ ghost use Rattle.erm_client_beside.specs.Jobs.{AreJobs};
 ghost use Rattle.erm_engine.specs.Opened.{AreNew};
 ghost use Rattle.erm_model.specs.declared.limits.TheConstants.{SESSIONS};
 
+use crate::turns::ClientTurns;
 use erm_client::Client;
 use erm_client_threads::Job;
 use erm_desk::Naming;
@@ -46,7 +47,7 @@ pub(crate) fn make_jobs<
     met: &mut Share<B>,
     sessions: Vec<TableSession<L>>,
     programs: Vec<P>,
-    jobs: &mut Vec<Job<'a, TableSession<L>, DeskTurns<'a, L, D, B, G, R>, P>>,
+    jobs: &mut Vec<Job<'a, TableSession<L>, ClientTurns<'a, L, D, B, G, R>, P>>,
 )
     requires table { table.now.words.shared.table_id ≡ B.table }
     requires new { AreNew L.law table.now _opening.now (vec_len programs) sessions.items }
@@ -75,6 +76,7 @@ pub(crate) fn make_jobs<
             met.split_off(1, 0),
             seat,
         );
+        let turns = ClientTurns { turns };
         jobs.push_reserved(Job {
             program,
             client: Some(Client::new(alloc, session, table, turns, seat)),

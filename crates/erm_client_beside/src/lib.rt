@@ -6,6 +6,7 @@ mod jobs;
 mod ran;
 mod room;
 mod run;
+mod turns;
 mod work;
 
 pub use ran::{ProgramRun, ProgramsRan};

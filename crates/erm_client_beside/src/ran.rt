@@ -10,8 +10,6 @@ pub struct ProgramRun<P> {
     pub transcript: Transcript,
     /// The answer of the session's closing behind the last line. `None` where it had no transaction, or was left.
     pub closed: Option<Answer>,
-    /// Whether memory ran out for it within a line, or it was told to stop since it did for another.
-    pub lacked: bool,
 }
 
 /// What is known of programs that ran on threads.

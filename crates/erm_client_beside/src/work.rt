@@ -11,12 +11,13 @@ use crate::back::take_back;
 use crate::jobs::make_jobs;
 use crate::ran::ProgramRun;
 use crate::room::Room;
+use crate::turns::ClientTurns;
 use erm_client_threads::{Program, work_all};
 use erm_desk::Naming;
 use erm_model::RowLaw;
 use erm_outside::{Disk, Gate};
 use erm_rule::{Opening, Table};
-use erm_run_beside::{DeskTurns, SharedDesk};
+use erm_run_beside::SharedDesk;
 use erm_shared_session::TableSession;
 use std::alloc::Global;
 use std::sync::atomic::AtomicU64;
@@ -47,7 +48,7 @@ pub(crate) fn work_beside<
     met: &mut Share<B>,
     sessions: Vec<TableSession<L>>,
     programs: Vec<P>,
-    room: Room<'a, TableSession<L>, DeskTurns<'a, L, D, B, G, R>, P>,
+    room: Room<'a, TableSession<L>, ClientTurns<'a, L, D, B, G, R>, P>,
 ) -> (Vec<TableSession<L>>, Vec<ProgramRun<P>>)
     requires law { SameLaw L.law sound_law }
     requires table { table.now.words.shared.table_id ≡ B.table }

@@ -31,7 +31,7 @@ pub begun_ready : (seat at : ℕ) (v t : View) (r : Option Receipt) → After se
 begun_ready seat at v t r (u, passes, (few, is, now)) ready =
     let there = (same_ready v u seat r passes.own passes.saves ready).receipt in
     record {
-      run = λ active. let idle : phase_of (t.session seat).stand ≡ Pending = ap (λ (s : Session). phase_of s.stand) now.own in absurd (cc);
+      run = λ active. let pending : phase_of (t.session seat).stand ≡ Pending = ap (λ (s : Session). phase_of s.stand) now.own in absurd (cc);
       receipt = rw now.own there;
     }
 

@@ -1,12 +1,13 @@
 -- Clients that ran to their end, all of whose log is flushed.
-use Rattle.std.proofs.Common.{◌≡◌, ℕ, ◌<◌, ◌++◌, Bool, true, cond, nat_lt, List, [], ◌∷◌, Option, append-nil, refl, sym, ap, ◌∙◌, subst, arith}
+use Rattle.std.proofs.Common.{◌≡◌, ℕ, ◌<◌, ◌++◌, Bool, true, cond, nat_lt, List, [], ◌∷◌, Option, append-nil, inl, refl, sym, ap, ◌∙◌, subst, arith}
 use Rattle.std.proofs.lemmas.Bool.Decides.{nat_tests}
 use Rattle.erm_block.specs.declared.block.Block.{Block}
 use Rattle.erm_ckpt.specs.Recovered.{State}
 use Rattle.erm_client.specs.declared.transcript.Transcript.{Transcript}
 use Rattle.erm_client.specs.Laws.{TranscriptsAreARun}
-use Rattle.erm_client_disk.proofs.Outlive.{CutLaws, commits, fronts, stand, states}
+use Rattle.erm_client_disk.proofs.Outlive.{StarvedLaws, commits, fronts, stand, states}
 use Rattle.erm_client_disk.specs.Laws.{EndedClientsAreDone, HaveEnded}
+use Rattle.erm_client_told.specs.Starved.{DidForClient}
 use Rattle.erm_client_told.specs.Told.{WholeTranscriptsTellCommits, all_commits}
 use Rattle.erm_desk.specs.Known.{flushed_log}
 use Rattle.erm_disk_at_once.specs.Desks.{HasLogged}
@@ -21,6 +22,7 @@ use Rattle.erm_model.specs.SerialOrder.{IsSerialOrder}
 use Rattle.erm_node.specs.TreeMap.{map_of_rows}
 use Rattle.erm_report.specs.declared.answer.Answer.{Answer}
 use Rattle.erm_rule.specs.declared.view.Start.{Start}
+use Rattle.erm_threads.specs.Work.{DidWork}
 use Rattle.erm_told_crash.specs.Logged.{HasCommits}
 use Rattle.erm_world.specs.Log.{gathered_to, place_behind}
 use Rattle.erm_world.specs.Log as world
@@ -61,9 +63,32 @@ module _ (o : Start) (blocks : List Block) (f : View) (has : HasLogged o blocks 
   within_all : (told : List Committed) → HasCommits has.log told → (c : Committed) → c ∈ told → c.stamp < gathered_to has.log
   within_all told commits c m = let high = (commits.within c m).1 in omega (arith, high, tail, to)
 
+-- Sessions that did their work are sessions of clients.
+for_clients : (state : State) (o : Start) (flushed blocks : List Block) (v f : View) (opening : Opening) (all : List Transcript) (closed : List (Option Answer))
+    → HaveEnded DidWork state o flushed blocks v f opening all closed → HaveEnded DidForClient state o flushed blocks v f opening all closed
+for_clients state o flushed blocks v f opening all closed e = record {
+  starts = e.starts;
+  view = e.view;
+  opened = e.opened;
+  from_first = e.from_first;
+  few = e.few;
+  sessions = e.sessions;
+  works = record {
+    as_many = e.works.as_many;
+    each = λ k lines own end at_p at_a at_c.
+        let it = e.works.each k lines own end at_p at_a at_c in
+        record { last = it.last; at_end = it.at_end; rests = it.rests; most = it.most; did = inl it.did };
+    ends_so = e.works.ends_so;
+    beyond = e.works.beyond;
+    others = e.works.others;
+  };
+  logged = e.logged;
+  synced = e.synced;
+}
+
 -- THE END
-module _ (laws : CutLaws) (state : State) (o : Start) (flushed blocks : List Block) (v f : View) (opening : Opening) (all : List Transcript) (closed : List (Option Answer))
-    (e : HaveEnded state o flushed blocks v f opening all closed) (ends : f.flushed ≡ f.tail) (synced : f.flushed ≡ place_behind o.tail blocks) where
+module _ (laws : StarvedLaws) (state : State) (o : Start) (flushed blocks : List Block) (v f : View) (opening : Opening) (all : List Transcript) (closed : List (Option Answer))
+    (e : HaveEnded DidForClient state o flushed blocks v f opening all closed) (ends : f.flushed ≡ f.tail) (synced : f.flushed ≡ place_behind o.tail blocks) where
   -- there is a serial order of all commits
   ordered : (order : List Committed) × IsSerialOrder rank_of (all_commits all) order
   ordered =
@@ -83,13 +108,14 @@ module _ (laws : CutLaws) (state : State) (o : Start) (flushed blocks : List Blo
   logged : HasCommits (flushed_log o blocks) (all_commits all)
   logged = has_flushed o blocks f e.logged ends synced (all_commits all) (commits laws state o flushed blocks v f opening all closed e)
 
-pub done : CommitsAreLeft → TranscriptsAreARun → WholeTranscriptsTellCommits → CutLaws → EndedClientsAreDone
+pub done : CommitsAreLeft → TranscriptsAreARun → WholeTranscriptsTellCommits → StarvedLaws → EndedClientsAreDone
 done left a_run whole laws state slots o before mid faults d has sound v f opening all closed e opened complete ends =
     let blocks = has.desk.blocks in
     let none : has.desk.blocks ++ has.desk.tried ≡ blocks = ap (λ (bs : List Block). blocks ++ bs) (has.desk.holds sound).0 ∙ append-nil blocks in
-    let e : HaveEnded state o blocks blocks v f opening all closed = subst (λ (bs : List Block). HaveEnded state o blocks bs v f opening all closed) none e in
+    let all_did : HaveEnded DidWork state o blocks blocks v f opening all closed = subst (λ (bs : List Block). HaveEnded DidWork state o blocks bs v f opening all closed) none e in
+    let e = for_clients state o blocks blocks v f opening all closed all_did in
     let order = ordered laws state o blocks blocks v f opening all closed e ends e.synced in
-    let run = a_run v f all closed e.opened e.from_first e.few e.sessions.0 e.works complete in
+    let run = a_run v f all closed e.opened e.from_first e.few e.sessions.0 all_did.works complete in
     record {
       v = v;
       f = f;

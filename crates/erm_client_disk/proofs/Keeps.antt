@@ -25,7 +25,7 @@ module _ (Invariant : Database → Type 0) where
     | inr later ↦ kept_there all (λ d m. kept d (∈-behind c all d m)) x later
   ]
 
-  all_keep : (all : List Transcript) → AllKeepIt Invariant all → AllKeep Invariant (all_commits all)
+  pub all_keep : (all : List Transcript) → AllKeepIt Invariant all → AllKeep Invariant (all_commits all)
   all_keep all kept = λ k d less. kept_there all kept _ (k, slice_get-get_or (all_commits all) k d less)
 
   pub crashes_keep : HoldsBelow Invariant → CrashesKeepForClients Invariant

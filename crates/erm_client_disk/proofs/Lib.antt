@@ -1,4 +1,5 @@
 pub mod Done
+pub mod Files
 pub mod Keeps
 pub mod Logs
 pub mod OnDisk

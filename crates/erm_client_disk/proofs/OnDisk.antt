@@ -8,12 +8,14 @@ use Rattle.erm_client.specs.declared.transcript.Transcript.{Transcript}
 use Rattle.erm_client_beside.specs.declared.ran.ProgramRun.{ProgramRun}
 use Rattle.erm_client_beside.specs.declared.ran.ProgramsRan.{ProgramsRan}
 use Rattle.erm_client_beside.specs.Ran.{RanBeside}
-use Rattle.erm_client_disk.proofs.Ran.{all_complete, all_flushed, all_open, did_works, from_first}
+use Rattle.erm_client_disk.proofs.Files.{KeepsOthers, desk_keeps_others, opening_keeps}
+use Rattle.erm_client_disk.proofs.Ran.{all_complete, all_flushed, all_open, did_for_clients, did_works, from_first, opened_each}
 use Rattle.erm_client_disk.specs.Ends.{EndLaws}
 use Rattle.erm_client_disk.specs.Laws.{HaveEnded}
 use Rattle.erm_client_disk.specs.Leaves.{ClientsAreDone, ClientsOutlive}
-use Rattle.erm_client_disk.specs.Ran.{AreShort, CountsNone, CountsRun, NoneLacked, NoneRan, NoneStarved, WereRun, closes_of, ended_of, transcripts_of}
-use Rattle.erm_client.specs.declared.transcript.Standing.TheVariants as standing
+use Rattle.erm_client_disk.specs.Ran.{AreShort, CountsNone, CountsRun, NoneRan, NoneStarved, WereRun, closes_of, ended_of, transcripts_of}
+use Rattle.erm_client_told.specs.Starved.{DidForClient}
+use Rattle.erm_client_told.specs.Told.{answers_by, parts_of}
 use Rattle.erm_desk.specs.Desk.{Sees}
 use Rattle.erm_disk_at_once.specs.Desks.{HasDesk, HasLogged}
 use Rattle.erm_disk_run.specs.declared.log.OpenedLog.{OpenedLog}
@@ -21,12 +23,13 @@ use Rattle.erm_disk_run.specs.Opened.{WasLogOpened}
 use Rattle.erm_engine.specs.Ended.{world_of}
 use Rattle.erm_lines.specs.Executions.{IsOpened}
 use Rattle.erm_model.specs.declared.limits.TheConstants.{SESSIONS}
-use Rattle.erm_model.specs.Member.{◌∈◌}
 use Rattle.erm_model.specs.Rows.{rows_of}
 use Rattle.erm_node.specs.Sound.{sound_law}
 use Rattle.erm_outside.specs.Disk.{Step}
 use Rattle.erm_rule.specs.declared.view.Opening.{Opening}
 use Rattle.erm_rule.specs.Openings.{start_of}
+use Rattle.erm_threads.specs.Work.{DidWork}
+use Rattle.erm_works.specs.Works.{Did, HaveDone}
 use Rattle.erm_client_disk.proofs.Logs.{leaves_log}
 use Rattle.erm_client_disk.proofs.Opened.{begun_on, is_opening, opening_on, opens_table, starts_from, told_on}
 use Rattle.erm_start.specs.Recovered.{IsFirstObject}
@@ -63,34 +66,34 @@ module _ {P : Type 0} (laws : EndLaws) (promises : P → P → Transcript → Ty
     as_many : length all ≤ v.opening.sessions
     as_many = let many = ran.have_run.each.many in let same = length-map runs (λ (r : ProgramRun P). r.transcript) in omega (arith, many, same, few)
 
-    ended : NoneStarved all → AreShort all → HaveEnded state (start_of o) ran.desk.blocks (ran.desk.blocks ++ ran.desk.tried) v f (told_on opened first) all (closes_of runs)
-    ended some short = record {
+    ended : (So : Did) → HaveDone So v f (parts_of all) (answers_by all) (closes_of runs) → AreShort all
+        → HaveEnded So state (start_of o) ran.desk.blocks (ran.desk.blocks ++ ran.desk.tried) v f (told_on opened first) all (closes_of runs)
+    ended So works short = record {
       starts = starts_from before mid state opened was first is_first;
       view = is_opening before mid state opened was first is_first laws.maps ran.begins;
       opened = just_opened;
       from_first = from_first laws promises o failed ran.book programs runs ran.have_run;
       few = short;
       sessions = (as_many, omega arith);
-      works = did_works laws promises o failed ran.book programs runs ran.have_run some;
+      works = works;
       logged = logged.0;
       synced = logged.1;
     }
 
-    outlive : NoneStarved all → AreShort all → ClientsOutlive before after state all
-    outlive some short = laws.outlive state opened.slots (start_of o) before mid faults sees has v f (told_on opened first) all (closes_of runs) (ended some short)
+    outlive : AreShort all → ClientsOutlive before after state all
+    outlive short =
+        laws.outlive state opened.slots (start_of o) before mid faults sees has v f (told_on opened first) all (closes_of runs)
+        (ended DidForClient (did_for_clients laws promises o failed ran.book programs runs ran.have_run) short)
 
-    opened_all : failed ≡ false → NoneLacked runs → (c : Transcript) → c ∈ all → c.standing ≡ standing.Open
-    opened_all sound none = all_open laws promises o failed ran.book programs runs ran.have_run sound none
-
-    differ : (s : _) → s ≡ standing.Open → s ≡ standing.Starved → ⊥
-    differ s opened starved = cc
-
-    done : failed ≡ false → NoneLacked runs → AreShort all → ClientsAreDone before after state all (closes_of runs)
+    done : failed ≡ false → NoneStarved all → AreShort all → ClientsAreDone before after state all (closes_of runs)
     done sound none short =
         laws.done state opened.slots (start_of o) before mid faults sees has sound v f (told_on opened first) all (closes_of runs)
-        (ended (λ c there starved. differ c.standing (opened_all sound none c there) starved) short)
-        (opened_all sound none) (all_complete laws promises o failed ran.book programs runs ran.have_run sound none)
+        (ended DidWork (did_works laws promises o failed ran.book programs runs ran.have_run none) short)
+        (all_open laws promises o failed ran.book programs runs ran.have_run sound none) (all_complete laws promises o failed ran.book programs runs ran.have_run sound none)
         (all_flushed laws promises o failed ran.book programs runs ran.have_run sound none)
+
+    others : KeepsOthers state before after
+    others = desk_keeps_others state opened.slots (start_of o) before mid faults sees has
 
     pub were_run : WereRun promises before after state failed programs runs
     were_run = record {
@@ -99,14 +102,18 @@ module _ {P : Type 0} (laws : EndLaws) (promises : P → P → Transcript → Ty
       promised = record { many = ran.have_run.each.many; each = λ k p r at at_r. let is = ran.have_run.each.each k p r at at_r in (is.place, is.promised) };
       from_first = from_first laws promises o failed ran.book programs runs ran.have_run;
       outlive = outlive;
-      opened = opened_all;
+      slots = others.0;
+      segments = others.1;
+      opened = opened_each laws promises o failed ran.book programs runs ran.have_run;
       done = done;
     }
 
   -- where none ran
-  pub none_ran : (back : Vec P Global) → (after ≡ mid) × (now ≡ faults) × (back.items ≡ programs) → ClientsOutlive before after state []
-  none_ran back none = subst (λ (told : Option (List Step)). ClientsOutlive before told state []) (sym none.0)
-      (laws.unrun state opened.slots (start_of o) before mid (opens_table before mid state opened was first) was.disk)
+  pub none_ran : after ≡ mid → ClientsOutlive before after state [] × KeepsOthers state before after
+  none_ran same = subst (λ (told : Option (List Step)). ClientsOutlive before told state [] × KeepsOthers state before told) (sym same) (
+    laws.unrun state opened.slots (start_of o) before mid (opens_table before mid state opened was first) was.disk,
+    opening_keeps state opened.slots (start_of o) before mid (opens_table before mid state opened was first) was.disk,
+  )
 
 -- HOW IT ENDS, whether they ran or not
 module _ {P : Type 0} (laws : EndLaws) (promises : P → P → Transcript → Type 0) (mid after : Option (List Step)) (faults now : ℕ) (opened : OpenedLog) (first : ℕ)
@@ -125,10 +132,9 @@ module _ {P : Type 0} (laws : EndLaws) (promises : P → P → Transcript → Ty
   pub none_so : (ran : Result (ProgramsRan P) (Vec P Global)) → CameBack ran → IfErr (ended_of ran) (λ stop. (before : Option (List Step)) (state : State) → WasLogOpened before mid state opened
       → NoneRan stop programs.items before after)
   none_so (Ok ran) came = tt
-  none_so (Err back) came = λ before state was. (
-    ap (λ (x : Vec P Global). x.items) came.2,
-    (state, was.found, none_ran laws promises before mid after faults now state opened was first is_first programs.items few back (came.0, came.1, ap (λ (x : Vec P Global). x.items) came.2)),
-  )
+  none_so (Err back) came = λ before state was.
+      let left = none_ran laws promises before mid after faults now state opened was first is_first programs.items few came.0 in
+      (ap (λ (x : Vec P Global). x.items) came.2, (state, was.found, left.0, left.1.0, left.1.1))
 
   pub counts_so : (ran : Result (ProgramsRan P) (Vec P Global)) → DidRun ran → IfOk (ended_of ran) (λ ran. CountsRun ran.failed faults now)
   counts_so (Ok ran) did = either ran.failed refl

@@ -1,9 +1,10 @@
 -- Programs that ran on a table, and what their clients did in the world in which all ended.
-use Rattle.std.proofs.Common.{◌≡◌, ℕ, zero, suc, ◌+◌, ◌-◌, ◌<◌, ◌≤◌, ⊎_elim, Bool, false, List, [], ◌∷◌, length, Option, Some, refl, sym, ap, ◌∙◌, subst, arith}
+use Rattle.std.proofs.Common.{◌≡◌, ℕ, zero, suc, ◌+◌, ◌-◌, ◌<◌, ◌≤◌, ⊎_elim, Bool, false, List, [], ◌∷◌, length, Option, Some, inl, inr, refl, sym, ap, ◌∙◌, subst, arith}
 use Rattle.std.proofs.lemmas.Bool.{cases_lt}
 use Rattle.std.proofs.lemmas.List.{length-map}
 use Rattle.std.specs.List.{slice_get}
 use Rattle.erm_client.proofs.Grown.{open_each}
+use Rattle.erm_client.specs.declared.transcript.Standing.{Standing}
 use Rattle.erm_client.specs.declared.transcript.Standing.TheVariants as standing
 use Rattle.erm_client.specs.declared.transcript.Transcript.{Transcript}
 use Rattle.erm_client.specs.Laws.{AreFrom}
@@ -11,8 +12,9 @@ use Rattle.erm_client.specs.Transcripts.{IsTranscript}
 use Rattle.erm_client_beside.specs.declared.ran.ProgramRun.{ProgramRun}
 use Rattle.erm_client_beside.specs.Ran.{HaveRun, IsRun}
 use Rattle.erm_client_disk.specs.Ends.{EndLaws}
-use Rattle.erm_client_disk.specs.Ran.{NoneLacked, NoneStarved, closes_of, transcripts_of}
+use Rattle.erm_client_disk.specs.Ran.{NoneStarved, closes_of, transcripts_of}
 use Rattle.erm_client_told.proofs.Lines.{few_answers}
+use Rattle.erm_client_told.specs.Starved.{DidForClient}
 use Rattle.erm_client_told.specs.Told.{answers_by, parts_of}
 use Rattle.erm_engine.proofs.Joined.{at_within}
 use Rattle.erm_engine.specs.Ended.{IsUntouched, world_of}
@@ -28,16 +30,34 @@ use Rattle.erm_rule.specs.Openings.{start_of}
 use Rattle.erm_run_beside.proofs.More.{map_to}
 use Rattle.erm_script.specs.declared.script.ScriptLine.{ScriptLine}
 use Rattle.erm_threads.proofs.Jobs.{map_from, there_is}
+use Rattle.erm_threads.specs.Work.{DidWork}
 use Rattle.erm_works.proofs.Sessions.{phase_there}
-use Rattle.erm_works.specs.Works.{AreComplete, AreWorks, DidSession, IsComplete}
+use Rattle.erm_works.specs.Works.{AreComplete, Did, DidSo, HaveDone, IsComplete}
 use Rattle.erm_world.specs.World.{IsSession, Session, View, phase_at, phase_of}
+
+-- one that may be asked still, or was told to stop, isn't one for which memory ran out
+open_unstarved : (s : Standing) → s ≡ standing.Open → s ≡ standing.Starved → ⊥
+open_unstarved s opened starved = cc
+
+stopped_unstarved : (s : Standing) → s ≡ standing.Stopped → s ≡ standing.Starved → ⊥
+stopped_unstarved s stopped starved = cc
 
 -- ONE PROGRAM
 module _ {P : Type 0} (promises : P → P → Transcript → Type 0) (failed : Bool) (f : View) (seat : ℕ) (v : View) (p : P) (r : ProgramRun P) (is : IsRun promises failed f seat v p r) where
-  pub did_session : (r.transcript.standing ≡ standing.Starved → ⊥) → DidSession f seat v r.transcript.lines.items r.transcript.answers.items r.closed
+  -- its session did its work, where memory sufficed
+  pub did_session : (r.transcript.standing ≡ standing.Starved → ⊥) → DidSo DidWork f seat v r.transcript.lines.items r.transcript.answers.items r.closed
   did_session some = record { last = is.last; at_end = is.at_end; rests = is.rests; most = few_answers r.transcript is.transcript_ok; did = is.did some }
 
-  pub complete : failed ≡ false → r.lacked ≡ false → IsComplete f seat r.transcript.lines.items r.transcript.answers.items
+  -- or else its lines
+  did_so : (now : Standing) → r.transcript.standing ≡ now → DidForClient f seat r.transcript.lines.items r.transcript.answers.items r.closed v is.last
+  did_so standing.Open now = inl (is.did (open_unstarved r.transcript.standing now))
+  did_so standing.Stopped now = inl (is.did (stopped_unstarved r.transcript.standing now))
+  did_so standing.Starved now = inr (is.starved now)
+
+  pub did_for_client : DidSo DidForClient f seat v r.transcript.lines.items r.transcript.answers.items r.closed
+  did_for_client = record { last = is.last; at_end = is.at_end; rests = is.rests; most = few_answers r.transcript is.transcript_ok; did = did_so r.transcript.standing refl }
+
+  pub complete : failed ≡ false → (r.transcript.standing ≡ standing.Starved → ⊥) → IsComplete f seat r.transcript.lines.items r.transcript.answers.items
   complete sound had =
       let whole = is.whole sound had in
       (open_each r.transcript is.transcript_ok whole.0, λ sealed. whole.1 (phase_there f seat is.last is.at_end ∙ sealed))
@@ -93,8 +113,10 @@ module _ {P : Type 0} (laws : EndLaws) (promises : P → P → Transcript → Ty
   pub from_first : AreFrom 1 all
   from_first = from_seats 1 runs (λ k r at. let is = (run_there k r at).2 in (is.place ∙ omega arith, is.transcript_ok))
 
-  pub did_works : NoneStarved all → AreWorks v f (parts_of all) (answers_by all) (closes_of runs)
-  did_works some = record {
+  -- what each session did, all did
+  all_did : (So : Did) → ((k : ℕ) (r : ProgramRun P) → slice_get runs k ≡ Some r → DidSo So f (k + 1) v r.transcript.lines.items r.transcript.answers.items r.closed)
+      → HaveDone So v f (parts_of all) (answers_by all) (closes_of runs)
+  all_did So each = record {
     as_many = (
       length-map all (λ (c : Transcript). c.answers.items) ∙ sym (length-map all (λ (c : Transcript). c.lines.items)),
       length-map runs (λ (r : ProgramRun P). r.closed) ∙ sym (length-map runs (λ (r : ProgramRun P). r.transcript))
@@ -102,12 +124,9 @@ module _ {P : Type 0} (laws : EndLaws) (promises : P → P → Transcript → Ty
     );
     each = λ k lines own end at_p at_a at_c.
         let r = run_at runs k lines own end at_p at_a at_c in
-        let is = (run_there k r.0 r.1).2 in
-        let here : r.0.transcript ∈ all = (k, map_to (λ (x : ProgramRun P). x.transcript) runs k r.0 r.1) in
-        subst (λ (x : List ScriptLine). DidSession f (k + 1) v x own end) r.2
-        (subst (λ (x : List Answer). DidSession f (k + 1) v r.0.transcript.lines.items x end) r.3
-        (subst (λ (x : Option Answer). DidSession f (k + 1) v r.0.transcript.lines.items r.0.transcript.answers.items x) r.4
-        (did_session promises failed f (k + 1) v _ r.0 is (some r.0.transcript here))));
+        subst (λ (x : List ScriptLine). DidSo So f (k + 1) v x own end) r.2
+        (subst (λ (x : List Answer). DidSo So f (k + 1) v r.0.transcript.lines.items x end) r.3
+        (subst (λ (x : Option Answer). DidSo So f (k + 1) v r.0.transcript.lines.items r.0.transcript.answers.items x) r.4 (each k r.0 r.1)));
     ends_so = laws.may_end SESSIONS ran.core ran.closed.under ran.closed.alone ran.closed.only;
     beyond = record { opening = ran.closed.opening; tail = ran.closed.beyond.0; flushed = ran.closed.beyond.1 };
     others = λ seat session above.
@@ -117,24 +136,33 @@ module _ {P : Type 0} (laws : EndLaws) (promises : P → P → Transcript → Ty
         (untouched.session, untouched.given_up);
   }
 
-  -- WHERE THE DISK HASN'T FAILED, and memory sufficed each
-  module _ (sound : failed ≡ false) (none : NoneLacked runs) where
-    pub all_open : (c : Transcript) → c ∈ all → c.standing ≡ standing.Open
-    all_open c there =
-        let r = run_of runs c there in
-        subst (λ (x : Transcript). x.standing ≡ standing.Open) r.2 (((run_there r.1.0 r.0 r.1.1).2.whole sound (none r.0 r.1)).0)
+  pub did_works : NoneStarved all → HaveDone DidWork v f (parts_of all) (answers_by all) (closes_of runs)
+  did_works some = all_did DidWork
+      (λ k r at. let is = run_there k r at in did_session promises failed f (k + 1) v is.0 r is.2 (some r.transcript (k, map_to (λ (x : ProgramRun P). x.transcript) runs k r at)))
 
-    none_starved : NoneStarved all
-    none_starved c there starved = differ c.standing (all_open c there) starved
-      where
-        differ : (s : _) → s ≡ standing.Open → s ≡ standing.Starved → ⊥
-        differ s opened starved = cc
+  pub did_for_clients : HaveDone DidForClient v f (parts_of all) (answers_by all) (closes_of runs)
+  did_for_clients = all_did DidForClient (λ k r at. let is = run_there k r at in did_for_client promises failed f (k + 1) v is.0 r is.2)
+
+  -- WHERE THE DISK HASN'T FAILED
+  pub opened_each : failed ≡ false → (c : Transcript) → c ∈ all → (c.standing ≡ standing.Starved → ⊥) → c.standing ≡ standing.Open
+  opened_each sound c there had =
+      let r = run_of runs c there in
+      subst (λ (x : Transcript). x.standing ≡ standing.Open) r.2
+      (((run_there r.1.0 r.0 r.1.1).2.whole sound (λ starved. had (subst (λ (x : Transcript). x.standing ≡ standing.Starved) r.2 starved))).0)
+
+  -- and memory ran out for none
+  module _ (sound : failed ≡ false) (none : NoneStarved all) where
+    pub all_open : (c : Transcript) → c ∈ all → c.standing ≡ standing.Open
+    all_open c there = opened_each sound c there (none c there)
+
+    had : (k : ℕ) (r : ProgramRun P) → slice_get runs k ≡ Some r → r.transcript.standing ≡ standing.Starved → ⊥
+    had k r at = none r.transcript (k, map_to (λ (x : ProgramRun P). x.transcript) runs k r at)
 
     own_waits_not : (k : ℕ) → k < length runs → phase_at f (k + 1) ≡ Sealed → ⊥
     own_waits_not k within =
         let r = at_within runs k within in
         let is = run_there k r.0 r.1 in
-        (complete promises failed f (k + 1) v is.0 r.0 is.2 sound (none r.0 (k, r.1))).1
+        (complete promises failed f (k + 1) v is.0 r.0 is.2 sound (had k r.0 r.1)).1
 
     pub none_waits : (seat : ℕ) → IsSession f seat → phase_at f seat ≡ Sealed → ⊥
     none_waits seat session sealed =
@@ -161,7 +189,7 @@ module _ {P : Type 0} (laws : EndLaws) (promises : P → P → Transcript → Ty
         let is = run_there k at.0 at.1 in
         subst (λ (x : List ScriptLine). IsComplete f (k + 1) x own) at.2
         (subst (λ (x : List Answer). IsComplete f (k + 1) at.0.transcript.lines.items x) at.3
-        (complete promises failed f (k + 1) v is.0 at.0 is.2 sound (none at.0 (k, at.1))))
+        (complete promises failed f (k + 1) v is.0 at.0 is.2 sound (had k at.0 at.1)))
 
     pub all_flushed : f.flushed ≡ f.tail
     all_flushed = ran.flushed sound none_waits

@@ -32,4 +32,5 @@ unrun may state slots o before mid t opens = record {
         logged = since_then (KeepsOpening sound_law.meets state is.pair) (KeepsTold [] state) a b b (λ first keeps. opening_told [] state is.pair first b refl refl keeps) is.keeps;
         acknowledged = λ place is. absurd (none_in_nil _ is.told);
       }) (opens (flushed_log o []) (opened_log state o t));
+  snapshots = λ c there. absurd (none_in_nil c there);
 }

@@ -1,6 +1,7 @@
 -- What clients leave on a disk.
 use Rattle.std.specs.Prelude.{◌≡◌, ◌≤◌, List, [], ◌∷◌, ◌++◌, length, Option}
 use Rattle.erm_ckpt.specs.Recovered.{State}
+use Rattle.erm_client.specs.Dealings.{snapshots_told}
 use Rattle.erm_client.specs.declared.transcript.Transcript.{Transcript}
 use Rattle.erm_client.specs.Laws.{answers_of, lines_of}
 use Rattle.erm_client_invariant.specs.Laws.{commits_of}
@@ -14,8 +15,9 @@ use Rattle.erm_invariant.specs.Commits.{EachFrontRuns}
 use Rattle.erm_joined.specs.Merged.{closes_from}
 use Rattle.erm_lines.specs.Executions.{IsOpeningOf}
 use Rattle.erm_lines_at_once.specs.Executions.{IsRunAtOnce}
-use Rattle.erm_model.specs.Committed.{Committed, RunsInOrder, rank_of, state_after}
+use Rattle.erm_model.specs.Committed.{Committed, HasSnapshotReplies, RunsInOrder, rank_of, state_after}
 use Rattle.erm_model.specs.declared.limits.TheConstants.{SESSIONS}
+use Rattle.erm_model.specs.Member.{◌∈◌}
 use Rattle.erm_model.specs.SerialOrder.{IsSerialOrder}
 use Rattle.erm_node.specs.TreeMap.{map_of_rows}
 use Rattle.erm_outside.specs.Disk.{Step, Tells}
@@ -29,10 +31,12 @@ told_lines [] = []
 told_lines (c ∷ all) = answer_lines c.lines.items c.answers.items ++ told_lines all
 
 -- Clients ran on a disk from which a state was found. The commits that their transcripts tell, those below any stamp, are a serial run from its map. They
--- outlive a crash at any moment; and once a transcript tells that a commit is on the disk, all below it do.
+-- outlive a crash at any moment; and once a transcript tells that a commit is on the disk, all below it do. Each snapshot that a transcript tells to have
+-- ended was answered as on the state that the commits below its begin stamp make.
 pub record ClientsOutlive (before after : Option (List Step)) (state : State) (all : List Transcript) : Type 0 where
   pub fronts : EachFrontRuns (all_commits all) (map_of_rows state.rows)
   pub outlives : Tells (Outlives (all_commits all) state (told_lines all)) before after
+  pub snapshots : (c : Transcript) → c ∈ all → (x : Committed) → x ∈ snapshots_told c → HasSnapshotReplies (all_commits all) (map_of_rows state.rows) x.begin x.steps
 
 -- They ran to their end: their transcripts are a script that was run at once, from the state's map, with these closings, and tell its commits. At the end
 -- the disk recovers to the map behind the last of them in their serial order.

@@ -11,11 +11,12 @@ use Rattle.erm_client_beside.specs.Lists.{ArePaired}
 use Rattle.erm_client_disk.specs.declared.run.ProgramsStop.{ProgramsStop}
 use Rattle.erm_client_disk.specs.declared.run.ProgramsStop.TheVariants as stops
 use Rattle.erm_client_disk.specs.Leaves.{ClientsAreDone, ClientsOutlive}
+use Rattle.erm_disk_at_once.specs.Runs.{KeepsSegments, KeepsSlots}
 use Rattle.erm_disk_run.specs.Found.{IsFound}
 use Rattle.erm_disk_run.specs.Stops.{CountsStop, StopsRun}
 use Rattle.erm_model.specs.declared.limits.TheConstants.{LAST_NUMBER, LAST_RUN, STOP}
 use Rattle.erm_model.specs.Member.{◌∈◌}
-use Rattle.erm_outside.specs.Disk.{Step}
+use Rattle.erm_outside.specs.Disk.{Step, Tells}
 use Rattle.erm_outside.specs.Faults.{Rose}
 use Rattle.erm_report.specs.declared.answer.Answer.{Answer}
 
@@ -30,30 +31,30 @@ closes_of runs = map (λ r. r.closed) runs
 abbrev pub NoneStarved : List Transcript → Type 0
 NoneStarved all = (c : Transcript) → c ∈ all → c.standing ≡ standing.Starved → ⊥
 
--- memory sufficed each
-abbrev pub NoneLacked : {P : Type 0} → List (ProgramRun P) → Type 0
-NoneLacked {P} runs = (r : ProgramRun P) → r ∈ runs → r.lacked ≡ false
-
 -- they have no more lines in all than a session may have transactions
 abbrev pub AreShort : List Transcript → Type 0
 AreShort all = length (lines_of all) ≤ LAST_NUMBER
 
--- Programs ran on a disk from which a state was found, below the end of the log and of runs. Each keeps its promise. Unless memory ran out within a line the
--- commits that their transcripts tell outlive a crash at any moment. Where the disk hasn't failed, and memory sufficed, none was told to stop, and at the end
--- the disk recovers to the map behind all commits.
+-- Programs ran on a disk from which a state was found, below the end of the log and of runs. Each keeps its promise. The commits that their transcripts tell
+-- outlive a crash at any moment, also those of a client for which memory ran out within a line, and of the others beside it. The slots and the segments below
+-- that of the place found are as they were. Where the disk hasn't failed none was told to stop; and where memory ran out for none within a line, at the end the
+-- disk recovers to the map behind all commits.
 pub record WereRun {P : Type 0} (promises : P → P → Transcript → Type 0) (before after : Option (List Step)) (state : State) (failed : Bool) (programs : List P) (runs : List (ProgramRun P)) : Type 0 where
   pub low : state.at < STOP
   pub run_low : state.run < LAST_RUN
   pub promised : ArePaired (λ k program r. (r.transcript.seat ≡ k + 1) × promises program r.program r.transcript) programs runs
   pub from_first : AreFrom 1 (transcripts_of runs)
-  pub outlive : NoneStarved (transcripts_of runs) → AreShort (transcripts_of runs) → ClientsOutlive before after state (transcripts_of runs)
-  pub opened : failed ≡ false → NoneLacked runs → (c : Transcript) → c ∈ transcripts_of runs → c.standing ≡ standing.Open
-  pub done : failed ≡ false → NoneLacked runs → AreShort (transcripts_of runs) → ClientsAreDone before after state (transcripts_of runs) (closes_of runs)
+  pub outlive : AreShort (transcripts_of runs) → ClientsOutlive before after state (transcripts_of runs)
+  pub slots : Tells KeepsSlots before after
+  pub segments : Tells (KeepsSegments state) before after
+  pub opened : failed ≡ false → (c : Transcript) → c ∈ transcripts_of runs → (c.standing ≡ standing.Starved → ⊥) → c.standing ≡ standing.Open
+  pub done : failed ≡ false → NoneStarved (transcripts_of runs) → AreShort (transcripts_of runs) → ClientsAreDone before after state (transcripts_of runs) (closes_of runs)
 
--- No program ran: the log wasn't opened, for this cause, or memory ran out behind that, and the disk has the map found. The programs come back.
+-- No program ran: the log wasn't opened, for this cause, or memory ran out behind that, and the disk has the map found, with its slots and older segments as they
+-- were. The programs come back.
 abbrev pub NoneRan : {P : Type 0} → ProgramsStop P → List P → Option (List Step) → Option (List Step) → Type 0
 NoneRan (stops.Unopened stop back) programs before after = (back.items ≡ programs) × StopsRun stop before after
-NoneRan (stops.Memory back) programs before after = (back.items ≡ programs) × ((state : State) × IsFound before state × ClientsOutlive before after state [])
+NoneRan (stops.Memory back) programs before after = (back.items ≡ programs) × ((state : State) × IsFound before state × ClientsOutlive before after state [] × Tells KeepsSlots before after × Tells (KeepsSegments state) before after)
 
 -- the disk's count of faults rose exactly where that is why no program ran
 abbrev pub CountsNone : {P : Type 0} → ProgramsStop P → ℕ → ℕ → Type 0

@@ -97,9 +97,11 @@ fn run_opened_log<
 /// does the disk.
 ///
 /// Each program keeps its promise. A crash at any moment leaves the commits below one stamp that the transcripts tell: all that a client was told to be on
-/// the disk, once it has been told, and all at the end, where the disk hasn't failed and memory sufficed each. Only where the disk fails, or memory runs out
-/// for one of them, may clients have been told to stop. Where memory runs out for a client within a line that client is asked no more, and what a crash
-/// leaves of this run is not told; nor is it where they have 2 ^ 32 lines or more in all.
+/// the disk, once it has been told, and all at the end, where the disk hasn't failed and memory ran out for none within a line. That isn't told where they have
+/// 2 ^ 32 lines or more in all. The disk's slots, and the segments of the log below that of the place found, are as they were.
+///
+/// Only where the disk fails may clients have been told to stop. Where memory runs out for a client within a line that client is asked no more, and what it
+/// had in progress is given up: of what it did only this line isn't known. What it was told before stays promised, and the others go on.
 ///
 /// It waits for the programs: its clauses are of what it returns, if it returns.
 ///

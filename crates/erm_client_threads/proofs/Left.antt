@@ -3,7 +3,7 @@ use Rattle.std.proofs.Common.{◌≡◌, ℕ, Option, Some, None, sym, ap, ◌�
 use Rattle.erm_beside.specs.Laws.{GoesOnward}
 use Rattle.erm_beside.specs.Onward.{onward_then}
 use Rattle.erm_client.proofs.Grown.{new_ran}
-use Rattle.erm_client.specs.Clients.{FinishesWork, GoesOn, HasRun}
+use Rattle.erm_client.specs.Clients.{FinishesWork, GoesOn, HasRun, StarvesWork}
 use Rattle.erm_client.specs.declared.client.Client.{Client}
 use Rattle.erm_client.specs.declared.client.Finished.{Finished}
 use Rattle.erm_client.specs.declared.transcript.Standing.TheVariants as standing
@@ -26,9 +26,10 @@ module _ {S T X : Type 0} (stands : X → S → Type 0) (seat : S → ℕ) (own 
   pub client_left : (left : Finished S T) → stands d.shared.now left.session → GoesOnward (seat d.session) (seat left.session) (ends d.session) (ends left.session)
       → left.transcript ≡ d.transcript → (phase_at (own left.session) (seat d.session) ≡ Active → ⊥)
       → FinishesWork (ends d.session) (own d.session) (ends left.session) (own left.session) left.transcript left.closed
+      → StarvesWork (ends d.session) (own d.session) (ends left.session) (own left.session) left.transcript left.closed
       → (d.transcript.standing ≡ standing.Open → left.closed ≡ None → phase_at (own left.session) (seat d.session) ≡ Sealed → told left.turns)
       → (d.transcript.standing ≡ standing.Stopped → told left.turns) → IsLeft stands seat own ends told c left
-  client_left left standing_so onward same rests did waits stops =
+  client_left left standing_so onward same rests did starved waits stops =
       let seat_is : seat d.session ≡ seat c.session = on.onward.seat_is in
       record {
         stands_so = subst (λ x. stands x.now left.session) on.same standing_so;
@@ -37,6 +38,8 @@ module _ {S T X : Type 0} (stands : X → S → Type 0) (seat : S → ℕ) (own 
         seat_is = ap (λ (t : Transcript). t.seat) same ∙ on.client.seat_is ∙ seat_is;
         transcript_ok = subst IsTranscript (sym same) on.client.transcript_ok;
         did = λ some f end. did some (own c.session) (λ g at. subst (λ (t : Transcript). HasRun g (own c.session) t (own d.session)) (sym same) (ran_so g at)) f end;
+        starved = λ lacked f end.
+            starved lacked (own c.session) (λ g at. subst (λ (t : Transcript). HasRun g (own c.session) t (own d.session)) (sym same) (ran_so g at)) f end;
         stops = λ stopped. stops (sym (ap (λ (t : Transcript). t.standing) same) ∙ stopped);
         waits = λ opened none sealed. waits (sym (ap (λ (t : Transcript). t.standing) same) ∙ opened) none (subst (λ (q : ℕ). phase_at (own left.session) q ≡ Sealed) (sym seat_is) sealed);
       }

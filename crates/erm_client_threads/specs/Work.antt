@@ -2,7 +2,7 @@
 use Rattle.std.specs.Prelude.{◌≡◌, ℕ, List, None, Some}
 use Rattle.std.specs.List.{slice_get}
 use Rattle.erm_beside.specs.Laws.{GoesOnward}
-use Rattle.erm_client.specs.Clients.{IsClient}
+use Rattle.erm_client.specs.Clients.{IsClient, WasStarved}
 use Rattle.erm_client.specs.declared.client.Client.{Client}
 use Rattle.erm_client.specs.declared.client.Finished.{Finished}
 use Rattle.erm_client.specs.declared.transcript.Standing.TheVariants as standing
@@ -22,7 +22,8 @@ pub record IsJob {S T X P : Type 0} (stands : X → S → Type 0) (seat : S → 
   pub none : job.finished ≡ None
 
 -- A client was left so: its session stands, is of its seat and isn't active. It did the work that its transcript tells, in each world in which all may end as
--- far as it knows, unless memory ran out for it in a line. Where it was told to stop, or is sealed and wasn't closed, it was so by what it waited by.
+-- far as it knows, unless memory ran out for it in a line: then it did what its transcript tells, and what it had in progress was given up. Where it was told
+-- to stop, or is sealed and wasn't closed, it was so by what it waited by.
 pub record IsLeft {S T X : Type 0} (stands : X → S → Type 0) (seat : S → ℕ) (own : S → View) (ends : S → View → Type 0) (told : T → Type 0) (client : Client S T X) (left : Finished S T) : Type 0 where
   pub stands_so : stands client.shared.now left.session
   pub onward : GoesOnward (seat client.session) (seat left.session) (ends client.session) (ends left.session)
@@ -31,6 +32,8 @@ pub record IsLeft {S T X : Type 0} (stands : X → S → Type 0) (seat : S → �
   pub transcript_ok : IsTranscript left.transcript
   pub did : (left.transcript.standing ≡ standing.Starved → ⊥) → (f : View) → ends left.session f
       → DidWork f left.transcript.seat left.transcript.lines.items left.transcript.answers.items left.closed (own client.session) (own left.session)
+  pub starved : left.transcript.standing ≡ standing.Starved → (f : View) → ends left.session f
+      → WasStarved f left.transcript.seat left.transcript.lines.items left.transcript.answers.items left.closed (own client.session) (own left.session)
   pub stops : left.transcript.standing ≡ standing.Stopped → told left.turns
   pub waits : left.transcript.standing ≡ standing.Open → left.closed ≡ None → phase_at (own left.session) (seat client.session) ≡ Sealed → told left.turns
 

@@ -1,7 +1,7 @@
 //! What the thread of a program does.
 ghost use Rattle.std.specs.Prelude.{◌≡◌, None};
 ghost use Rattle.erm_beside.specs.Laws.{GoesOnward};
-ghost use Rattle.erm_client.specs.Clients.{FinishesWork, HasRun, IsClient};
+ghost use Rattle.erm_client.specs.Clients.{FinishesWork, HasRun, IsClient, StarvesWork};
 ghost use Rattle.erm_client_threads.specs.Work.{IsJob, Worked};
 ghost use Rattle.erm_model.specs.declared.outcome.Phase.TheVariants.{Active, Sealed};
 ghost use Rattle.erm_model.specs.RowTransaction.{SameLaw};
@@ -47,6 +47,7 @@ fn finish<'a, S: SafeSession, T: Turns, R: Wait>(rt: &R, client: Client<'a, S, T
     ensures transcript { result.transcript ≡ client.entry.transcript }
     ensures rests { phase_at (S.own result.session) (S.seat client.entry.session) ≡ Active → ⊥ }
     ensures did { FinishesWork (S.ends client.entry.session) (S.own client.entry.session) (S.ends result.session) (S.own result.session) result.transcript result.closed }
+    ensures starved { StarvesWork (S.ends client.entry.session) (S.own client.entry.session) (S.ends result.session) (S.own result.session) result.transcript result.closed }
     ensures waits { client.entry.transcript.standing ≡ Standing.Open → result.closed ≡ None → phase_at (S.own result.session) (S.seat client.entry.session) ≡ Sealed → T.told result.turns }
     ensures told { client.entry.transcript.standing ≡ Standing.Stopped → T.told result.turns }
 {

@@ -11,21 +11,22 @@ use Rattle.erm_client_invariant.proofs.Alone.{hears, others, progress_unfinished
 use Rattle.erm_client_told.proofs.Cut.{answered_are}
 use Rattle.erm_client_told.proofs.Lines.{answered_lines, few_answers}
 use Rattle.erm_client_told.proofs.Unsealed.{lines_unsealed, phases}
+use Rattle.erm_client_told.specs.Starved.{StarvedTranscriptsTellCommits}
 use Rattle.erm_client_told.specs.Told.{TranscriptsTellCommits, all_commits, answers_by}
 use Rattle.erm_cut_at_once.specs.Laws.{CutRunsCloseUnseen}
-use Rattle.erm_good_at_once.specs.CutReports.{answered_of}
+use Rattle.erm_good_at_once.specs.CutReports.{IsUnseen, answered_of}
 use Rattle.erm_good_report.specs.GoodReport.{places_of}
 use Rattle.erm_good_report.specs.Phases.{Closed, phase_after, phase_of}
 use Rattle.erm_good_report.specs.Transactions.{Progress, Said, Transaction, committed_as, committed_of, heard, history_of, nothing, progress_of, said_of, transactions_of}
 use Rattle.erm_good_report.specs.Transactions as dealt
 use Rattle.erm_joined.specs.Merged.{counts_of}
-use Rattle.erm_lines_at_once.specs.CutRuns.{IsCutRunAtOnce}
 use Rattle.erm_model.specs.Committed.{Committed}
 use Rattle.erm_model.specs.declared.outcome.Phase.{Phase}
 use Rattle.erm_model.specs.declared.outcome.Phase.TheVariants.{Idle, Sealed}
+use Rattle.erm_model.specs.Member.{◌∈◌}
 use Rattle.erm_report.specs.declared.answer.Answer.{Answer}
 use Rattle.erm_script.specs.declared.script.ScriptLine.{ScriptLine}
-use Rattle.erm_world.specs.World.{View}
+use Rattle.erm_starved_at_once.specs.Laws.{StarvedRunsTell}
 
 -- PLACES. What transcripts say, one behind another.
 abbrev pub said_all : List Transcript → List Said
@@ -57,12 +58,11 @@ never_sealed q s (c ∷ all) p are not is =
     (lines_unsealed q p c.lines.items c.answers.items (λ l there. (ok.own l there).of_client) ok.told not) (sym parts ∙ is)
 
 -- so none was decided behind them
-pub none_decided : CutRunsCloseUnseen → (v f : View) (all : List Transcript) (closed : List Closed) → AreFrom 1 all
-    → IsCutRunAtOnce v (lines_of all) (counts_of (answers_by all)) (answers_of all) closed f → closed ≡ []
-none_decided unseen v f all [] are run = refl
-none_decided unseen v f all (c ∷ closed) are run =
-    let sealed : phase_of c.session (said_of (answered_of (counts_of (answers_by all)) (lines_of all)) (answers_of all)) ≡ Sealed =
-    (unseen v f (lines_of all) (counts_of (answers_by all)) (answers_of all) (c ∷ closed) run c (0, refl)).sealed in
+none_unseen : (all : List Transcript) (closed : List Closed) → AreFrom 1 all
+    → ((c : Closed) → c ∈ closed → IsUnseen (lines_of all) (answered_of (counts_of (answers_by all)) (lines_of all)) (answers_of all) c) → closed ≡ []
+none_unseen all [] are unseen = refl
+none_unseen all (c ∷ closed) are unseen =
+    let sealed : phase_of c.session (said_of (answered_of (counts_of (answers_by all)) (lines_of all)) (answers_of all)) ≡ Sealed = (unseen c (0, refl)).sealed in
     let said : said_of (answered_of (counts_of (answers_by all)) (lines_of all)) (answers_of all) ≡ said_all all =
     ap (λ (ls : List ScriptLine). said_of ls (answers_of all)) (answered_are all are) ∙ said_so 1 all are in
     absurd (never_sealed c.session 1 all Idle are idle (sym (ap (λ (x : List Said). phases c.session Idle x) said) ∙ sealed))
@@ -82,13 +82,13 @@ of_others q s (c ∷ all) p below are =
     (others q p c.lines.items c.answers.items (λ l there own. let line = are.1.own l there in let seat = are.0 in omega (arith, line.own, seat, below, own)))
     ∙ of_others q (s + 1) all p (omega (arith, below)) are.2
 
-first_own : (s : ℕ) (c : Transcript) (all : List Transcript) → AreFrom s (c ∷ all) → progress_of s (said_all (c ∷ all)) ≡ dealings_of c
+pub first_own : (s : ℕ) (c : Transcript) (all : List Transcript) → AreFrom s (c ∷ all) → progress_of s (said_all (c ∷ all)) ≡ dealings_of c
 first_own s c all are =
     hears_then s nothing (said_of c.lines.items c.answers.items) (said_all all)
     ∙ of_others s (s + 1) all (progress_of s (said_of c.lines.items c.answers.items)) (omega arith) are.2
     ∙ ap (λ (q : ℕ). progress_of q (said_of c.lines.items c.answers.items)) (sym are.0)
 
-behind_own : (s q : ℕ) (c : Transcript) (all : List Transcript) → s < q → AreFrom s (c ∷ all) → progress_of q (said_all (c ∷ all)) ≡ progress_of q (said_all all)
+pub behind_own : (s q : ℕ) (c : Transcript) (all : List Transcript) → s < q → AreFrom s (c ∷ all) → progress_of q (said_all (c ∷ all)) ≡ progress_of q (said_all all)
 behind_own s q c all above are =
     hears_then q nothing (said_of c.lines.items c.answers.items) (said_all all)
     ∙ ap (λ (x : Progress). hears q x (said_all all))
@@ -135,11 +135,21 @@ commits_so s (suc n) (c ∷ all) are most =
     (λ q above. ap (λ (p : Progress). history_of (p.over ++ option_to_list p.current)) (behind_own s q c all (omega (arith, above)) are)))
     ∙ ap (λ (cs : List Committed). commits_told c ++ cs) (commits_so (s + 1) n all are.2 (omega (arith, most)))
 
--- THE LAW
+-- THE LAWS. So the commits are those that the transcripts tell, also where memory ran out for some.
+tell_all : (sessions : ℕ) (all : List Transcript) (closed : List Closed) → AreFrom 1 all → length all ≤ sessions
+    → ((c : Closed) → c ∈ closed → IsUnseen (lines_of all) (answered_of (counts_of (answers_by all)) (lines_of all)) (answers_of all) c)
+    → history_of (transactions_of sessions (places_of (answered_of (counts_of (answers_by all)) (lines_of all)) (answers_of all) closed)) ≡ all_commits all
+tell_all sessions all closed are few unseen =
+    let said = said_of (answered_of (counts_of (answers_by all)) (lines_of all)) (answers_of all) in
+    ap (λ (cs : List Closed). history_of (transactions_of sessions (places_of (answered_of (counts_of (answers_by all)) (lines_of all)) (answers_of all) cs))) (none_unseen all closed are unseen)
+    ∙ ap (λ (x : List Said). history_of (transactions_of sessions x))
+    (append-nil said ∙ ap (λ (ls : List ScriptLine). said_of ls (answers_of all)) (answered_are all are) ∙ said_so 1 all are)
+    ∙ commits_so 1 sessions all are few
+
 pub tell_commits : CutRunsCloseUnseen → TranscriptsTellCommits
 tell_commits unseen v f all closed are sessions run =
-    let said = said_of (answered_of (counts_of (answers_by all)) (lines_of all)) (answers_of all) in
-    ap (λ (cs : List Closed). history_of (transactions_of v.opening.sessions (places_of (answered_of (counts_of (answers_by all)) (lines_of all)) (answers_of all) cs))) (none_decided unseen v f all closed are run)
-    ∙ ap (λ (x : List Said). history_of (transactions_of v.opening.sessions x))
-    (append-nil said ∙ ap (λ (ls : List ScriptLine). said_of ls (answers_of all)) (answered_are all are) ∙ said_so 1 all are)
-    ∙ commits_so 1 v.opening.sessions all are sessions
+    tell_all v.opening.sessions all closed are sessions (unseen v f (lines_of all) (counts_of (answers_by all)) (answers_of all) closed run)
+
+pub starved_tell_commits : StarvedRunsTell → StarvedTranscriptsTellCommits
+starved_tell_commits tell v f all closed are sessions run =
+    tell_all v.opening.sessions all closed are sessions (tell.unseen v f (lines_of all) (counts_of (answers_by all)) (answers_of all) closed run)

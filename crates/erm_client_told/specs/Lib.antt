@@ -1,1 +1,2 @@
+pub mod Starved
 pub mod Told

@@ -29,8 +29,7 @@ Apart ws = (j k : ℕ) → j < k → k < length ws → (get_or ws j no_claim).ve
 claim_shown : (ws : List Claim) (i : ℕ) (c : VersionWritten) → slice_get (map written_of ws) i ≡ Some c → (i < length ws) × ((get_or ws i no_claim).version.oid ≡ c.oid)
 claim_shown ws i c at =
     let within : i < length (map written_of ws) = slice_get_within (map written_of ws) i c at in
-    let shown : get_or (map written_of ws) i (written_of no_claim) ≡ c = get_or_from_slice_get (map written_of ws) i c (written_of no_claim) at in
-    (
+    let shown : get_or (map written_of ws) i (written_of no_claim) ≡ c = get_or_from_slice_get (map written_of ws) i c (written_of no_claim) at in (
       let n = length-map ws written_of in omega (arith, n, within),
       ap (λ (v : VersionWritten). v.oid) (sym (listn.get_or-map written_of ws i no_claim) ∙ shown),
     )

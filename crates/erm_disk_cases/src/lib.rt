@@ -19,3 +19,5 @@ mod recover;
 mod runs;
 #[cfg(test)]
 mod told;
+#[cfg(test)]
+mod worlds;

@@ -17,8 +17,8 @@ pub fn stopping(alloc: Global, calls: u64) -> Silent<MemDisk> {
     }
 }
 
-// The text of lines.
-fn text_of(alloc: Global, lines: &[Line]) -> Result<Text, AllocError> {
+/// The text of lines.
+pub fn text_of(alloc: Global, lines: &[Line]) -> Result<Text, AllocError> {
     let mut text = Text::new(alloc);
     for line in lines {
         text.add(line)?;

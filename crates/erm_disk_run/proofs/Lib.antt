@@ -9,6 +9,7 @@ pub mod Outlived
 pub mod SavedAt
 pub mod SlotsLeft
 pub mod Spared
+pub mod Spelled
 pub mod Told
 pub mod ToldEnds
 pub mod ToldRun

@@ -63,11 +63,11 @@ OverwritesKey transactions table key v =
     HasKept (PutsKey table key) v
     ⊎ (HasLine (ChangesKey table key) v × WasPut transactions table key v.begin)
 
--- The predecessor stamp is at least that of each commit below the begin whose put of a key stayed which the transaction got, put or deleted.
+-- The predecessor stamp is at least that of each commit below the begin that overwrites the record of a key which the transaction got, put or deleted.
 abbrev pub IsLowEnd : List Transaction → Transaction → ℕ → Type 0
 IsLowEnd transactions t pred = (table key stamp succ : ℕ) (u : Transaction)
     → HasLine (λ e. GetsKey table key e ⊎ PutsKey table key e ⊎ DeletesKey table key e) t
-    → IsCommit transactions u stamp succ → stamp < t.begin → HasKept (PutsKey table key) u → stamp ≤ pred
+    → IsCommit transactions u stamp succ → stamp < t.begin → OverwritesKey transactions table key u → stamp ≤ pred
 
 -- the transaction got the key before any put or del of its own of it
 pub record GetsFirst (t : Transaction) (table key : ℕ) : Type 0 where

@@ -188,10 +188,7 @@ impl<L: RowLaw> RowWorld for MapWorld<L> {
         if n == 0 || held < n {
             return Err(NoSave { held });
         }
-        restore(
-            &mut self.work.claims,
-            self.saves[n as usize - 1].as_slice(),
-        );
+        restore(&mut self.work.claims, self.saves[n as usize - 1].as_slice());
         self.saves.truncate(n as usize);
         Ok(())
     }

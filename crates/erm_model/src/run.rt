@@ -24,12 +24,7 @@ pub fn run_one(alloc: Global, map: &mut Map, ops: &[Op]) -> Result<Vec<Reply>, A
 }
 
 // The reply to one operation, which changes the map and the maps saved as it says.
-fn answer(
-    alloc: Global,
-    map: &mut Map,
-    saved: &mut Vec<Map>,
-    op: &Op,
-) -> Result<Reply, AllocError>
+fn answer(alloc: Global, map: &mut Map, saved: &mut Vec<Map>, op: &Op) -> Result<Reply, AllocError>
     ensures reply { IfOk result (λ reply. IsReply (maps map.old saved.old.items) op.now reply) }
     ensures done { OnOk result (maps map.new saved.new.items ≡ after op.now (maps map.old saved.old.items)) }
     ensures err { OnErr result (map.new ≡ map.old) }

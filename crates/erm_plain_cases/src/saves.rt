@@ -69,6 +69,86 @@ const TWO_SAVEPOINTS: [Turn; 23] = [
     Turn(1, Call::Settle, Reply::Commits([2, 37, 63, 37, 13])),
 ];
 
+// A row set before a savepoint counts as set behind each way back to it, and one claimed since as not set: a savepoint made there has these rows.
+const AGAIN: [Turn; 22] = [
+    Turn(1, Call::Begin, Reply::At(37)),
+    Turn(1, Call::Write(16, 11), Reply::Done),
+    Turn(1, Call::Save, Reply::Saved(1)),
+    Turn(1, Call::Write(16, 12), Reply::Done),
+    Turn(1, Call::Write(17, 21), Reply::Done),
+    Turn(1, Call::Back(1), Reply::Done),
+    Turn(1, Call::Save, Reply::Saved(2)),
+    Turn(1, Call::Write(16, 13), Reply::Done),
+    Turn(1, Call::Write(17, 22), Reply::Done),
+    Turn(1, Call::Back(2), Reply::Done),
+    Turn(1, Call::Read(16), Reply::First(11)),
+    Turn(1, Call::Read(17), Reply::Filled(20)),
+    Turn(1, Call::Write(17, 23), Reply::Done),
+    Turn(1, Call::Save, Reply::Saved(3)),
+    Turn(1, Call::Write(17, 24), Reply::Done),
+    Turn(1, Call::Back(3), Reply::Done),
+    Turn(1, Call::Read(17), Reply::First(23)),
+    Turn(1, Call::Back(1), Reply::Done),
+    Turn(1, Call::Read(16), Reply::First(11)),
+    Turn(1, Call::Read(17), Reply::Filled(20)),
+    Turn(1, Call::Seal, Reply::At(37)),
+    Turn(1, Call::Settle, Reply::Commits([2, 37, 61, 37, 13])),
+];
+
+// What was read before a session goes back was read: each of two sessions has read both objects, goes back, and writes one.
+const READS_STAY: [Turn; 16] = [
+    Turn(1, Call::Begin, Reply::At(37)),
+    Turn(2, Call::Begin, Reply::At(37)),
+    Turn(1, Call::Save, Reply::Saved(1)),
+    Turn(1, Call::Read(16), Reply::First(10)),
+    Turn(1, Call::Read(17), Reply::Filled(20)),
+    Turn(1, Call::Back(1), Reply::Done),
+    Turn(2, Call::Save, Reply::Saved(1)),
+    Turn(2, Call::Read(16), Reply::First(10)),
+    Turn(2, Call::Read(17), Reply::Filled(20)),
+    Turn(2, Call::Back(1), Reply::Done),
+    Turn(1, Call::Write(16, 30), Reply::Done),
+    Turn(2, Call::Write(17, 40), Reply::Done),
+    Turn(1, Call::Seal, Reply::At(37)),
+    Turn(1, Call::Settle, Reply::Commits([2, 37, 44, 37, 13])),
+    Turn(2, Call::Seal, Reply::At(44)),
+    Turn(2, Call::Settle, Reply::Excluded([44, 37, 37])),
+];
+
+// A write that was undone overwrites what another session has read, by the row that was there.
+const CLAIMS_STAY: [Turn; 13] = [
+    Turn(1, Call::Begin, Reply::At(37)),
+    Turn(2, Call::Begin, Reply::At(37)),
+    Turn(1, Call::Save, Reply::Saved(1)),
+    Turn(1, Call::Write(16, 30), Reply::Done),
+    Turn(1, Call::Read(16), Reply::First(30)),
+    Turn(1, Call::Back(1), Reply::Done),
+    Turn(1, Call::Read(17), Reply::Filled(20)),
+    Turn(2, Call::Read(16), Reply::First(10)),
+    Turn(2, Call::Write(17, 40), Reply::Done),
+    Turn(1, Call::Seal, Reply::At(37)),
+    Turn(1, Call::Settle, Reply::Commits([2, 37, 44, 37, 13])),
+    Turn(2, Call::Seal, Reply::At(44)),
+    Turn(2, Call::Settle, Reply::Excluded([44, 37, 37])),
+];
+
+const SAVED: [Turn; 2] = [
+    Turn(1, Call::Begin, Reply::At(13)),
+    Turn(1, Call::Save, Reply::Saved(1)),
+];
+
+// Objects claimed behind a savepoint, and objects read there, are as many as a transaction may claim and read: behind a way back it is refused
+// one more of each. Each claimed row is that of the opening again.
+const LIMITS: [Turn; 7] = [
+    Turn(1, Call::Back(1), Reply::Done),
+    Turn(1, Call::Claim(656), Reply::Stopped(RowStop::WritesFull)),
+    Turn(1, Call::Read(656), Reply::Stopped(RowStop::ReadsFull)),
+    Turn(1, Call::Read(16), Reply::First(0)),
+    Turn(1, Call::Read(143), Reply::First(0)),
+    Turn(1, Call::Seal, Reply::At(13)),
+    Turn(1, Call::Settle, Reply::Commits([1, 13, 146, 13, 0])),
+];
+
 const BEGUN: [Turn; 1] = [Turn(1, Call::Begin, Reply::At(13))];
 
 // A ninth savepoint is refused, until the session goes back. A transaction that ends takes its savepoints with it.
@@ -87,14 +167,32 @@ const FULL: [Turn; 8] = [
     Turn(1, Call::Back(1), Reply::NotBack(NoSave { held: 0 })),
 ];
 
-const CASES: [Case; 3] = [
-    (
-        "one row",
-        &[Step::Turns(&COMMITTED), Step::Turns(&ONE_ROW)],
-    ),
+const CASES: [Case; 7] = [
+    ("one row", &[Step::Turns(&COMMITTED), Step::Turns(&ONE_ROW)]),
     (
         "two savepoints",
         &[Step::Turns(&COMMITTED), Step::Turns(&TWO_SAVEPOINTS)],
+    ),
+    (
+        "a savepoint behind a way back",
+        &[Step::Turns(&COMMITTED), Step::Turns(&AGAIN)],
+    ),
+    (
+        "reads stay",
+        &[Step::Turns(&COMMITTED), Step::Turns(&READS_STAY)],
+    ),
+    (
+        "claims stay",
+        &[Step::Turns(&COMMITTED), Step::Turns(&CLAIMS_STAY)],
+    ),
+    (
+        "limits behind a way back",
+        &[
+            Step::Turns(&SAVED),
+            Step::Many(Each::Fills, 16, 128),
+            Step::Many(Each::Reads, 144, 512),
+            Step::Turns(&LIMITS),
+        ],
     ),
     (
         "eight savepoints",

@@ -51,3 +51,11 @@ lead (NotFlushed flushed) = codes "not flushed "
 lead NoReceipt = codes "no receipt"
 lead (Unfilled stamp) = codes "unfilled "
 lead DiskFault = codes "disk fault"
+
+-- the answers to `save` and `back`
+abbrev pub IsOfSave : Answer → Type 0
+IsOfSave (Saved held) = Unit {0}
+IsOfSave (Back n) = Unit {0}
+IsOfSave SavesFull = Unit {0}
+IsOfSave (NoSave held) = Unit {0}
+IsOfSave answer = ⊥

@@ -56,7 +56,6 @@ impl Savepoint {
     }
 }
 
-
 // The row, where a write has set it.
 fn set_row(row: Row, is_set: bool) -> Option<Row>
     ensures { result ≡ row_set row is_set }

@@ -95,11 +95,11 @@ module _ {L : Type 0} (law : Law) (table : Table L) (s : TableSession L) (stands
           saved =
               ap (λ (u : View). with_saves (own_saves saving) u) (own_at s saving same)
               ∙ kept.holds_with (own_saves s) (own_saves saving) v seat (own_saves s seat ++ (work_at v seat).claims ∷ [])
-                  (saves_then s saving same
-                  ∙ adds.shows x stands.session rows_are
-                  ∙ ap (λ (l : List (List VersionWritten)). l ++ map written_of x.current.writes ∷ []) (sym (saves_here s))
-                  ∙ ap (λ (cs : List VersionWritten). own_saves s seat ++ cs ∷ []) (sym claims_are))
-                  (others_then s saving same);
+              (saves_then s saving same
+              ∙ adds.shows x stands.session rows_are
+              ∙ ap (λ (l : List (List VersionWritten)). l ++ map written_of x.current.writes ∷ []) (sym (saves_here s))
+              ∙ ap (λ (cs : List VersionWritten). own_saves s seat ++ cs ∷ []) (sym claims_are))
+              (others_then s saving same);
         }
 
   -- the session goes on, and what all may end in stays

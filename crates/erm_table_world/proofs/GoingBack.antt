@@ -111,7 +111,7 @@ module _ {L : Type 0} (law : Law) (w : TableWorld L) (who : ℕ) (s : Session) (
       ap (λ (z : Session). with_saves (saves_in (set w.sessions.items (who - 1) z) (core_of (book pass))) (with_cuts TABLE_CELLS (view_of w.count (core_of (book pass))))) left
       ∙ ap (λ (b : Book). with_saves (saves_in (set w.sessions.items (who - 1) s) (core_of b)) (with_cuts TABLE_CELLS (view_of w.count (core_of b)))) same
       ∙ ap (λ (ss : List Session). with_saves (saves_in ss before) (with_cuts TABLE_CELLS (table_view w)))
-          (ap (λ (z : Session). set w.sessions.items (who - 1) z) at ∙ set-get_or w.sessions.items (who - 1) s)
+      (ap (λ (z : Session). set w.sessions.items (who - 1) z) at ∙ set-get_or w.sessions.items (who - 1) s)
 
   -- as many are shown as are held
   pub many_held : length (table_saves w who) ≡ length s.saves.points
@@ -149,7 +149,7 @@ module _ {L : Type 0} (law : Law) (w : TableWorld L) (who : ℕ) (s : Session) (
         let ran_before = ran_none law w.count who (book w.pass) stands.at.state in
         let mine = own_before law w who s stands session at w.pass ran_before in
         let there_is = ap (λ (l : List (List VersionWritten)). slice_get l place) mine ∙ shown_there s.stage s.saves.points x place on held
-            ∙ ap (λ (cs : List VersionWritten). Some (claims_saved saved cs)) (sym claims_are) in
+        ∙ ap (λ (cs : List VersionWritten). Some (claims_saved saved cs)) (sym claims_are) in
         kept.went_back (table_saves w) (table_saves (after_call w who pass t)) v (with_cuts TABLE_CELLS (view_of w.count (core_of (book pass)))) who place (claims_saved saved (work_at (table_view w) who).claims) active there_is
         (own_after law w who s stands session at pass ran t is ∙ cut ∙ ap (λ (l : List (List VersionWritten)). take (suc place) l) (sym mine))
         (others_after law w who s stands session at pass ran t is)

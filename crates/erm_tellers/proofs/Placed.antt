@@ -64,7 +64,7 @@ scanned m table low high found answered =
     let same : found ≡ answered.0 = ap found_in answered.1 in
     subst (λ (l : List (ℕ × List ℕ)). AreFound m table low high l) (sym same) answered.2
 
-shows : FoundTotalsAreTotals → (m : Database) (low high : ℕ) (current savings : List (ℕ × List ℕ)) (steps : List Step) → high < 2 ^ 64 → Audits low high current savings steps → RunsOne m steps
+pub shows : FoundTotalsAreTotals → (m : Database) (low high : ℕ) (current savings : List (ℕ × List ℕ)) (steps : List Step) → high < 2 ^ 64 → Audits low high current savings steps → RunsOne m steps
     → ShowsTotal m low high current savings
 shows totals m low high current savings steps bound audits run =
     let runs = subst (RunsOne m) audits run in

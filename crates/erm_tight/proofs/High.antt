@@ -1,6 +1,6 @@
 -- The successor stamp of a transaction that has its commit stamp is at most that of the next commit that overwrites a key's record which it read; so
 -- its window is tight.
-use Rattle.std.proofs.Common.{◌≡◌, ℕ, ◌+◌, ◌<◌, ◌≤◌, true, List, ◌∷◌, Some, None, inl, inr, refl, sym, ap, ◌∙◌, subst, arith}
+use Rattle.std.proofs.Common.{◌≡◌, ℕ, ◌<◌, ◌≤◌, List, ◌∷◌, Some, None, inl, inr, refl, sym, ap, ◌∙◌, subst, arith}
 use Rattle.std.proofs.lemmas.Bool.{cases_lt}
 use Rattle.erm_model.specs.declared.history.TransactionRecord.{TransactionRecord}
 use Rattle.erm_model.specs.declared.history.VersionRead.{VersionRead}
@@ -9,29 +9,24 @@ use Rattle.erm_model.specs.History.{IsNewestBelow, Makes, Overwrites}
 use Rattle.erm_model.specs.Member.{◌∈◌}
 use Rattle.erm_machine.proofs.Listed.{∈-head, ∈-second}
 use Rattle.erm_node.specs.Sound.{sound_law}
-use Rattle.erm_node.specs.TreeMap.{record_in}
-use Rattle.erm_world.specs.Laws.{FitsWork, IsSerializable}
-use Rattle.erm_world.specs.Works.{is_claimed}
+use Rattle.erm_world.specs.Laws.{IsSerializable}
 use Rattle.erm_world.specs.World.{Fate, Has, IsSession, View, Work, history_of}
 use Rattle.erm_world.specs.World as world
-use Rattle.erm_maps.proofs.Histories.{of_history, work_in}
+use Rattle.erm_maps.proofs.Histories.{work_in}
 use Rattle.erm_maps.proofs.Lawful.{begins_above}
 use Rattle.erm_good_report.specs.Transactions.{Aborts, Commits, Ending, Excludes, Exchange, Said, Transaction, Unfinished, progress_of, transactions_of}
-use Rattle.erm_good_report.specs.Windows.{ChangesKey, GetsFirst, HasKept, HasLine, IsCommit, IsHighEnd, IsNextWriter, IsTightAt, OverwritesKey, PutsKey, WasPut}
+use Rattle.erm_good_report.specs.Windows.{GetsFirst, HasLine, IsCommit, IsHighEnd, IsNextWriter, IsTightAt, WasPut}
 use Rattle.erm_good_report.specs.GoodReport.{HaveTightWindows}
 use Rattle.erm_lines.specs.Told.{EndsAs, Tells}
-use Rattle.erm_causes.proofs.Beside.{claimed_at}
 use Rattle.erm_tight.proofs.Found.{claimed_in, read_in}
 use Rattle.erm_tight.proofs.Low.{IsLowAt, low_ends}
-use Rattle.erm_tight.proofs.Marks.{Marks, Puts, Touching}
+use Rattle.erm_tight.proofs.Marks.{Puts, Touching}
 use Rattle.erm_tight.proofs.Moves.{IsMarked}
-use Rattle.erm_tight.proofs.Serial.{RowsBelow, rows_below}
-use Rattle.erm_tight.proofs.Told.{IsOne, IsCommitted, IsCommitTold, commit_known, commit_told, one_told, record_told}
+use Rattle.erm_tight.proofs.Serial.{RowsBelow}
+use Rattle.erm_tight.proofs.Told.{IsOne, IsCommitted, one_told}
 use Rattle.erm_tight.proofs.Undecided.{IsBeside, IsOrderly}
+use Rattle.erm_tight.proofs.Writers.{IsToldBy, began, below_at, claimer_overwrites, fits_at, known, record_at, told_m, writer_makes}
 use Rattle.erm_told_limits.proofs.Given.{HistoryLaws}
-
-same_some : (a b : ℕ) → Some a ≡ Some b → a ≡ b
-same_some a b is = cc
 
 -- the window of a transaction that has its commit stamp is tight at its high end
 abbrev IsHighAt : Ending → List Transaction → Transaction → Type 0
@@ -39,95 +34,15 @@ IsHighAt (Commits stamp succ pred) transactions t = IsHighEnd transactions t sta
 IsHighAt (Excludes (Some stamp) succ pred) transactions t = IsHighEnd transactions t stamp succ
 IsHighAt ending transactions t = Unit {0}
 
-module _ (laws : HistoryLaws) (v : View) (sessions : ℕ) (said : List Said) (holds : IsSerializable sound_law v) (of : sessions ≡ v.opening.sessions)
-    (tells : (seat : ℕ) → IsSession v seat → Tells seat (progress_of seat said) (v.session seat))
-    (marked : (seat : ℕ) → IsSession v seat → IsMarked (progress_of seat said) (v.saves seat) (v.session seat)) where
+module _ {v : View} {sessions : ℕ} {said : List Said} (told : IsToldBy v sessions said) where
   abbrev all : List Transaction
   all = transactions_of sessions said
-
-  known : (t : Transaction) (stamp succ : ℕ) → IsCommit all t stamp succ → IsCommitted v t stamp succ
-  known = commit_known v sessions said of holds.numbered tells marked
-
-  below_at : (bound : ℕ) → 0 < bound → RowsBelow v bound
-  below_at = rows_below laws v holds (record_told v sessions said of holds.numbered tells marked)
-
-  -- the rows on which a commit began
-  began : (r : TransactionRecord) → r ∈ history_of v → RowsBelow v r.begin
-  began r within = let own = of_history sound_law v holds r within in below_at r.begin (begins_above sound_law v holds r.seat (work_in r) own.session own.over)
-
-  fits_at : (r : TransactionRecord) (within : r ∈ history_of v) → FitsWork sound_law (work_in r) (began r within).rows
-  fits_at r within = let own = of_history sound_law v holds r within in (began r within).fits r.seat (work_in r) own.session own.over refl
-
-  module _ (table key : ℕ) (u : TransactionRecord) (u_in : u ∈ history_of v) (put : Puts (work_in u) table key) where
-    abbrev x : ℕ
-    x = put.1.0
-
-    u_claims : is_claimed u.writes put.1.0 ≡ true
-    u_claims = ((below_at (u.stamp + 1) (omega arith)).put u u_in (omega arith) table key put).1
-
-    u_makes : Makes u put.1.0
-    u_makes = claimed_in u.writes put.1.0 u_claims
-
-    -- each commit that puts the key sets the same record
-    same_object : (r : TransactionRecord) → r ∈ history_of v → (other : Puts (work_in r) table key) → other.1.0 ≡ put.1.0
-    same_object r within other =
-        let later = below_at (u.stamp + r.stamp + 1) (omega arith) in
-        let first = later.put u u_in (omega arith) table key put in
-        let second = later.put r within (omega arith) table key other in
-        same_some other.1.0 put.1.0 (sym second.0 ∙ first.0)
-
-    -- on rows with its commit the key has this record
-    record_at : (r : TransactionRecord) (within : r ∈ history_of v) → u.stamp < r.begin → record_in (began r within).rows table key ≡ Some put.1.0
-    record_at r within less = ((began r within).put u u_in less table key put).0
-
-    -- a commit that overwrites the key's record by its lines claims it, where a put stayed, or was undone
-    put_claims : (t : Transaction) (r : TransactionRecord) → r ∈ history_of v → Marks t.lines (work_in r) → HasKept (PutsKey table key) t → is_claimed r.writes put.1.0 ≡ true
-    put_claims t r within marks line =
-        let its = marks.puts table key line in
-        let claimed = ((below_at (r.stamp + 1) (omega arith)).put r within (omega arith) table key its).1 in
-        subst (λ (n : ℕ). is_claimed r.writes n ≡ true) (same_object r within its) claimed
-
-    change_claims : (t : Transaction) (r : TransactionRecord) → (within : r ∈ history_of v) → t.begin ≡ r.begin → Marks t.lines (work_in r) → HasLine (ChangesKey table key) t → WasPut all table key t.begin
-        → is_claimed r.writes put.1.0 ≡ true
-    change_claims t r within begin marks line was =
-        let by = known was.by was.stamp was.succ was.commit in
-        let its = by.marks.puts table key was.puts in
-        let less : by.by.stamp < r.begin = omega (arith, was.below, by.stamp_is, begin) in
-        let found = ((began r within).put by.by by.within less table key its).0 in
-        let same = same_object by.by by.within its in
-        marks.changes (began r within).rows (began r within).sound (fits_at r within) table key put.1.0 line (found ∙ ap Some same)
-
-    writer_makes : (t : Transaction) (stamp succ : ℕ) (it : IsCommitted v t stamp succ) → OverwritesKey all table key t → Makes it.by put.1.0
-    writer_makes t stamp succ it (inl puts) = claimed_in it.by.writes put.1.0 (put_claims t it.by it.within it.marks puts)
-    writer_makes t stamp succ it (inr (line, was)) = claimed_in it.by.writes put.1.0 (change_claims t it.by it.within it.begin it.marks line was)
-
-    -- and a later commit that claims it overwrites it by its lines
-    module _ (m : TransactionRecord) (within : m ∈ history_of v) (c : VersionWritten) (c_in : c ∈ m.writes) (oid : c.oid ≡ put.1.0) (later : u.stamp < m.stamp)
-        (by : Transaction) (succ : ℕ) (commit : IsCommit all by u.stamp succ) (puts : HasKept (PutsKey table key) by) where
-      begins_later : u.stamp < m.begin
-      begins_later =
-          let over = (holds.snapshots m within).writes c c_in in
-          let made : Makes u c.oid = (u_makes.0, u_makes.1, u_makes.2 ∙ sym oid) in
-          let newest = over.newest.newest u u_in made later in
-          omega (arith, newest, over.first)
-
-      told_m : IsCommitTold all m
-      told_m = commit_told v sessions said of holds.numbered tells marked m within
-
-      was_put : WasPut all table key told_m.told.begin
-      was_put = record { by = by; stamp = u.stamp; succ = succ; commit = commit; below = omega (arith, begins_later, told_m.begin); puts = puts }
-
-      claimer_overwrites : OverwritesKey all table key told_m.told
-      claimer_overwrites =
-          let claimed : is_claimed m.writes put.1.0 ≡ true = subst (λ (n : ℕ). is_claimed m.writes n ≡ true) oid (claimed_at m.writes c_in.0 c c_in.1) in
-          let line = told_m.marks.only (began m within).rows (began m within).sound (fits_at m within) table key put.1.0 put.0 (record_at m within begins_later) claimed in
-          inr (line, was_put)
 
   -- a transaction, the commit that put the key, and the next that overwrites its record
   module _ (t : Transaction) (w : Work) (begin : t.begin ≡ w.begin) (table key : ℕ) (was : WasPut all table key t.begin)
       (next : Transaction) (stamp next_succ : ℕ) (writer : IsNextWriter all table key t.begin next stamp next_succ) where
     u_known : IsCommitted v was.by was.stamp was.succ
-    u_known = known was.by was.stamp was.succ was.commit
+    u_known = known told was.by was.stamp was.succ was.commit
 
     u_put : Puts (work_in u_known.by) table key
     u_put = u_known.marks.puts table key was.puts
@@ -136,10 +51,10 @@ module _ (laws : HistoryLaws) (v : View) (sessions : ℕ) (said : List Said) (ho
     u_commit = subst (λ (n : ℕ). IsCommit all was.by n was.succ) (sym u_known.stamp_is) was.commit
 
     next_known : IsCommitted v next stamp next_succ
-    next_known = known next stamp next_succ writer.commit
+    next_known = known told next stamp next_succ writer.commit
 
     made : Makes next_known.by u_put.1.0
-    made = writer_makes table key u_known.by u_known.within u_put next stamp next_succ next_known writer.overwrites
+    made = writer_makes told table key u_known.by u_known.within u_put next stamp next_succ next_known writer.overwrites
 
     module _ (sees : (d : VersionRead) → d ∈ w.reads → IsNewestBelow (history_of v) v.opening.rows d.oid w.begin d.stamp d.row) (d : VersionRead) (d_in : d ∈ w.reads) (oid : d.oid ≡ u_put.1.0) where
       c : VersionWritten
@@ -151,7 +66,7 @@ module _ (laws : HistoryLaws) (v : View) (sessions : ℕ) (said : List Said) (ho
       at_least : d.stamp ≤ made.0.stamp
       at_least =
           let seen = sees d d_in in
-          let over = (holds.snapshots next_known.by next_known.within).writes made.0 made.1 in
+          let over = (told.holds.snapshots next_known.by next_known.within).writes made.0 made.1 in
           elim seen.version as (λ _. d.stamp ≤ made.0.stamp) [
             | inl first ↦ omega (arith, first.0)
             | inr (m, e, m_in, at, e_in, e_oid, row) ↦
@@ -162,7 +77,7 @@ module _ (laws : HistoryLaws) (v : View) (sessions : ℕ) (said : List Said) (ho
       at_most : made.0.stamp ≤ d.stamp
       at_most =
           let seen = sees d d_in in
-          let over = (holds.snapshots next_known.by next_known.within).writes made.0 made.1 in
+          let over = (told.holds.snapshots next_known.by next_known.within).writes made.0 made.1 in
           elim over.newest.version as (λ _. made.0.stamp ≤ d.stamp) [
             | inl first ↦ omega (arith, first.0)
             | inr (m, e, m_in, at, e_in, e_oid, row) ↦ elim (cases_lt m.stamp w.begin) as (λ _. made.0.stamp ≤ d.stamp) [
@@ -170,9 +85,9 @@ module _ (laws : HistoryLaws) (v : View) (sessions : ℕ) (said : List Said) (ho
               | inr not_less ↦
                   let after : u_known.by.stamp < m.stamp = omega (arith, not_less, was.below, u_known.stamp_is, begin) in
                   let e_is : e.oid ≡ u_put.1.0 = e_oid ∙ made.2 in
-                  let told = told_m table key u_known.by u_known.within u_put m m_in e e_in e_is after was.by was.succ u_commit was.puts in
-                  let least = writer.least told.told m.stamp m.succ told.commit (omega (arith, not_less, begin))
-                  (claimer_overwrites table key u_known.by u_known.within u_put m m_in e e_in e_is after was.by was.succ u_commit was.puts) in
+                  let later = told_m told table key u_known.by u_known.within u_put m m_in e e_in e_is after was.by was.succ u_commit was.puts in
+                  let least = writer.least later.told m.stamp m.succ later.commit (omega (arith, not_less, begin))
+                  (claimer_overwrites told table key u_known.by u_known.within u_put m m_in e e_in e_is after was.by was.succ u_commit was.puts) in
                   absurd (omega (arith, least, at, over.newest.below, next_known.stamp_is))
             ]
           ]
@@ -207,23 +122,23 @@ module _ (laws : HistoryLaws) (v : View) (sessions : ℕ) (said : List Said) (ho
     -- it didn't overwrite the record itself
     not_claimed : (c : VersionWritten) → c ∈ it.by.writes → c.oid ≡ puts_u.1.0 → ⊥
     not_claimed c c_in oid =
-        let over = (holds.snapshots it.by it.within).writes c c_in in
+        let over = (told.holds.snapshots it.by it.within).writes c c_in in
         let newest = over.newest.newest by_next.by by_next.within (made_next.0, made_next.1, made_next.2 ∙ sym oid) (omega (arith, before, by_next.stamp_is, it.stamp_is)) in
         omega (arith, newest, over.first, writer.above, by_next.stamp_is, it.begin)
 
     counts : (d : VersionRead) → d ∈ it.by.reads → d.oid ≡ puts_u.1.0 → it.by.succ ≤ by_next.by.succ
     counts d d_in oid =
-        (holds.certified.succ it.by it.within).at_most_each by_next.by (
+        (told.holds.certified.succ it.by it.within).at_most_each by_next.by (
           by_next.within,
           omega (arith, before, by_next.stamp_is, it.stamp_is),
-          (d, d_in, overwrites t (work_in it.by) it.begin table key was next stamp next_succ writer (λ e m. (holds.snapshots it.by it.within).reads e m) d d_in oid),
+          (d, d_in, overwrites t (work_in it.by) it.begin table key was next stamp next_succ writer (λ e m. (told.holds.snapshots it.by it.within).reads e m) d d_in oid),
         )
 
     pub high_of : succ ≤ next_succ
     high_of =
         let less : by_u.by.stamp < it.by.begin = omega (arith, was.below, by_u.stamp_is, it.begin) in
-        let found = record_at table key by_u.by by_u.within puts_u it.by it.within less in
-        elim (it.marks.touched (began it.by it.within).rows (began it.by it.within).sound (fits_at it.by it.within) table key puts_u.1.0 (got t table key gets) found) as (λ _. succ ≤ next_succ) [
+        let found = record_at told table key by_u.by by_u.within puts_u it.by it.within less in
+        elim (it.marks.touched (began told it.by it.within).rows (began told it.by it.within).sound (fits_at told it.by it.within) table key puts_u.1.0 (got t table key gets) found) as (λ _. succ ≤ next_succ) [
           | inl read ↦
               let d = read_in it.by.reads puts_u.1.0 read in
               omega (arith, counts d.0 d.1 d.2, it.succ_is, by_next.succ_is)
@@ -242,7 +157,7 @@ module _ (laws : HistoryLaws) (v : View) (sessions : ℕ) (said : List Said) (ho
     has = inl (it.one, it.over, refl)
 
     rows_at : RowsBelow v it.one.work.begin
-    rows_at = below_at it.one.work.begin (begins_above sound_law v holds it.seat it.one.work it.session has)
+    rows_at = below_at told it.one.work.begin (begins_above sound_law v told.holds it.seat it.one.work it.session has)
 
     -- beside it stands each commit below its stamp
     beside : (r : TransactionRecord) → r ∈ history_of v → r.stamp < own → IsBeside it.one.work succ r
@@ -263,7 +178,7 @@ module _ (laws : HistoryLaws) (v : View) (sessions : ℕ) (said : List Said) (ho
         elim (marks.touched rows_at.rows rows_at.sound (rows_at.fits it.seat it.one.work it.session has refl) table key puts.1.0 (got t table key gets) found) as (λ _. succ ≤ next_succ) [
           | inl read ↦
               let d = read_in it.one.work.reads puts.1.0 read in
-              let over = overwrites t it.one.work begin table key was next stamp next_succ writer (λ e m. (holds.sees it.seat it.one.work it.session has).reads e m) d.0 d.1 d.2 in
+              let over = overwrites t it.one.work begin table key was next stamp next_succ writer (λ e m. (told.holds.sees it.seat it.one.work it.session has).reads e m) d.0 d.1 d.2 in
               omega (arith, next_to.reads (d.0, d.1, over), after.succ_is)
           | inr claimed ↦ absurd (omega (arith, next_to.claims puts.1.0 claimed makes, writer.above, after.stamp_is, begin))
         ]
@@ -279,7 +194,7 @@ module _ (laws : HistoryLaws) (v : View) (sessions : ℕ) (said : List Said) (ho
     high_at : t ∈ all → (ending : Ending) → t.ending ≡ ending → IsHighAt ending all t
     high_at m Unfinished is = tt
     high_at m (Commits own succ pred) is = λ table key stamp next_succ next gets was writer before.
-        high_of t own succ (known t own succ (record { of = m; pred = pred; ending = is })) table key gets was next stamp next_succ writer before
+        high_of t own succ (known told t own succ (record { of = m; pred = pred; ending = is })) table key gets was next stamp next_succ writer before
     high_at m (Excludes None succ pred) is = tt
     high_at m (Excludes (Some stamp) succ pred) is = excluded_with it.one.fate refl stamp succ pred (subst (λ (e : Ending). EndsAs e it.one.fate) is it.both.tells.ends)
     high_at m Aborts is = tt
@@ -291,8 +206,14 @@ module _ (laws : HistoryLaws) (v : View) (sessions : ℕ) (said : List Said) (ho
   both_ends t (Excludes (Some stamp) succ pred) low high = record { low = low; high = high }
   both_ends t Aborts low high = tt
 
-  pub tight_windows : IsOrderly v → HaveTightWindows all
-  tight_windows orderly t m = elim (one_told v sessions said of holds.numbered tells marked t m) as (λ _. IsTightAt t.ending all t) [
-    | inl it ↦ both_ends t t.ending (low_ends laws v sessions said holds of tells marked t m) (high_at orderly t it m t.ending refl)
+  all_tight : IsOrderly v → HaveTightWindows all
+  all_tight orderly t m = elim (one_told v sessions said told.of told.holds.numbered told.tells told.marked t m) as (λ _. IsTightAt t.ending all t) [
+    | inl it ↦ both_ends t t.ending (low_ends told t m) (high_at orderly t it m t.ending refl)
     | inr none ↦ subst (λ (e : Ending). IsTightAt e all t) (sym none) tt
   ]
+
+pub tight_windows : (laws : HistoryLaws) (v : View) (sessions : ℕ) (said : List Said) → IsSerializable sound_law v → sessions ≡ v.opening.sessions
+    → ((seat : ℕ) → IsSession v seat → Tells seat (progress_of seat said) (v.session seat))
+    → ((seat : ℕ) → IsSession v seat → IsMarked (progress_of seat said) (v.saves seat) (v.session seat)) → IsOrderly v → HaveTightWindows (transactions_of sessions said)
+tight_windows laws v sessions said holds of tells marked =
+    let told : IsToldBy v sessions said = record { laws = laws; holds = holds; of = of; tells = tells; marked = marked } in all_tight told

@@ -25,3 +25,4 @@ pub mod Undecided
 pub mod Ways
 pub mod Went
 pub mod Whole
+pub mod Writers

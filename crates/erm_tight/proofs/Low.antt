@@ -1,20 +1,18 @@
--- The predecessor stamp of a transaction is at least that of each commit below its begin that put a key which it got, put or deleted.
+-- The predecessor stamp of a transaction is at least that of each commit below its begin that overwrites the record of a key which it got, put or deleted.
 use Rattle.std.proofs.Common.{◌≡◌, ℕ, ◌<◌, ◌≤◌, List, Some, None, inl, inr, refl, sym, ap, ◌∙◌, subst, arith}
 use Rattle.erm_model.specs.Member.{◌∈◌}
 use Rattle.erm_node.specs.Sound.{sound_law}
-use Rattle.erm_world.specs.Laws.{IsSerializable}
-use Rattle.erm_world.specs.World.{Fate, Finished, IsSession, View, Work, history_of, stamp_of}
+use Rattle.erm_world.specs.World.{Fate, View, stamp_of}
 use Rattle.erm_world.specs.World as world
 use Rattle.erm_maps.proofs.Lawful.{begins_above}
-use Rattle.erm_good_report.specs.Transactions.{Aborts, Commits, Ending, Excludes, Unfinished, Said, Transaction, progress_of, transactions_of}
+use Rattle.erm_good_report.specs.Transactions.{Aborts, Commits, Ending, Excludes, Unfinished, Said, Transaction, transactions_of}
 use Rattle.erm_good_report.specs.Windows.{IsLowEnd}
-use Rattle.erm_lines.specs.Told.{EndsAs, Tells}
+use Rattle.erm_lines.specs.Told.{EndsAs}
 use Rattle.erm_tight.proofs.Found.{claimed_in, read_in}
-use Rattle.erm_tight.proofs.Moves.{IsMarked}
 use Rattle.erm_tight.proofs.Quiet.{AreBelow, IsBounded}
-use Rattle.erm_tight.proofs.Serial.{RowsBelow, rows_below}
-use Rattle.erm_tight.proofs.Told.{IsOne, commit_known, one_told, record_told}
-use Rattle.erm_told_limits.proofs.Given.{HistoryLaws}
+use Rattle.erm_tight.proofs.Serial.{RowsBelow}
+use Rattle.erm_tight.proofs.Told.{IsOne, one_told}
+use Rattle.erm_tight.proofs.Writers.{IsToldBy, below_at, known, overwritten}
 
 -- the window of a transaction that has its commit stamp is tight at its low end
 abbrev pub IsLowAt : Ending → List Transaction → Transaction → Type 0
@@ -22,38 +20,32 @@ IsLowAt (Commits stamp succ pred) transactions t = IsLowEnd transactions t pred
 IsLowAt (Excludes (Some stamp) succ pred) transactions t = IsLowEnd transactions t pred
 IsLowAt ending transactions t = Unit {0}
 
-module _ (laws : HistoryLaws) (v : View) (sessions : ℕ) (said : List Said) (holds : IsSerializable sound_law v) (of : sessions ≡ v.opening.sessions)
-    (tells : (seat : ℕ) → IsSession v seat → Tells seat (progress_of seat said) (v.session seat))
-    (marked : (seat : ℕ) → IsSession v seat → IsMarked (progress_of seat said) (v.saves seat) (v.session seat)) where
+module _ {v : View} {sessions : ℕ} {said : List Said} (told : IsToldBy v sessions said) where
   abbrev all : List Transaction
   all = transactions_of sessions said
 
   module _ (t : Transaction) (it : IsOne v t) where
     -- the rows on which it began
-    pub began : RowsBelow v it.one.work.begin
-    began = rows_below laws v holds (record_told v sessions said of holds.numbered tells marked) it.one.work.begin
-        (begins_above sound_law v holds it.seat it.one.work it.session (inl (it.one, it.over, refl)))
+    began_on : RowsBelow v it.one.work.begin
+    began_on = below_at told it.one.work.begin (begins_above sound_law v told.holds it.seat it.one.work it.session (inl (it.one, it.over, refl)))
 
     low_of : (stamp : ℕ) → stamp_of it.one.fate ≡ Some stamp → (pred : ℕ) → AreBelow it.one.work pred → IsLowEnd all t pred
-    low_of own is pred bounded table key stamp succ u line commit less puts =
-        let by = commit_known v sessions said of holds.numbered tells marked u stamp succ commit in
+    low_of own is pred bounded table key stamp succ u line commit less overwrites =
+        let by = known told u stamp succ commit in
         let w = it.one.work in
         let begin : t.begin ≡ w.begin = it.both.tells.work.begin in
         let below : by.by.stamp < w.begin = omega (arith, less, begin, by.stamp_is) in
-        let its = by.marks.puts table key puts in
-        let x : ℕ = its.1.0 in
-        let put = began.put by.by by.within below table key its in
-        let fits = began.fits it.seat w it.session (inl (it.one, it.over, refl)) refl in
-        let sees = holds.sees it.seat w it.session (inl (it.one, it.over, refl)) in
-        let made = claimed_in by.by.writes x put.1 in
-        elim ((it.both.so_is.marks own is).touched began.rows began.sound fits table key x line put.0) as (λ _. stamp ≤ pred) [
+        let its = overwritten told table key u stamp succ by overwrites began_on (omega (arith, less, begin)) in
+        let fits = began_on.fits it.seat w it.session (inl (it.one, it.over, refl)) refl in
+        let sees = told.holds.sees it.seat w it.session (inl (it.one, it.over, refl)) in
+        elim ((it.both.so_is.marks own is).touched began_on.rows began_on.sound fits table key its.oid line its.found) as (λ _. stamp ≤ pred) [
           | inl read ↦
-              let r = read_in w.reads x read in
-              let newest = (sees.reads r.0 r.1).newest by.by by.within (made.0, made.1, made.2 ∙ sym r.2) below in
+              let r = read_in w.reads its.oid read in
+              let newest = (sees.reads r.0 r.1).newest by.by by.within (its.makes.0, its.makes.1, its.makes.2 ∙ sym r.2) below in
               omega (arith, newest, bounded.reads r.0 r.1, by.stamp_is)
           | inr claimed ↦
-              let c = claimed_in w.claims x claimed in
-              let newest = (sees.claims c.0 c.1).newest by.by by.within (made.0, made.1, made.2 ∙ sym c.2) below in
+              let c = claimed_in w.claims its.oid claimed in
+              let newest = (sees.claims c.0 c.1).newest by.by by.within (its.makes.0, its.makes.1, its.makes.2 ∙ sym c.2) below in
               omega (arith, newest, bounded.claims c.0 c.1, by.stamp_is)
         ]
 
@@ -79,7 +71,7 @@ module _ (laws : HistoryLaws) (v : View) (sessions : ℕ) (said : List Said) (ho
     low_at Aborts is = tt
 
   pub low_ends : (t : Transaction) → t ∈ all → IsLowAt t.ending all t
-  low_ends t m = elim (one_told v sessions said of holds.numbered tells marked t m) as (λ _. IsLowAt t.ending all t) [
+  low_ends t m = elim (one_told v sessions said told.of told.holds.numbered told.tells told.marked t m) as (λ _. IsLowAt t.ending all t) [
     | inl it ↦ low_at t it t.ending refl
     | inr none ↦ subst (λ (e : Ending). IsLowAt e all t) (sym none) tt
   ]

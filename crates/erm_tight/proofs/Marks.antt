@@ -21,7 +21,6 @@ use Rattle.erm_tight.proofs.Stays.{HasIn, line_of, stays_of}
 use Rattle.erm_tight.proofs.Went.{IsTouched, Leaves}
 use Rattle.erm_tight.proofs.Whole.{ClaimsRecord, OnAll, PutsRecord, ReadsRecord}
 
-
 abbrev pub Touching : ℕ → ℕ → Exchange → Type 0
 Touching table key e = GetsKey table key e ⊎ PutsKey table key e ⊎ DeletesKey table key e
 

@@ -6,8 +6,8 @@ ghost use Rattle.erm_lines.specs.Laws.{RunsHaveTightWindows};
 ghost use Rattle.erm_tight.specs.NewKeys.{KeysAreNewOnce, OidsAreFull};
 
 /// The window of each transaction that a run's report tells with its commit stamp is tight, whether it committed or was excluded: its
-/// predecessor stamp is at least that of each commit below its begin that put a key which it got, put or deleted, and its successor
-/// stamp is at most that of the next commit that overwrites the record of a key which it read.
+/// predecessor stamp is at least that of each commit below its begin that overwrites the record of a key which it got, put or deleted, and
+/// its successor stamp is at most that of the next commit that overwrites the record of a key which it read.
 pub fn runs_have_tight_windows()
     ensures { RunsHaveTightWindows }
 {
@@ -24,7 +24,7 @@ pub fn runs_have_tight_windows()
 }
 
 /// Where objects are full, the lines so far put new keys, as many as make all the objects that may be made: a put of a key that a commit
-/// below its transaction's begin had put, as the lines before it tell, makes none.
+/// below its transaction's begin had put so that the put stayed, as the lines before it tell, makes none.
 pub fn oids_are_full()
     ensures { OidsAreFull }
 {

@@ -17,8 +17,8 @@ use crate::snapshots::try_watch;
 use erm_beside::{SafeSession, SharedSession, SharedTxn};
 use erm_lines::refusal_of;
 use erm_lines_at_once::{
-    abort, back, begin, begin_snapshot, decide, del, get, has_snapshot, next, put, save, scan, seal,
-    tidy,
+    abort, back, begin, begin_snapshot, decide, del, get, has_snapshot, next, put, save, scan,
+    seal, tidy,
 };
 use erm_model::{Receipt, RowRead};
 use erm_report::Answer;

@@ -87,12 +87,12 @@ fn line(session: Seat, command: Command) -> ScriptLine {
     }
 }
 
-// Sets a key.
-fn put() -> Command {
+// Puts a value of one byte for a key.
+fn put(byte: u8) -> Command {
     Command::Put {
         table: 0,
         key: 10,
-        value: Value::new(&[7]).unwrap(),
+        value: Value::new(&[byte]).unwrap(),
     }
 }
 
@@ -105,7 +105,7 @@ fn a_read_waits_for_what_is_sealed(rt: HostRuntime) -> Result<(), Fail> {
     let world = opened(&rt, alloc)?;
     let first = vec![in alloc;
         line(1, Command::Begin),
-        line(1, put()),
+        line(1, put(7)),
         line(1, Command::Seal),
     ]?;
     assert!(rt; are_of(&first, 1));
@@ -147,7 +147,7 @@ fn a_worker_waits_for_the_disk(rt: HostRuntime) -> Result<(), Fail> {
     let first = vec![in alloc;
         line(1, Command::Durable),
         line(1, Command::Begin),
-        line(1, put()),
+        line(1, put(7)),
         line(1, Command::Begin),
         line(1, Command::Commit),
         line(1, Command::Durable),
@@ -188,7 +188,7 @@ fn a_snapshot_waits_for_what_began_before(rt: HostRuntime) -> Result<(), Fail> {
     assert!(rt; matches!(answers.as_slice(), [Answer::Began(13)]));
     let second = vec![in alloc;
         line(2, Command::Begin),
-        line(2, put()),
+        line(2, put(7)),
         line(2, Command::Commit),
         line(2, Command::Safe),
         line(2, GET),
@@ -223,7 +223,7 @@ fn a_safe_snapshot_reads_and_ends(rt: HostRuntime) -> Result<(), Fail> {
     let world = opened(&rt, alloc)?;
     let first = vec![in alloc;
         line(1, Command::Begin),
-        line(1, put()),
+        line(1, put(7)),
         line(1, Command::Commit),
     ]?;
     assert!(rt; are_of(&first, 1));
@@ -233,7 +233,7 @@ fn a_safe_snapshot_reads_and_ends(rt: HostRuntime) -> Result<(), Fail> {
     let second = vec![in alloc;
         line(2, Command::Safe),
         line(2, GET),
-        line(2, put()),
+        line(2, put(7)),
         line(2, Command::Safe),
         line(2, Command::Commit),
         line(2, Command::Abort),
@@ -253,5 +253,45 @@ fn a_safe_snapshot_reads_and_ends(rt: HostRuntime) -> Result<(), Fail> {
             ]
         )
     );
+    Ok(())
+}
+
+// Whether a worker is told that it went back over a put, by which the key has the value that it had.
+fn went_back(answers: &[Answer]) -> bool {
+    matches!(
+        answers,
+        [
+            Answer::Began(13),
+            Answer::Replied(Reply::Done),
+            Answer::Saved { held: 1 },
+            Answer::Replied(Reply::Done),
+            Answer::Back { n: 1 },
+            Answer::NoSave { held: 1 },
+            Answer::Replied(Reply::Value(Some(value))),
+            Answer::Committed { stamp: 13, .. },
+        ] if value.as_slice() == [7].as_slice()
+    )
+}
+
+// A worker goes back over a put, and commits, and waits for no other session.
+#[test]
+fn a_worker_goes_back(rt: HostRuntime) -> Result<(), Fail> {
+    let alloc = rt.alloc();
+    let world = opened(&rt, alloc)?;
+    let lines = vec![in alloc;
+        line(1, Command::Begin),
+        line(1, put(7)),
+        line(1, Command::Save),
+        line(1, put(8)),
+        line(1, Command::Back { n: 1 }),
+        line(1, Command::Back { n: 2 }),
+        line(1, GET),
+        line(1, Command::Commit),
+    ]?;
+    assert!(rt; are_of(&lines, 1));
+    let mut turns = with_patience(1);
+    let (_world, answers) = work(&rt, alloc, world, 1, &lines, &mut turns)?;
+    assert!(rt; went_back(&answers));
+    assert!(rt; turns.sessions == 0, "it waited for none");
     Ok(())
 }

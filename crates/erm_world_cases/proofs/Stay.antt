@@ -52,7 +52,7 @@ module _ (v t : View) (seat : ℕ) (s : Session) (own : t.session seat ≡ s) (o
   changed now runs q session = elim (cases_eq q seat) as (λ _. IsRun (t.session q) (t.saves q)) [
     | inl is ↦ subst (λ (at : ℕ). IsRun (t.session at) (t.saves at)) (sym is) (subst (λ (x : Session). IsRun x (t.saves seat)) (sym own) now)
     | inr another ↦ subst (λ (held : List (List VersionWritten)). IsRun (t.session q) held) (sym (saves q another))
-    (subst (λ (x : Session). IsRun x (v.saves q)) (sym (others q another)) (runs q (session.0, subst (λ (o : Opening). q ≤ o.sessions) opening session.1)))
+        (subst (λ (x : Session). IsRun x (v.saves q)) (sym (others q another)) (runs q (session.0, subst (λ (o : Opening). q ≤ o.sessions) opening session.1)))
   ]
 
 unchanged : (v t : View) → t ≡ v → AllRun v → Kept v t

@@ -5,13 +5,13 @@ ghost use Rattle.std.specs.Prelude.{◌≡◌, ◌++◌, ◌∷◌, ◌^◌, ◌
 ghost use Rattle.std.specs.List.{All, flat_map};
 ghost use Rattle.erm_model.specs.Spelling.{value_word};
 ghost use Rattle.erm_report.specs.declared.answer.Answer.TheVariants as answer;
-ghost use Rattle.erm_report.specs.Leads.{lead};
+ghost use Rattle.erm_report.specs.Leads.{IsOfSave, lead};
 ghost use Rattle.erm_report.specs.Printable.{FitsAnswer, FitsFound, FitsReply};
 ghost use Rattle.erm_report.specs.Texts.{answer_text, found_text};
 
 use super::part::{push_count, push_stamps, push_value};
 use crate::Answer;
-use erm_model::{Pairs, Reply, Value};
+use erm_model::{Pairs, Reply, Seat, Value};
 use std::alloc::AllocError;
 
 /// Adds an answer, after a space.
@@ -33,8 +33,8 @@ fn lead(answer: &Answer) -> &'static [u8]
         Answer::Safe(_) => b"safe ",
         Answer::Replied(reply) => lead_of_reply(reply),
         Answer::Cut(_) => b"cut ",
-        Answer::Saved { .. } => b"saved ",
-        Answer::Back { .. } => b"back ",
+        Answer::Saved { .. } | Answer::SavesFull => lead_of_save(answer),
+        Answer::Back { .. } | Answer::NoSave { .. } => lead_of_save(answer),
         Answer::Sealed(_) => b"sealed ",
         Answer::Committed { .. } => b"committed ",
         Answer::Excluded { .. } => b"excluded at ",
@@ -63,12 +63,23 @@ fn lead(answer: &Answer) -> &'static [u8]
         Answer::WritesFull => b"writes full",
         Answer::CellsFull { .. } => b"cells full ",
         Answer::OidsFull { .. } => b"oids full ",
-        Answer::SavesFull => b"saves full",
-        Answer::NoSave { .. } => b"no save ",
         Answer::NotFlushed { .. } => b"not flushed ",
         Answer::NoReceipt => b"no receipt",
         Answer::Unfilled(_) => b"unfilled ",
         Answer::DiskFault => b"disk fault",
+    }
+}
+
+// the words of an answer to `save` or `back` up to its number
+fn lead_of_save(answer: &Answer) -> &'static [u8]
+    requires { IsOfSave answer.now }
+    ensures { result.now ≡ lead answer.now }
+{
+    match answer {
+        Answer::Saved { .. } => b"saved ",
+        Answer::SavesFull => b"saves full",
+        Answer::Back { .. } => b"back ",
+        _ => b"no save ",
     }
 }
 
@@ -106,21 +117,18 @@ fn push_told(out: &mut Vec<u8>, words: &[u8], answer: &Answer) -> Result<(), All
         | Answer::NotFlushed { flushed: stamp }
         | Answer::Unfilled(stamp) => push_count(out, words, *stamp),
         Answer::CellsFull { drawn } | Answer::OidsFull { drawn } => push_count(out, words, *drawn),
-        Answer::Cut(count)
-        | Answer::Saved { held: count }
-        | Answer::Back { n: count }
-        | Answer::NoSave { held: count } => push_count(out, words, u64::from(*count)),
+        Answer::Cut(n) | Answer::Back { n } => push_count(out, words, u64::from(*n)),
+        Answer::Saved { held } => push_count(out, words, u64::from(*held)),
+        Answer::NoSave { held } => push_count(out, words, u64::from(*held)),
         Answer::Replied(reply) => push_reply(out, words, reply),
         Answer::Committed { stamp, succ, pred } | Answer::Excluded { stamp, succ, pred } => {
             push_stamps(out, words, *stamp, *succ, *pred)
         }
         Answer::Marked { safe, stamp } => push_two(out, words, *safe, b" at ", *stamp),
         Answer::ExcludedEarly { succ, pred } => push_two(out, words, *succ, b" pred ", *pred),
-        Answer::WaitSeat { seat, seen } => push_two(out, words, u64::from(*seat), b" ", *seen),
-        Answer::Unsafe { seat, stamp } => push_two(out, words, u64::from(*seat), b" ", *stamp),
-        Answer::Owned { seat, number } => {
-            push_two(out, words, u64::from(*seat), b" ", u64::from(*number))
-        }
+        Answer::WaitSeat { seat, seen } => push_seat(out, words, *seat, *seen),
+        Answer::Unsafe { seat, stamp } => push_seat(out, words, *seat, *stamp),
+        Answer::Owned { seat, number } => push_seat(out, words, *seat, u64::from(*number)),
         Answer::Aborted
         | Answer::Ended
         | Answer::NotIdle
@@ -151,6 +159,14 @@ fn push_reply(out: &mut Vec<u8>, words: &[u8], reply: &Reply) -> Result<(), Allo
         Reply::Found(pairs) => push_pairs(out, words, pairs),
         Reply::Value(None) | Reply::Pair(None) | Reply::Done => out.extend_from_slice(words),
     }
+}
+
+// words, a session and a number
+fn push_seat(out: &mut Vec<u8>, words: &[u8], seat: Seat, number: u64) -> Result<(), AllocError>
+    ensures ok { OnOk result (out.new.items ≡ out.old.items ++ (words.now ++ decimal seat ++ codes " " ++ decimal number)) }
+    ensures front { OnErr result (take (length out.old.items) out.new.items ≡ out.old.items) }
+{
+    push_two(out, words, u64::from(seat), b" ", number)
 }
 
 // words, a number, more words and a number

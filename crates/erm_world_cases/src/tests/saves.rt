@@ -25,13 +25,6 @@ const ONE_KEY: [Exchange; 17] = [
     (1, Asked::Back(1), Told::NoSave(0)),
 ];
 
-#[test]
-fn a_key_goes_back(rt: HostRuntime) -> Result<(), AllocError> {
-    let mut world = world(&rt, rt.alloc(), 16)?;
-    assert_eq!(rt; first_other(rt.alloc(), &mut world, &ONE_KEY)?, None);
-    Ok(())
-}
-
 // A leaf of seven keys is committed, and the root splits for an eighth one: back at the savepoint it is the leaf that it was. The key that is put
 // again gets another record. A ninth savepoint is refused.
 const ROOT: [Exchange; 30] = [
@@ -67,9 +60,94 @@ const ROOT: [Exchange; 30] = [
     (1, Asked::Commit, Told::Committed(63)),
 ];
 
+// Each of two sessions has read both keys behind a savepoint, goes back, and puts one: the get counts as read, so that one of them is excluded.
+const GETS_STAY: [Exchange; 18] = [
+    (1, Asked::Begin, Told::Began(13)),
+    (1, Asked::Put(0, 10, 0xaa), Told::Done),
+    (1, Asked::Put(0, 20, 0xbb), Told::Done),
+    (1, Asked::Commit, Told::Committed(13)),
+    (1, Asked::Begin, Told::Began(38)),
+    (2, Asked::Begin, Told::Began(38)),
+    (1, Asked::Save, Told::Saved(1)),
+    (1, Asked::Get(0, 10), Told::Value(0xaa)),
+    (1, Asked::Get(0, 20), Told::Value(0xbb)),
+    (1, Asked::Back(1), Told::Back(1)),
+    (2, Asked::Save, Told::Saved(1)),
+    (2, Asked::Get(0, 10), Told::Value(0xaa)),
+    (2, Asked::Get(0, 20), Told::Value(0xbb)),
+    (2, Asked::Back(1), Told::Back(1)),
+    (1, Asked::Put(0, 10, 0xa1), Told::Done),
+    (2, Asked::Put(0, 20, 0xb1), Told::Done),
+    (1, Asked::Commit, Told::Committed(38)),
+    (2, Asked::Commit, Told::Excluded),
+];
+
+// Both have read both keys. One puts a key and goes back over it, and the other puts the other key: the put counts as one, though its key has
+// the value that it had.
+const PUTS_STAY: [Exchange; 16] = [
+    (1, Asked::Begin, Told::Began(13)),
+    (1, Asked::Put(0, 10, 0xaa), Told::Done),
+    (1, Asked::Put(0, 20, 0xbb), Told::Done),
+    (1, Asked::Commit, Told::Committed(13)),
+    (1, Asked::Begin, Told::Began(38)),
+    (2, Asked::Begin, Told::Began(38)),
+    (1, Asked::Get(0, 10), Told::Value(0xaa)),
+    (1, Asked::Get(0, 20), Told::Value(0xbb)),
+    (2, Asked::Get(0, 10), Told::Value(0xaa)),
+    (2, Asked::Get(0, 20), Told::Value(0xbb)),
+    (1, Asked::Save, Told::Saved(1)),
+    (1, Asked::Put(0, 10, 0xa1), Told::Done),
+    (1, Asked::Back(1), Told::Back(1)),
+    (2, Asked::Put(0, 20, 0xb1), Told::Done),
+    (1, Asked::Commit, Told::Committed(38)),
+    (2, Asked::Commit, Told::Excluded),
+];
+
+// A transaction in progress alone has savepoints, and they end with it.
+const PHASES: [Exchange; 23] = [
+    (1, Asked::Save, Told::NoTransaction),
+    (1, Asked::Back(1), Told::NoTransaction),
+    (1, Asked::Begin, Told::Began(13)),
+    (1, Asked::Back(0), Told::NoSave(0)),
+    (1, Asked::Save, Told::Saved(1)),
+    (1, Asked::Back(u32::MAX), Told::NoSave(1)),
+    (2, Asked::Safe, Told::Safe(13)),
+    (2, Asked::Save, Told::ReadOnly),
+    (2, Asked::Back(1), Told::ReadOnly),
+    (2, Asked::Commit, Told::Ended),
+    (1, Asked::Put(0, 5, 7), Told::Done),
+    (1, Asked::Seal, Told::Sealed(13)),
+    (1, Asked::Save, Told::IsSealed),
+    (1, Asked::Back(1), Told::IsSealed),
+    (2, Asked::Safe, Told::Waits(1)),
+    (2, Asked::Save, Told::ReadOnly),
+    (2, Asked::Back(1), Told::ReadOnly),
+    (1, Asked::Settle, Told::Committed(13)),
+    (1, Asked::Save, Told::NoTransaction),
+    (1, Asked::Begin, Told::Began(33)),
+    (1, Asked::Back(1), Told::NoSave(0)),
+    (1, Asked::Abort, Told::Aborted),
+    (1, Asked::Back(1), Told::NoTransaction),
+];
+
+// The lines of a case, and what they show.
+const CASES: [(&str, &[Exchange]); 5] = [
+    ("one key", &ONE_KEY),
+    ("a split root", &ROOT),
+    ("gets stay", &GETS_STAY),
+    ("puts stay", &PUTS_STAY),
+    ("phases", &PHASES),
+];
+
 #[test]
-fn a_split_root_goes_back(rt: HostRuntime) -> Result<(), AllocError> {
-    let mut world = world(&rt, rt.alloc(), 16)?;
-    assert_eq!(rt; first_other(rt.alloc(), &mut world, &ROOT)?, None);
+fn lines_go_back(rt: HostRuntime) -> Result<(), AllocError> {
+    for (name, lines) in &CASES {
+        let mut world = world(&rt, rt.alloc(), 16)?;
+        assert_eq!(rt;
+            first_other(rt.alloc(), &mut world, *lines)?,
+            None,
+            "{name}"
+        );
+    }
     Ok(())
 }

@@ -1,5 +1,6 @@
 use Rattle.erm_bad_reports.proofs.OfSaves.{miscounted, misread}
-use Rattle.erm_bad_reports.proofs.OfUndone.{forgotten_breaks, held_breaks, idle_breaks, left_breaks, reader_breaks, sealed_breaks}
+use Rattle.erm_bad_reports.proofs.OfForgotten.{forgotten_below_breaks, forgotten_breaks}
+use Rattle.erm_bad_reports.proofs.OfUndone.{held_breaks, idle_breaks, left_breaks, reader_breaks, sealed_breaks}
 use Rattle.erm_bad_reports.proofs.laws.savepoints_are_needed.Goals as goal
 
 pub returns-clause-counts : goal.returns-clause-counts
@@ -23,5 +24,8 @@ returns-clause-sealed c = sealed_breaks
 pub returns-clause-safe : goal.returns-clause-safe
 returns-clause-safe c = reader_breaks
 
-pub returns-clause-windows : goal.returns-clause-windows
-returns-clause-windows c = forgotten_breaks
+pub returns-clause-high : goal.returns-clause-high
+returns-clause-high c = forgotten_breaks
+
+pub returns-clause-low : goal.returns-clause-low
+returns-clause-low c = forgotten_below_breaks

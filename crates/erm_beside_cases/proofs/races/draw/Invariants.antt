@@ -1,6 +1,5 @@
-use Rattle.std.proofs.Common.{◌≡◌, length}
+use Rattle.std.proofs.Common.{◌≡◌}
 use Rattle.erm_model.specs.RowTransaction.{any_law}
-use Rattle.erm_model.specs.declared.limits.TheConstants.{RING_WORDS}
 use Rattle.erm_ring.specs.Turns.{MayGather}
 use Rattle.erm_rule.specs.Steps.{Fits}
 use Rattle.erm_rule.specs.Views.{view}

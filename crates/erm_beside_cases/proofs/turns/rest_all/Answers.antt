@@ -1,4 +1,4 @@
-use Rattle.std.proofs.Common.{◌<◌, ◌≤◌, length, ◌∙◌, arith}
+use Rattle.std.proofs.Common.{◌<◌, length, ◌∙◌, arith}
 use Rattle.erm_model.specs.RowTransaction.{any_law}
 use Rattle.erm_beside_cases.proofs.RunAgain.{all_rest, one_there, set_done, set_rests}
 use Rattle.erm_beside_cases.proofs.turns.rest_all.Goals as goal

@@ -13,7 +13,7 @@ loop-job-init g c =
       [],
       is.rest,
       is.len ∙ c.args.back.ok.0 ∙ sym (ap (λ l. length l) is.rest),
-      none_tripled (λ k j s r. IsBack (λ turns. turns.starved) j s r) _ _ c.requires.none.0 c.requires.none.1,
+      none_tripled (λ k j s r. IsBack j s r) _ _ c.requires.none.0 c.requires.none.1,
       (λ k b at. absurd (let less = there_is [] k b at in omega (arith, less))),
       (let room = c.requires.room.0 in let long = c.args.back.ok.0 in omega (arith, room, long)),
       (let room = c.requires.room.1 in let long = c.args.back.ok.0 in omega (arith, room, long)),
@@ -51,7 +51,7 @@ loop-job-preserved g c =
       at.0 ++ one ∷ [],
       yields_on at.0 one (into_iter_items c.next.new.self) _ _ at.1 next.items,
       (let was = at.2 in let gone = next.len in let short = ap (λ l. length l) next.items in omega (arith, was, gone, short)),
-      more_tripled (λ k j s r. IsBack (λ turns. turns.starved) j s r) at.0 c.loop-job.sessions.items c.loop-job.runs.items one c.take_one-share.result.1 c.take_one-share.result.2 _ _
+      more_tripled (λ k j s r. IsBack j s r) at.0 c.loop-job.sessions.items c.loop-job.runs.items one c.take_one-share.result.1 c.take_one-share.result.2 _ _
           c.push_reserved.ensures.items c.push_reserved-in-Some.ensures.items at.3 c.take_one-share.ensures.back,
       each_then at.0 one at.4
           (λ b met left is. let was = met left is in let more = c.merge.ensures.amount in omega (arith, was, more))
@@ -64,7 +64,7 @@ pub returns-clause-back : goal.returns-clause-back
 returns-clause-back g c =
     let at = c.loop-job.invariant in
     let none : length (into_iter_items c.loop-job.left) ≡ 0 = sym at.2 ∙ none_came _ _ c.next.ensures.variant c.in_default.not-Some in
-    whole_tripled (λ k j s r. IsBack (λ turns. turns.starved) j s r) at.0 c.args.back.items _ _ (whole_now at.0 (into_iter_items c.loop-job.left) c.args.back.items at.1 none) at.3
+    whole_tripled (λ k j s r. IsBack j s r) at.0 c.args.back.items _ _ (whole_now at.0 (into_iter_items c.loop-job.left) c.args.back.items at.1 none) at.3
 
 pub returns-clause-met : goal.returns-clause-met
 returns-clause-met g c =

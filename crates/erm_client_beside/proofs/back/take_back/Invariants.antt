@@ -9,8 +9,8 @@ use Rattle.erm_client_beside.proofs.back.take_back.Given as goal
 abbrev pub invariant-loop-job : goal.invariant-loop-job
 invariant-loop-job g l = (gone : List _) × (gone ++ into_iter_items l.left ≡ l.fn.back.items)
     × (into_iter_len l.left ≡ length (into_iter_items l.left))
-    × AreBack (λ turns. turns.starved) gone l.sessions.items l.runs.items
-    × ((k : ℕ) (b : _) → slice_get gone k ≡ Some b → (left : _) → b.finished ≡ Some left → left.turns.met.amount ≤ l.met.amount)
+    × AreBack gone l.sessions.items l.runs.items
+    × ((k : ℕ) (b : _) → slice_get gone k ≡ Some b → (left : _) → b.finished ≡ Some left → left.turns.turns.met.amount ≤ l.met.amount)
     × (length l.fn.back.items ≤ vec_capacity l.sessions)
     × (length l.fn.back.items ≤ vec_capacity l.runs)
 

@@ -6,8 +6,5 @@ returns-clause-back g c = record {
   left = c.in-Some-finished.left;
   is = c.in-Some-finished.is;
   session_is = refl;
-  lacked = c.has_lacked-lacked.result;
   run_is = refl;
-  sufficed = c.has_lacked-lacked.ensures.sufficed;
-  unstarved = c.has_lacked-lacked.ensures.unstarved;
 }

@@ -32,7 +32,7 @@ returns g c =
             let was = the_client c.requires.job.client first c.args.job.now.client c.requires.job.is is in
             let new = subst (λ x. IsNew (seat x.session) x.transcript) was c.requires.job.new in
             client_left stands seat own ends told first c.run.new.client new (subst (λ x. GoesOn stands seat own ends told x c.run.new.client) (sym same) c.run.ensures.on)
-            c.finish.result finish.stands finish.onward finish.transcript finish.rests finish.did finish.waits finish.told;
+            c.finish.result finish.stands finish.onward finish.transcript finish.rests finish.did finish.starved finish.waits finish.told;
         promised = subst (λ t. g.P.Program.promises c.args.job.now.program c.run.new.self t) (sym finish.transcript) c.run.ensures.promised;
       };
     }

@@ -1,7 +1,6 @@
 use Rattle.std.proofs.Common.{Ok, Err, ap, ◌∙◌}
 use Rattle.std.proofs.lemmas.Result.{err_from_is_err_and}
 use Rattle.erm_disk_run.specs.declared.stops.RunStop.TheVariants as run
-use Rattle.erm_disk_run.specs.Limits.{in_lists}
 use Rattle.erm_make.specs.Workload.{names_of}
 use Rattle.erm_top.specs.Makes.{lines_of}
 use Rattle.erm_top.proofs.Texted.{tells_counts, tells_failed, tells_unmade, untold_run}

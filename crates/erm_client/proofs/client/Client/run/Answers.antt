@@ -58,8 +58,8 @@ returns-in-Ok-Some-clause-rests g c asks =
     let seat = g.S.SharedSession.seat c.args.self.now.session in
     let v = g.S.SharedSession.own c.args.self.now.session in
     let t = g.S.SharedSession.own c.run_next.new.session in
-    let ready : IsReady (t.session seat) c.run_next.new.receipt =
-    subst (λ (o : Option Answer). IfSome o (λ _. IsReady (t.session seat) c.run_next.new.receipt)) c.in-Ok-Some.field-0-is c.in-Ok-Some.ensures.ready in
+    let ready : IsReady t seat c.run_next.new.receipt =
+    subst (λ (o : Option Answer). IfSome o (λ _. IsReady t seat c.run_next.new.receipt)) c.in-Ok-Some.field-0-is c.in-Ok-Some.ensures.ready in
     let leave = lines_leave c.begun_transactions_are_runs.ensures c.answers_stay.ensures in
     let ran : (f : View) → g.S.SharedSession.ends c.run_next.new.session f → RanLine f c.args.line (Some c.in-Ok-Some.answer) v t = λ f end. subst (λ (o : Option Answer). RanLine f c.args.line o v t) c.in-Ok-Some.field-0-is (c.in-Ok-Some.ensures.ran f end) in
     let some = g.met.S.SharedSession.some c.args.self.now.shared.now c.run_next.new.session c.run_next.ensures.stands in
@@ -88,7 +88,8 @@ returns-in-Ok-None-clause-err g c =
 pub returns-in-Err-clause-on : goal.returns-in-Err-clause-on
 returns-in-Err-clause-on g c =
     starved_goes g.S.SharedSession.stands g.S.SharedSession.seat g.S.SharedSession.own g.S.SharedSession.ends g.T.Turns.told c.args.self.now _
-    c.requires.client c.requires.opened refl c.run_next.ensures.stands c.run_next.ensures.onward c.in-Err.ensures.grown c.starve.ensures.starves
+    c.requires.client c.requires.opened refl c.run_next.ensures.stands c.run_next.ensures.onward
+    (λ f end. let within = g.met.S.SharedSession.within c.args.self.now.session f end in (within.tail, within.flushed)) c.in-Err.ensures.grown c.starve.ensures.starves
 
 pub add-requires : goal.add-requires
 add-requires g c = record { room = room_now c.args.line.command c.args.self.now.transcript c.requires.room }

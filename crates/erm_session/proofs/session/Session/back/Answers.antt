@@ -14,8 +14,9 @@ use Rattle.erm_session.proofs.session.Session.back.Goals as goal
 pub returns-then-n-eq0-clause-none : goal.returns-then-n-eq0-clause-none
 returns-then-n-eq0-clause-none g c =
     elim c.then-n-eq0.branch [
-      then-n-eq0-via-then-n-eq0 w ↦ (c.held-held.ensures.held, inl w.if-n-eq0.true)
-    | then-n-eq0-via-else-n-eq0+then-n-held w ↦ (c.held-held.ensures.held, inr w.if-n-held.true) ]
+      | then-n-eq0-via-then-n-eq0 w ↦ (c.held-held.ensures.held, inl w.if-n-eq0.true)
+      | then-n-eq0-via-else-n-eq0+then-n-held w ↦ (c.held-held.ensures.held, inr w.if-n-held.true)
+    ]
 
 pub loop-place-init : goal.loop-place-init
 loop-place-init g c =

@@ -59,10 +59,12 @@ returns g c =
           (backs_later law table s stands active t same refl refl start r k c.back.ensures.within c.back.ensures.back (err_to r _ _ (λ why left. left.2) c.back.ensures.same));
       ok =
           both_on_ok r ((k - 1 < length s.session.saves.points) × (0 < k)) (GoesBack (view s.pass) seat saved (view pass) × (saves_of n y ≡ take k (saves_of s.session x))) _
-          (λ within back.
-          (own_of s, passes_itself seat (own_of s),
-          subst (λ (j : ℕ). WentBack (own_of s) seat j (own_of t)) (sym (next within.1))
-          (went_back law table s stands active t same refl refl start (k - 1) within.0 back.0 (back.1 ∙ ap (λ (j : ℕ). take j (saves_of s.session x)) (next within.1))))) c.back.ensures.within did;
+          (λ within back. (
+            own_of s,
+            passes_itself seat (own_of s),
+            subst (λ (j : ℕ). WentBack (own_of s) seat j (own_of t)) (sym (next within.1))
+                (went_back law table s stands active t same refl refl start (k - 1) within.0 back.0 (back.1 ∙ ap (λ (j : ℕ). take j (saves_of s.session x)) (next within.1))),
+          )) c.back.ensures.within did;
       err =
           both_err r (λ stop. IsNoSave s.session k stop.held) (λ stop. (n ≡ s.session) × (view pass ≡ view s.pass) × (e ≡ b)) _
           (λ why none left.

@@ -36,9 +36,11 @@ returns g c =
       ok = ok_to r _ _ (λ held adds. (own_of s, passes_itself seat (own_of s), did_save law table s stands active n same held adds)) c.save.ensures.saved;
       err =
           both_err r (λ stop. (stop ≡ SavesFull SAVES) × (length s.session.saves.points ≡ SAVES)) (λ stop. n ≡ s.session) _
-          (λ why full left.
-          (own_of s, passes_itself seat (own_of s),
-          subst (λ (z : SaveStop). DidNotSave (own_of s) seat z (own_of t)) (sym full.0) (same_own law table s stands active t left refl refl refl, refl, many_held law table s stands active ∙ full.1)))
+          (λ why full left. (
+            own_of s,
+            passes_itself seat (own_of s),
+            subst (λ (z : SaveStop). DidNotSave (own_of s) seat z (own_of t)) (sym full.0) (same_own law table s stands active t left refl refl refl, refl, many_held law table s stands active ∙ full.1),
+          ))
           c.save.ensures.full c.save.ensures.same;
       memory = err_to r _ _ (λ why full same. absurd (let at = full.0 in cc)) c.save.ensures.full;
       pass = refl;

@@ -1,0 +1,3 @@
+pub mod Errands
+pub mod Shown
+pub mod Stays
