@@ -21,7 +21,7 @@ struct Spelling {
     refused: &'static str,
 }
 
-const SPELLINGS: [Spelling; 29] = [
+const SPELLINGS: [Spelling; 31] = [
     // A run that opens.
     Spelling {
         run_before: 0,
@@ -75,7 +75,7 @@ const SPELLINGS: [Spelling; 29] = [
         run_before: 1,
         words: "100054 d d 1000001 e6802a0a51c9e91d",
         marks: "++-+*",
-        taken: "0=100051 0=100052",
+        taken: "0=100051 0=100052 0=100056",
         refused: "",
     },
     // A commit of whole rows, those of two records and a leaf.
@@ -253,6 +253,22 @@ const SPELLINGS: [Spelling; 29] = [
         marks: "-+++---------------------------------------------------------------------------------------------------------------------------------*",
         taken: "",
         refused: "3=1008102",
+    },
+    // A mark, of the begin stamp of a snapshot at which the log ends.
+    Spelling {
+        run_before: 1,
+        words: "100056 26 26 2000003 90f85167fc284847",
+        marks: "-+-+*",
+        taken: "0=100051 0=100052 0=100054 0=100055 1=1ffffffffffffffb 2=8 3=2000030 3=ffffffff000003",
+        refused: "0=100053 0=100066 0=56 0=200056 1=25 1=1ffffffffffffffc 2=7 2=27 3=2000103 3=2000031 3=2000000 3=3 3=100000002000003",
+    },
+    // A mark of the least safe stamp, further on in a second run.
+    Spelling {
+        run_before: 2,
+        words: "200056 4a 8 ffffffff000030 e8e3984c2f9b9b62",
+        marks: "-++-*",
+        taken: "2=4a",
+        refused: "2=7 2=4b",
     },
 ];
 

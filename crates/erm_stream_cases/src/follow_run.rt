@@ -1,7 +1,7 @@
 //! Streams followed, each with what is printed of it: at once, in pieces of one byte, and with a source or a sink that fails.
 ghost use Rattle.std.specs.Prelude.{◌<◌};
 
-use crate::words::{BASE, OPEN, Row, SAFE, THREE, bytes_of};
+use crate::words::{BASE, BROKEN, MARKED, MARKED_BELOW, OPEN, Row, SAFE, THREE, bytes_of};
 use erm_follow_run::follow;
 use erm_outside_mem::{MemSink, MemSource};
 use std::alloc::{AllocError, Global};
@@ -10,7 +10,7 @@ use std::test::*;
 // A commit without rows whose successor stamp lies below the safe stamp.
 const BREAKING: &[u64] = &[0x10_0054, 13, 1, 0x100_0001, 0xbf49_3abd_1b16_6f8b];
 
-const ROWS: [Row; 6] = [
+const ROWS: [Row; 9] = [
     Row {
         words: THREE,
         without: 0,
@@ -22,6 +22,24 @@ const ROWS: [Row; 6] = [
         without: 0,
         status: 0,
         text: "commit 1 1 stamp 13 succ 13\ncommit 2 1 stamp 47 succ 38\ncommit 1 2 stamp 38 succ 38\npending 0\nend\n",
+    },
+    Row {
+        words: MARKED,
+        without: 0,
+        status: 0,
+        text: "commit 1 1 stamp 13 succ 13\ncommit 2 1 stamp 47 succ 38\ncommit 1 2 stamp 38 succ 38\npending 0\nend\n",
+    },
+    Row {
+        words: MARKED_BELOW,
+        without: 0,
+        status: 0,
+        text: "commit 1 1 stamp 13 succ 13\npending 2\nend\n",
+    },
+    Row {
+        words: BROKEN,
+        without: 0,
+        status: 12,
+        text: "broken mark 47 commit 47\n",
     },
     Row {
         words: THREE,

@@ -2,7 +2,7 @@
 ghost use Rattle.std.specs.Prelude.{IfSome, ◌<◌};
 ghost use Rattle.erm_replica_rows.specs.Seeing.{AreWhole};
 
-use crate::words::{AGAIN, BASE, OPEN, SAFE, SECOND, THIRD, THREE, bytes_of};
+use crate::words::{AGAIN, BASE, MARKED_BELOW, OPEN, SAFE, SECOND, THIRD, THREE, bytes_of};
 use erm_bytes::digest_word;
 use erm_replica_rows::{FeedStop, Replica, ReplicaRows, replica_rows_may_be_read};
 use erm_tree::get;
@@ -68,7 +68,7 @@ struct Case {
     values: [Option<u8>; 2],
 }
 
-const CASES: [Case; 5] = [
+const CASES: [Case; 6] = [
     Case {
         words: &[],
         without: 0,
@@ -108,6 +108,14 @@ const CASES: [Case; 5] = [
         safe: Some(56),
         rest: 0,
         values: [Some(0xb2), Some(0xa2)],
+    },
+    Case {
+        words: MARKED_BELOW,
+        without: 0,
+        stamp: 61,
+        safe: Some(38),
+        rest: 0,
+        values: [Some(0xaa), Some(0xbb)],
     },
 ];
 

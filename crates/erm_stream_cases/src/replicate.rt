@@ -1,13 +1,13 @@
 //! Replicas of streams, each with what is printed of it: at once, in pieces of one byte, and with a source or a sink that fails.
 ghost use Rattle.std.specs.Prelude.{◌<◌};
 
-use crate::words::{Row, SAFE, THREE, bytes_of};
+use crate::words::{MARKED, MARKED_BELOW, ONE, Row, SAFE, THREE, bytes_of};
 use erm_outside_mem::{MemSink, MemSource};
 use erm_replica_run::replicate;
 use std::alloc::{AllocError, Global};
 use std::test::*;
 
-const ROWS: [Row; 5] = [
+const ROWS: [Row; 9] = [
     Row {
         words: THREE,
         without: 0,
@@ -19,6 +19,30 @@ const ROWS: [Row; 5] = [
         without: 0,
         status: 0,
         text: "replica 61 safe 56 rest 0\nmap 2\npair 0 10 b2\npair 0 20 a2\nend\n",
+    },
+    Row {
+        words: ONE,
+        without: 0,
+        status: 0,
+        text: "replica 43 safe 38 rest 0\nmap 2\npair 0 10 aa\npair 0 20 bb\nend\n",
+    },
+    Row {
+        words: ONE,
+        without: 1,
+        status: 0,
+        text: "replica 38 safe 8 rest 39\nmap 0\nend\n",
+    },
+    Row {
+        words: MARKED,
+        without: 0,
+        status: 0,
+        text: "replica 61 safe 56 rest 0\nmap 2\npair 0 10 b2\npair 0 20 a2\nend\n",
+    },
+    Row {
+        words: MARKED_BELOW,
+        without: 0,
+        status: 0,
+        text: "replica 61 safe 38 rest 0\nmap 2\npair 0 10 aa\npair 0 20 bb\nend\n",
     },
     Row {
         words: THREE,

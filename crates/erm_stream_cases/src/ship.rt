@@ -15,7 +15,7 @@ struct Row {
     stream: &'static str,
 }
 
-const ROWS: [Row; 4] = [
+const ROWS: [Row; 5] = [
     // Nothing was written.
     Row {
         slot0: "",
@@ -31,6 +31,14 @@ const ROWS: [Row; 4] = [
         at: 8,
         log: "100053 8 0 0 1f73ff748bce0b21 100194 d d 1000301 b00000000 3 2 a 14 0 0 0 0 0 10 11 300000010 2 1 aa 300000011 2 1 bb 122b2e4560abbb92 100094 26 26 2000101 300000011 2 1 a2 4491757b566a48e 100094 2f 26",
         stream: "6 2 8 0 0 0 5c9fd545423f8c61 100053 8 0 0 1f73ff748bce0b21 100194 d d 1000301 b00000000 3 2 a 14 0 0 0 0 0 10 11 300000010 2 1 aa 300000011 2 1 bb 122b2e4560abbb92 100094 26 26 2000101 300000011 2 1 a2 4491757b566a48e",
+    },
+    // A transaction, and a mark behind it.
+    Row {
+        slot0: "",
+        slot1: "",
+        at: 8,
+        log: "100053 8 0 0 1f73ff748bce0b21 100194 d d 1000301 300000010 2 1 aa b00000000 3 2 a 14 0 0 0 0 0 10 11 300000011 2 1 bb 6619f08dce89f283 100056 26 26 1000003 eaeb5101a202dfc3",
+        stream: "6 2 8 0 0 0 5c9fd545423f8c61 100053 8 0 0 1f73ff748bce0b21 100194 d d 1000301 300000010 2 1 aa b00000000 3 2 a 14 0 0 0 0 0 10 11 300000011 2 1 bb 6619f08dce89f283 100056 26 26 1000003 eaeb5101a202dfc3",
     },
     // A checkpoint in format 1, and behind it a block over two segments.
     Row {

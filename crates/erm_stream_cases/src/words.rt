@@ -63,10 +63,28 @@ pub const THIRD: &[u64] = &[
 /// The Open block of the second run.
 pub const AGAIN: &[u64] = &[0x20_0053, 56, 0, 0, 0x59b3_9420_c5fa_e2bd];
 
+/// Marks of safe snapshots: at 38 and at 56 of their own places, and at 56 of the places 38 and 47.
+pub const EARLY: &[u64] = &[0x10_0056, 38, 38, 0x100_0003, 0xeaeb_5101_a202_dfc3];
+
+pub const MARK: &[u64] = &[0x10_0056, 56, 56, 0x200_0003, 0xd8b8_6134_2d67_624a];
+
+pub const BELOW: &[u64] = &[0x10_0056, 56, 38, 0x100_0003, 0xa267_ac0a_f859_ef54];
+
+pub const BETWEEN: &[u64] = &[0x10_0056, 56, 47, 0x100_0003, 0x5b8b_adb9_c292_46a1];
+
 /// The stream of three commits, and the same with the block that shows that they are safe.
 pub const THREE: &[&[u64]] = &[BASE, OPEN, FIRST, SECOND, THIRD];
 
 pub const SAFE: &[&[u64]] = &[BASE, OPEN, FIRST, SECOND, THIRD, AGAIN];
+
+/// The stream of one commit and a mark, and of three with one of these marks.
+pub const ONE: &[&[u64]] = &[BASE, OPEN, FIRST, EARLY];
+
+pub const MARKED: &[&[u64]] = &[BASE, OPEN, FIRST, SECOND, THIRD, MARK];
+
+pub const MARKED_BELOW: &[&[u64]] = &[BASE, OPEN, FIRST, SECOND, THIRD, BELOW];
+
+pub const BROKEN: &[&[u64]] = &[BASE, OPEN, FIRST, SECOND, THIRD, BETWEEN];
 
 /// A stream, of which so many last bytes are left away, with the status and the text with which a command ends of it.
 pub struct Row {
