@@ -152,6 +152,10 @@ impl<'a, S: SafeSession> SafeSession for Meet<'a, S> {
         self.session.safe_read(shared, oid)
     }
 
+    fn mark(&mut self, shared: &S::Shared) -> Stamp {
+        self.session.mark(shared)
+    }
+
     fn end_safe(&mut self, shared: &S::Shared) {
         self.session.end_safe(shared)
     }

@@ -97,7 +97,7 @@ fn commit(table: &Table<AnyRows>, session: &mut TableSession<AnyRows>) -> Fate
     for _ in 0..TRIES {
         match settle(table, session) {
             Some(Outcome::Committed(_)) => return Fate::Installed,
-            Some(Outcome::Excluded { .. }) => return Fate::Failed,
+            Some(Outcome::Excluded { .. } | Outcome::Marked { .. }) => return Fate::Failed,
             None => thread::yield_now(),
         }
     }

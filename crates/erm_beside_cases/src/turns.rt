@@ -30,6 +30,7 @@ pub enum Ask {
     BeginSafe,
     Look,
     SafeRead(Oid),
+    Mark,
 }
 
 /// What it is answered.
@@ -39,6 +40,7 @@ pub enum Told {
     Refused,
     Done,
     Committed,
+    Marked,
     /// A row each of whose words is this one.
     Row(u64),
     OtherRow,
@@ -72,8 +74,8 @@ const COMMITS: [Step; 12] = [
 ];
 
 // A snapshot of the second session waits for the first one's transaction, which had begun before it. That one commits, and goes back behind the
-// second's commit, so that the snapshot isn't safe. The next one is, and reads what was committed before it alone.
-const SNAPSHOTS: [Step; 20] = [
+// second's commit, so that the snapshot isn't safe. The next one is, reads what was committed before it alone, and ends as a mark.
+const SNAPSHOTS: [Step; 23] = [
     (0, Ask::Begin, Told::Done),
     (0, Ask::Read(8), Told::Row(0)),
     (1, Ask::Begin, Told::Done),
@@ -94,13 +96,16 @@ const SNAPSHOTS: [Step; 20] = [
     (0, Ask::Settle, Told::Committed),
     (1, Ask::SafeRead(7), Told::Row(70)),
     (1, Ask::SafeRead(8), Told::Row(80)),
+    (1, Ask::Mark, Told::Done),
+    (1, Ask::SafeRead(8), Told::Refused),
+    (1, Ask::Settle, Told::Marked),
 ];
 
 const CASES: [(&str, &[Step]); 2] = [("commits", &COMMITS), ("snapshots", &SNAPSHOTS)];
 
 /// Three sessions on rows of zeros, without a law of rows, on a log that goes on at 13.
 pub fn three(alloc: Global) -> Result<Opened<AnyRows>, AllocError>
-    ensures { IfOk result (λ t. (o : OpeningOf) × (1 < o.tail) × (o.run ≤ LAST_RUN) × IsOpened any_law o 3 t) }
+    ensures { IfOk result (λ t. (o : OpeningOf) × (8 ≤ o.tail) × (o.run ≤ LAST_RUN) × IsOpened any_law o 3 t) }
 {
     let rows = Vec::from_elem(alloc, [0; ROW_WORDS], OID_LIMIT as usize)?;
     let opening = Opening {
@@ -230,6 +235,18 @@ fn safe_row(table: &Table<AnyRows>, session: &mut TableSession<AnyRows>, oid: Oi
     }
 }
 
+// Seals the session's snapshot as a mark, where it is safe.
+fn mark(table: &Table<AnyRows>, session: &mut TableSession<AnyRows>) -> Option<Stamp>
+    requires stands { Stands any_law table.now session.old }
+    ensures stands { Stands any_law table.now session.new }
+    ensures seat { seat_of session.new ≡ seat_of session.old }
+{
+    match session.phase(table) {
+        Phase::Safe => Some(session.mark(table)),
+        _ => None,
+    }
+}
+
 /// Aborts the session's transaction where it is in progress. The answer is whether it was.
 pub fn rest(table: &Table<AnyRows>, session: &mut TableSession<AnyRows>) -> bool
     requires stands { Stands any_law table.now session.old }
@@ -284,6 +301,7 @@ fn told_cut(cut: Option<u32>) -> Told {
 fn decided(outcome: Option<Outcome>) -> Told {
     match outcome {
         Some(Outcome::Committed(_)) => Told::Committed,
+        Some(Outcome::Marked { .. }) => Told::Marked,
         _ => Told::Refused,
     }
 }
@@ -315,6 +333,7 @@ fn answer(table: &Table<AnyRows>, session: &mut TableSession<AnyRows>, asked: As
         Ask::BeginSafe => done(begin_safe(table, session).is_some()),
         Ask::Look => looked(look(table, session)),
         Ask::SafeRead(oid) if oid < OID_LIMIT => told_row(safe_row(table, session, oid)),
+        Ask::Mark => done(mark(table, session).is_some()),
         _ => Told::Refused,
     }
 }

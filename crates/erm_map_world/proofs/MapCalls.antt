@@ -14,16 +14,17 @@ use Rattle.erm_model.specs.Lawful.{times_made}
 use Rattle.erm_model.specs.RowTransaction.{Law, did_make, made_by}
 use Rattle.erm_model.specs.Rows.{Rows}
 use Rattle.erm_model.proofs.Members.{∈-push, slice_get-push}
-use Rattle.erm_map_world.specs.MapWorks.{commit_with, finished, newest, rows_now}
+use Rattle.erm_map_world.specs.MapWorks.{EndsWith, commit_with, finished, newest, rows_now}
 use Rattle.erm_map_world.specs.MapWorld.{AreOver, IsMapWorld, Map, Saw, made_of}
 use Rattle.erm_map_world.proofs.MapSaves.{FitSaves-back, FitSaves-more, FitSaves-none, FitSaves-push, resaved, claiming_more, making_more, reading_more, setting_more}
-use Rattle.erm_map_world.proofs.MapPast.{over_aborted, over_committed}
+use Rattle.erm_map_world.proofs.MapPast.{over_aborted, over_committed, over_marked}
+use Rattle.erm_map_world.proofs.Preds.{none_committed}
 use Rattle.erm_map_world.proofs.Versions.{is_among, never_both, oid_kept}
 use Rattle.erm_world.specs.Going.{Extends}
 use Rattle.erm_world.specs.Laws.{IsLawfulWork}
 use Rattle.erm_world.specs.Saves.{HasClaimed, restored, with_claims}
 use Rattle.erm_world.specs.Works.{claiming, is_claimed, making, reading, setting, with_row}
-use Rattle.erm_world.specs.World.{Finished, Work, begun, commit_of, committed_in, size_of}
+use Rattle.erm_world.specs.World.{Finished, Snapshot, Work, begun, commit_of, committed_in, marking, size_of}
 use Rattle.erm_world.specs.World as world
 use Rattle.erm_world.proofs.Restored.{OnceOf-restored, extends_restored, from_restored, kept_restored}
 use Rattle.erm_world.proofs.Works.{times_made-push}
@@ -222,6 +223,7 @@ module _ (law : Law) (m : Map) where
           unreached = λ x some. absurd (omega (arith, some));
         };
       },
+      refl,
     );
     saves = FitSaves-none (begun (m.begun + 1) m.tail);
     made_once = is.made_once;
@@ -231,15 +233,15 @@ module _ (law : Law) (m : Map) where
   }
 
   -- where nothing was made
-  goes : (w u : Work) → u.made ≡ w.made → Extends w u → Saw law m.rows (committed_in 1 m.over) (rows_now m.rows m.over) m.begun u
+  goes : (w u : Work) → u.made ≡ w.made → u.is_mark ≡ w.is_mark → Extends w u → Saw law m.rows (committed_in 1 m.over) (rows_now m.rows m.over) m.begun u
       → IsMapWorld law (record m { stand = world.active w }) → IsMapWorld law (record m { stand = world.active u })
-  goes w u same more saw is =
+  goes w u same as_marked more saw is =
       let made = λ (x : ℕ). ap (λ (list : List ℕ). sum_by (λ (f : Finished). times_made f.work.made x) m.over + times_made list x) same in record {
         positive = is.positive;
         meets = is.meets;
         reach = is.reach;
         past = is.past;
-        now_is = (is.now_is.0, more.begin ∙ is.now_is.1, saw);
+        now_is = (is.now_is.0, more.begin ∙ is.now_is.1, saw, as_marked ∙ is.now_is.3);
         saves = FitSaves-more w u m.saves more is.saves;
         made_once = λ x. omega (arith, made x, is.made_once x);
         made_new = λ x some. is.made_new x (omega (arith, made x, some));
@@ -249,7 +251,7 @@ module _ (law : Law) (m : Map) where
 
   pub map_read : (w : Work) (oid : ℕ) → IsMapWorld law (record m { stand = world.active w }) → IsMapWorld law (record m { stand = world.active (reading (newest m.rows m.over oid) w) })
   map_read w oid is =
-      goes w (reading (newest m.rows m.over oid) w) refl (reading_more (newest m.rows m.over oid) w)
+      goes w (reading (newest m.rows m.over oid) w) refl refl (reading_more (newest m.rows m.over oid) w)
       (saw_reading law m.rows m.over m.tail m.begun (committed_in 1 m.over) is.past.newest_is w oid is.now_is.1 is.now_is.2) is
 
   abbrev pub claim_at : ℕ → VersionWritten
@@ -258,12 +260,12 @@ module _ (law : Law) (m : Map) where
   pub map_claimed : (w : Work) (oid : ℕ) → is_claimed w.claims oid ≡ false → IsMapWorld law (record m { stand = world.active w })
       → IsMapWorld law (record m { stand = world.active (claiming (claim_at oid) w) })
   map_claimed w oid none is =
-      goes w (claiming (claim_at oid) w) refl (claiming_more (claim_at oid) w)
+      goes w (claiming (claim_at oid) w) refl refl (claiming_more (claim_at oid) w)
       (saw_claiming law m.rows m.over m.tail m.begun (committed_in 1 m.over) is.past.newest_is w oid is.now_is.1 none is.now_is.2) is
 
   pub map_set : (w : Work) (oid : ℕ) (row : List ℕ) → IsMapWorld law (record m { stand = world.active w }) → IsMapWorld law (record m { stand = world.active (setting oid row w) })
   map_set w oid row is =
-      goes w (setting oid row w) refl (setting_more oid row w)
+      goes w (setting oid row w) refl refl (setting_more oid row w)
       (saw_setting law m.rows m.over m.tail m.begun (committed_in 1 m.over) is.past.newest_is w oid row is.now_is.2) is
 
   pub map_saved : (w : Work) → length m.saves < SAVES → IsMapWorld law (record m { stand = world.active w }) → IsMapWorld law (record m { stand = world.active w; saves = m.saves ++ w.claims ∷ [] })
@@ -275,7 +277,7 @@ module _ (law : Law) (m : Map) where
   map_back n w k saved at is =
       let u : Work = with_claims (restored saved w.claims) w in
       let has : HasClaimed saved w.claims = is.saves.0 k saved at in
-      let went = goes w u refl (extends_restored w saved has) (saw_back law m.rows m.over m.tail m.begun (committed_in 1 m.over) is.past.newest_is w saved has (is.saves.2 k saved at) is.now_is.2) is in
+      let went = goes w u refl refl (extends_restored w saved has) (saw_back law m.rows m.over m.tail m.begun (committed_in 1 m.over) is.past.newest_is w saved has (is.saves.2 k saved at) is.now_is.2) is in
       resaved law (record m { stand = world.active u }) (take n m.saves) (FitSaves-back n w m.saves k saved at is.saves) went
 
   -- an object that nobody has made isn't reached
@@ -322,7 +324,7 @@ module _ (law : Law) (m : Map) where
     meets = is.meets;
     reach = is.reach;
     past = subst (λ (b : ℕ). AreOver law m.rows m.start b (committed_in 1 m.over) m.over) (sym is.now_is.1) is.past;
-    now_is = (is.now_is.0, refl, omega (arith, end_is, is.now_is.1), lawful, is.now_is.2);
+    now_is = (is.now_is.0, refl, omega (arith, end_is, is.now_is.1), lawful, is.now_is.2, λ mark. absurd (let unmarked = is.now_is.3 in cc));
     saves = tt;
     made_once = is.made_once;
     made_new = is.made_new;
@@ -330,9 +332,33 @@ module _ (law : Law) (m : Map) where
     next_above = is.next_above;
   }
 
-  pub map_committed : (w : Work) (pred : ℕ) → IsPredecessorStamp (committed_in 1 m.over) pred (commit_with w 0) → IsMapWorld law (record m { stand = world.sealed w w.begin })
+  -- a mark keeps the law, since it has written nothing
+  pub map_marking : (s : Snapshot) (end : ℕ) → end ≡ m.tail + size_of (marking s) → IsMapWorld law (record m { stand = world.snapshot s })
+      → IsMapWorld law (record m { stand = world.sealed (marking s) s.begin; tail = end })
+  map_marking s end end_is is =
+      let saw = is.now_is.2 in record {
+        positive = is.positive;
+        meets = is.meets;
+        reach = is.reach;
+        past = subst (λ (b : ℕ). AreOver law m.rows m.start b (committed_in 1 m.over) m.over) (sym is.now_is.1) is.past;
+        now_is = (
+          is.now_is.0,
+          refl,
+          omega (arith, end_is, is.now_is.1),
+          record { meets = λ rows fits. fits.meets; reach = λ rows x fits. omega arith },
+          record { number_is = saw.number_is; reads = saw.reads; claims = saw.claims; kept = saw.kept; once = saw.once; fits = saw.fits },
+          λ mark. refl,
+        );
+        saves = tt;
+        made_once = is.made_once;
+        made_new = is.made_new;
+        made_all = is.made_all;
+        next_above = is.next_above;
+      }
+
+  map_committed : (w : Work) (pred : ℕ) → w.is_mark ≡ false → IsPredecessorStamp (committed_in 1 m.over) pred (commit_with w 0) → IsMapWorld law (record m { stand = world.sealed w w.begin })
       → IsMapWorld law (record m { stand = world.idle; over = m.over ++ finished w (Some pred) ∷ [] })
-  map_committed w pred pred_is is =
+  map_committed w pred unmarked pred_is is =
       let made = λ (x : ℕ). sum_by_push (λ (f : Finished). times_made f.work.made x) m.over (finished w (Some pred)) in
       let count : length (m.over ++ finished w (Some pred) ∷ []) ≡ length m.over + 1 = length-append m.over (finished w (Some pred) ∷ []) in
       let saw = subst (λ (n : ℕ). Saw law m.rows (committed_in 1 m.over) (rows_now m.rows m.over) n w) is.now_is.0 is.now_is.4 in record {
@@ -340,7 +366,7 @@ module _ (law : Law) (m : Map) where
         meets = is.meets;
         reach = is.reach;
         past = subst (λ (h : History). AreOver law m.rows m.start m.tail h (m.over ++ finished w (Some pred) ∷ [])) (sym (committed_push m.over (finished w (Some pred))))
-            (over_committed law m.rows m.start w.begin m.tail (committed_in 1 m.over) m.over w pred is.positive refl (omega (arith, is.now_is.2)) is.now_is.3 saw pred_is is.past);
+            (over_committed law m.rows m.start w.begin m.tail (committed_in 1 m.over) m.over w pred unmarked is.positive refl (omega (arith, is.now_is.2)) is.now_is.3 saw pred_is is.past);
         now_is = omega (arith, is.now_is.0, count);
         saves = tt;
         made_once = λ x. omega (arith, made x, is.made_once x);
@@ -348,6 +374,34 @@ module _ (law : Law) (m : Map) where
         made_all = λ x above below. omega (arith, made x, is.made_all x above below);
         next_above = is.next_above;
       }
+
+  unmade_push : (w : Work) → committed_in 1 (m.over ++ finished w None ∷ []) ≡ committed_in 1 m.over
+  unmade_push w =
+      committed_push m.over (finished w None) ∙ ap (λ (end : History). committed_in 1 m.over ++ end) (none_committed w.is_mark w.begin w) ∙ append-nil (committed_in 1 m.over)
+
+  map_marked : (w : Work) → w.is_mark ≡ true → IsMapWorld law (record m { stand = world.sealed w w.begin }) → IsMapWorld law (record m { stand = world.idle; over = m.over ++ finished w None ∷ [] })
+  map_marked w mark is =
+      let made = λ (x : ℕ). sum_by_push (λ (f : Finished). times_made f.work.made x) m.over (finished w None) in
+      let count : length (m.over ++ finished w None ∷ []) ≡ length m.over + 1 = length-append m.over (finished w None ∷ []) in
+      let saw = subst (λ (n : ℕ). Saw law m.rows (committed_in 1 m.over) (rows_now m.rows m.over) n w) is.now_is.0 is.now_is.4 in record {
+        positive = is.positive;
+        meets = is.meets;
+        reach = is.reach;
+        past = subst (λ (h : History). AreOver law m.rows m.start m.tail h (m.over ++ finished w None ∷ [])) (sym (unmade_push w))
+            (over_marked law m.rows m.start w.begin m.tail (committed_in 1 m.over) m.over w (rows_now m.rows m.over) mark is.now_is.5 refl (omega (arith, is.now_is.2)) is.now_is.3 saw is.past);
+        now_is = omega (arith, is.now_is.0, count);
+        saves = tt;
+        made_once = λ x. omega (arith, made x, is.made_once x);
+        made_new = λ x some. is.made_new x (omega (arith, made x, some));
+        made_all = λ x above below. omega (arith, made x, is.made_all x above below);
+        next_above = is.next_above;
+      }
+
+  -- a sealed one ends
+  pub map_settled : (w : Work) (pred : Option ℕ) → EndsWith (committed_in 1 m.over) w pred → IsMapWorld law (record m { stand = world.sealed w w.begin })
+      → IsMapWorld law (record m { stand = world.idle; over = m.over ++ finished w pred ∷ [] })
+  map_settled w None mark is = map_marked w mark is
+  map_settled w (Some pred) ends is = map_committed w pred ends.0 ends.1 is
 
   pub map_aborted : (w : Work) → IsMapWorld law (record m { stand = world.active w }) → IsMapWorld law (record m { stand = world.idle; over = m.over ++ finished w None ∷ [] })
   map_aborted w is =
@@ -357,8 +411,8 @@ module _ (law : Law) (m : Map) where
         positive = is.positive;
         meets = is.meets;
         reach = is.reach;
-        past = subst (λ (h : History). AreOver law m.rows m.start m.tail h (m.over ++ finished w None ∷ [])) (sym (committed_push m.over (finished w None) ∙ append-nil (committed_in 1 m.over)))
-            (over_aborted law m.rows m.start m.tail (committed_in 1 m.over) m.over w (rows_now m.rows m.over) saw (omega (arith, is.past.above, is.now_is.1)) (omega (arith, is.now_is.1)) is.past);
+        past = subst (λ (h : History). AreOver law m.rows m.start m.tail h (m.over ++ finished w None ∷ [])) (sym (unmade_push w))
+            (over_aborted law m.rows m.start m.tail (committed_in 1 m.over) m.over w (rows_now m.rows m.over) is.now_is.3 saw (omega (arith, is.past.above, is.now_is.1)) (omega (arith, is.now_is.1)) is.past);
         now_is = omega (arith, is.now_is.0, count);
         saves = tt;
         made_once = λ x. omega (arith, made x, is.made_once x);

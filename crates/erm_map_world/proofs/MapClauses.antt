@@ -4,7 +4,7 @@ use Rattle.std.specs.List.{slice_get}
 use Rattle.std.proofs.lemmas.Bool.Decides.{eqb_tells}
 use Rattle.erm_model.specs.declared.history.VersionRead.{VersionRead}
 use Rattle.erm_model.specs.declared.history.VersionWritten.{VersionWritten}
-use Rattle.erm_model.specs.declared.limits.TheConstants.{READ_LIMIT, SAVES, WRITE_LIMIT}
+use Rattle.erm_model.specs.declared.limits.TheConstants.{GREATEST_BLOCK, LEAST_BLOCK, READ_LIMIT, SAVES, WRITE_LIMIT}
 use Rattle.erm_model.specs.declared.outcome.Phase.{Phase}
 use Rattle.erm_model.specs.declared.outcome.Phase.TheVariants.{Active, Idle, Sealed, Pending, Safe}
 use Rattle.erm_model.specs.declared.outcome.Outcome.TheVariants.{Committed}
@@ -14,22 +14,22 @@ use Rattle.erm_model.specs.Rows.{Rows}
 use Rattle.erm_model.specs.Member.{◌∈◌}
 use Rattle.erm_model.proofs.Members.{none_in_nil}
 use Rattle.erm_world.proofs.Lists.{∈-last}
-use Rattle.erm_map_world.specs.MapWorks.{commit_with, finished, found_row, newest}
+use Rattle.erm_map_world.specs.MapWorks.{EndsWith, commit_with, finished, found_row, newest, told_of}
 use Rattle.erm_map_world.specs.MapWorld.{IsMapWorld, IsWorld, Map, map_view, stand_of}
-use Rattle.erm_map_world.proofs.MapCalls.{committed_push, map_aborted, map_back, map_begun, map_claimed, map_committed, map_made, map_read, map_saved, map_sealed, map_set}
+use Rattle.erm_map_world.proofs.MapCalls.{committed_push, map_aborted, map_back, map_begun, map_claimed, map_made, map_marking, map_read, map_saved, map_sealed, map_set, map_settled}
 use Rattle.erm_map_world.proofs.MapLaws.{history_is, map_safe, the_first, world_is}
 use Rattle.erm_map_world.proofs.MapSaves.{FitSaves-none, resaved}
 use Rattle.erm_map_world.proofs.Versions.{found_none, oid_kept}
-use Rattle.erm_world.specs.Calls.{AreReady, Becomes, DidAbort, DidBegin, DidClaim, DidRead, DidSettle, DidWrite, HasNoNewer, IsDone, IsUnowned, Works}
+use Rattle.erm_world.specs.Calls.{AreReady, Becomes, DidAbort, DidBegin, DidClaim, DidRead, DidSeal, DidSettle, DidWrite, HasNoNewer, IsUnowned, Seals, Works}
 use Rattle.erm_world.specs.Calls as calls
 use Rattle.erm_world.specs.Laws.{IsLawfulWork}
-use Rattle.erm_world.specs.Safe.{DidBeginSafe, DidSafe, DidSafeRead, HasSnapshot, with_snapshot}
+use Rattle.erm_world.specs.Safe.{DidBeginSafe, DidMark, DidSafe, DidSafeRead, HasSnapshot, with_snapshot}
 use Rattle.erm_world.specs.Saves.{DidSave, HasNoSave, WentBack, holding, restored, with_claims}
 use Rattle.erm_world.specs.Snapshots.{snapshot_not_active}
 use Rattle.erm_world.specs.Works.{claiming, making, reading, row_read, setting}
 use Rattle.erm_world.proofs.Saves.{becomes_then, same_by, works_nowhere, works_then}
 use Rattle.erm_world.proofs.WithSaves.{holds_with}
-use Rattle.erm_world.specs.World.{Finished, IsSession, Session, Snapshot, Stand, View, Work, begun, history_of, phase_at, phase_of, size_of, work_at, work_of}
+use Rattle.erm_world.specs.World.{Finished, IsSession, Session, Snapshot, Stand, View, Work, begun, history_of, marking, phase_at, phase_of, size_of, work_at, work_of}
 use Rattle.erm_world.specs.World as world
 
 -- PHASE. It is that of the one session.
@@ -57,6 +57,25 @@ becomes m then_over stand s so is = record {
   pinned = refl;
   given_up = refl;
   saves = record { own = same_by s.stand m.stand m.saves so; others = λ q another. refl };
+}
+
+-- it is sealed, with this transaction
+seals : (m : Map) (stand : Stand) (w : Work) (stamp end : ℕ) → stamp ≡ m.tail → w.begin ≡ stamp → end ≡ m.tail + size_of w → size_of w ≤ GREATEST_BLOCK
+    → ((u : Work) → stand ≡ world.active u → u.is_mark ≡ false) → Seals (map_view (record m { stand = stand })) 1 w stamp (map_view (record m { stand = world.sealed w w.begin; tail = end }))
+seals m stand w stamp end stamp_is begin_is end_is fits unmarked = record {
+  stamp_is = stamp_is;
+  own = ap (λ (at : ℕ). record { over = m.over; stand = world.sealed w at }) begin_is;
+  others = λ q another.
+      ap (λ (test : Bool). cond test (record { over = m.over; stand = world.sealed w w.begin }) (record { over = []; stand = world.idle })) (not_first q another)
+      ∙ sym (ap (λ (test : Bool). cond test (record { over = m.over; stand = stand }) (record { over = []; stand = world.idle })) (not_first q another));
+  opening = refl;
+  tail = end_is;
+  fits = fits;
+  flushed = refl;
+  pinned = refl;
+  given_up = refl;
+  saves = λ q another. refl;
+  unmarked = unmarked;
 }
 
 works : (m : Map) (w u : Work) → Works (map_view (record m { stand = world.active w })) 1 u (map_view (record m { stand = world.active u }))
@@ -228,12 +247,19 @@ module _ (law : Law) (m : Map) (p : Phase) (w : Work) (seat : ℕ) (session : Is
       world_is law (record m { stand = world.sealed w w.begin; tail = end })
       (map_sealed law m w end is (subst (IsLawfulWork law) (work_is active) lawful) (within Active active standing))
 
+  pub seal_done : (stamp end : ℕ) → phase_at before seat ≡ Active → stamp ≡ m.tail → end ≡ m.tail + size_of w → size_of w ≤ GREATEST_BLOCK → IsWorld law (record m { stand = stand_of p w })
+      → DidSeal before seat stamp (map_view (record m { stand = world.sealed w w.begin; tail = end }))
+  seal_done stamp end active stamp_is end_is fits standing =
+      let now = (within Active active standing).now_is in
+      while Active active (λ (q : ℕ) (x : Phase). DidSeal (map_view (record m { stand = stand_of x w })) q stamp (map_view (record m { stand = world.sealed w w.begin; tail = end })))
+      (seals m (world.active w) w stamp end stamp_is (now.1 ∙ sym stamp_is) end_is fits (λ u stand. let same : w ≡ u = cc in ap (λ (x : Work). x.is_mark) (sym same) ∙ now.3))
+
   -- SETTLE
-  pub settle_stands : (pred : ℕ) (then_over : List Finished) → phase_at before seat ≡ Sealed → then_over ≡ m.over ++ finished w (Some pred) ∷ []
-      → IsPredecessorStamp (world.committed_in 1 m.over) pred (commit_with w 0) → IsWorld law (record m { stand = stand_of p w }) → IsWorld law (record m { stand = world.idle; over = then_over })
-  settle_stands pred then_over sealed is pred_is standing =
+  pub settle_stands : (pred : Option ℕ) (then_over : List Finished) → phase_at before seat ≡ Sealed → then_over ≡ m.over ++ finished w pred ∷ []
+      → EndsWith (world.committed_in 1 m.over) w pred → IsWorld law (record m { stand = stand_of p w }) → IsWorld law (record m { stand = world.idle; over = then_over })
+  settle_stands pred then_over sealed is ends standing =
       world_is law (record m { stand = world.idle; over = then_over })
-      (subst (λ (list : List Finished). IsMapWorld law (record m { stand = world.idle; over = list })) (sym is) (map_committed law m w pred pred_is (within Sealed sealed standing)))
+      (subst (λ (list : List Finished). IsMapWorld law (record m { stand = world.idle; over = list })) (sym is) (map_settled law m w pred ends (within Sealed sealed standing)))
 
   -- ABORT
   pub abort_stands : (then_over : List Finished) → phase_at before seat ≡ Active → then_over ≡ m.over ++ finished w None ∷ []
@@ -242,12 +268,15 @@ module _ (law : Law) (m : Map) (p : Phase) (w : Work) (seat : ℕ) (session : Is
       world_is law (record m { stand = world.idle; over = then_over })
       (subst (λ (list : List Finished). IsMapWorld law (record m { stand = world.idle; over = list })) (sym is) (map_aborted law m w (within Active active standing)))
 
-  pub done_with : (then_over : List Finished) (pred : Option ℕ) (q : Phase) → phase_at before seat ≡ q → work_of (stand_of q w) ≡ w → then_over ≡ m.over ++ finished w pred ∷ []
-      → IsDone before seat w (finished w pred).fate (map_view (record m { stand = world.idle; over = then_over }))
-  done_with then_over pred q at working is =
-      while q at (λ (s : ℕ) (x : Phase). IsDone (map_view (record m { stand = stand_of x w })) s w (finished w pred).fate (map_view (record m { stand = world.idle; over = then_over })))
-      (becomes (record m { stand = stand_of q w }) then_over world.idle (record { over = m.over ++ finished w pred ∷ []; stand = world.idle }) (λ active. absurd (cc active))
-      (ap (λ (list : List Finished). record { over = list; stand = world.idle }) is))
+  pub abort_done : (then_over : List Finished) → phase_at before seat ≡ Active → then_over ≡ m.over ++ finished w None ∷ [] → IsWorld law (record m { stand = stand_of p w })
+      → DidAbort before seat (map_view (record m { stand = world.idle; over = then_over }))
+  abort_done then_over active is standing =
+      while Active active (λ (q : ℕ) (x : Phase). DidAbort (map_view (record m { stand = stand_of x w })) q (map_view (record m { stand = world.idle; over = then_over })))
+      (becomes (record m { stand = world.active w }) then_over world.idle (record { over = m.over ++ record { work = w; fate = world.aborts } ∷ []; stand = world.idle }) (λ idle. absurd (cc idle))
+      (ap (λ (list : List Finished). record { over = list; stand = world.idle }) (is ∙ aborted_so w (within Active active standing).now_is.3)))
+    where
+      aborted_so : (w : Work) → w.is_mark ≡ false → m.over ++ finished w None ∷ [] ≡ m.over ++ record { work = w; fate = world.aborts } ∷ []
+      aborted_so w unmarked = ap (λ (is_mark : Bool). m.over ++ record { work = w; fate = cond is_mark (world.marked w.begin w.begin) world.aborts } ∷ []) unmarked
 
   -- BEGIN
   pub begin_stands : (then_over : List Finished) (u : Work) (saves : List (List VersionWritten)) → phase_at before seat ≡ Idle → then_over ≡ m.over → u ≡ begun (m.begun + 1) m.tail
@@ -290,7 +319,7 @@ write_after v seat oid row b t u active claim set is =
     }
 
 -- SETTLED. The stamps are those of the history with the commit.
-module _ (law : Law) (m : Map) (w : Work) (pred : ℕ) (pred_is : IsPredecessorStamp (world.committed_in 1 m.over) pred (commit_with w 0)) (is : IsMapWorld law (record m { stand = world.sealed w w.begin })) where
+module _ (law : Law) (m : Map) (w : Work) (pred : ℕ) (unmarked : w.is_mark ≡ false) (pred_is : IsPredecessorStamp (world.committed_in 1 m.over) pred (commit_with w 0)) (is : IsMapWorld law (record m { stand = world.sealed w w.begin })) where
   abbrev settled_map : Map
   settled_map = record m { stand = world.idle; over = m.over ++ finished w (Some pred) ∷ [] }
 
@@ -302,13 +331,14 @@ module _ (law : Law) (m : Map) (w : Work) (pred : ℕ) (pred_is : IsPredecessorS
   settled : (number stamp end : ℕ) → number ≡ w.number → stamp ≡ w.begin → end ≡ m.tail
       → DidSettle (map_view (record m { stand = world.sealed w w.begin })) 1 (Committed (record { number = number; stamp = stamp; end = end; succ = w.begin; pred = pred })) (map_view settled_map)
   settled number stamp end number_is stamp_is end_is =
-      let standing = world_is law settled_map (map_committed law m w pred pred_is is) in (
+      let standing = world_is law settled_map (map_settled law m w (Some pred) (unmarked, pred_is) is) in (
         w,
         w.begin,
         refl,
         ready (record m { stand = world.sealed w w.begin }) w w.begin,
         (
           becomes (record m { stand = world.sealed w w.begin }) (m.over ++ finished w (Some pred) ∷ []) world.idle (record { over = m.over ++ finished w (Some pred) ∷ []; stand = world.idle }) (λ active. absurd (cc active)) refl,
+          unmarked,
           number_is,
           stamp_is,
           end_is ∙ is.now_is.2,
@@ -318,16 +348,35 @@ module _ (law : Law) (m : Map) (w : Work) (pred : ℕ) (pred_is : IsPredecessorS
         ),
       )
 
-pub settle_done : (law : Law) (m : Map) (p : Phase) (w : Work) (seat : ℕ) → IsSession (map_view (record m { stand = stand_of p w })) seat → (pred : ℕ) (then_over : List Finished)
-    → phase_at (map_view (record m { stand = stand_of p w })) seat ≡ Sealed → then_over ≡ m.over ++ finished w (Some pred) ∷ [] → IsPredecessorStamp (world.committed_in 1 m.over) pred (commit_with w 0)
+marked_so : (m : Map) (w : Work) → w.is_mark ≡ true → m.over ++ finished w None ∷ [] ≡ m.over ++ record { work = w; fate = world.marked w.begin w.begin } ∷ []
+marked_so m w mark = ap (λ (is_mark : Bool). m.over ++ record { work = w; fate = cond is_mark (world.marked w.begin w.begin) world.aborts } ∷ []) mark
+
+settled_as : (law : Law) (m : Map) (w : Work) (pred : Option ℕ) → EndsWith (world.committed_in 1 m.over) w pred → IsMapWorld law (record m { stand = world.sealed w w.begin })
+    → DidSettle (map_view (record m { stand = world.sealed w w.begin })) 1 (told_of w m.tail pred) (map_view (record m { stand = world.idle; over = m.over ++ finished w pred ∷ [] }))
+settled_as law m w None mark is = (
+  w,
+  w.begin,
+  refl,
+  ready (record m { stand = world.sealed w w.begin }) w w.begin,
+  (
+    becomes (record m { stand = world.sealed w w.begin }) (m.over ++ finished w None ∷ []) world.idle (record { over = m.over ++ record { work = w; fate = world.marked w.begin w.begin } ∷ []; stand = world.idle })
+        (λ active. absurd (cc active)) (ap (λ (list : List Finished). record { over = list; stand = world.idle }) (marked_so m w mark)),
+    mark,
+    refl,
+    refl,
+  ),
+)
+settled_as law m w (Some pred) ends is = settled law m w pred ends.0 ends.1 is w.number w.begin m.tail refl refl refl
+
+pub settle_done : (law : Law) (m : Map) (p : Phase) (w : Work) (seat : ℕ) → IsSession (map_view (record m { stand = stand_of p w })) seat → (pred : Option ℕ) (then_over : List Finished)
+    → phase_at (map_view (record m { stand = stand_of p w })) seat ≡ Sealed → then_over ≡ m.over ++ finished w pred ∷ [] → EndsWith (world.committed_in 1 m.over) w pred
     → IsWorld law (record m { stand = stand_of p w })
-    → DidSettle (map_view (record m { stand = stand_of p w })) seat (Committed (record { number = w.number; stamp = w.begin; end = m.tail; succ = w.begin; pred = pred }))
-    (map_view (record m { stand = world.idle; over = then_over }))
-settle_done law m p w seat session pred then_over sealed over_is pred_is standing =
-    let receipt = Committed (record { number = w.number; stamp = w.begin; end = m.tail; succ = w.begin; pred = pred }) in
-    subst (λ (list : List Finished). DidSettle (map_view (record m { stand = stand_of p w })) seat receipt (map_view (record m { stand = world.idle; over = list }))) (sym over_is)
-    (while law m p w seat session Sealed sealed (λ (q : ℕ) (x : Phase). DidSettle (map_view (record m { stand = stand_of x w })) q receipt (map_view (record m { stand = world.idle; over = m.over ++ finished w (Some pred) ∷ [] })))
-    (settled law m w pred pred_is (within law m p w seat session Sealed sealed standing) w.number w.begin m.tail refl refl refl))
+    → DidSettle (map_view (record m { stand = stand_of p w })) seat (told_of w m.tail pred) (map_view (record m { stand = world.idle; over = then_over }))
+settle_done law m p w seat session pred then_over sealed over_is ends standing =
+    let told = told_of w m.tail pred in
+    subst (λ (list : List Finished). DidSettle (map_view (record m { stand = stand_of p w })) seat told (map_view (record m { stand = world.idle; over = list }))) (sym over_is)
+    (while law m p w seat session Sealed sealed (λ (q : ℕ) (x : Phase). DidSettle (map_view (record m { stand = stand_of x w })) q told (map_view (record m { stand = world.idle; over = m.over ++ finished w pred ∷ [] })))
+    (settled_as law m w pred ends (within law m p w seat session Sealed sealed standing)))
 
 -- OPENED. A world in which no transaction has begun.
 pub map_opened : (law : Law) (start : ℕ) (rows : Rows) (first : ℕ) (over : List Finished) (saves : List (List VersionWritten)) → 0 < start → law.meets rows → ((x : ℕ) → first ≤ x → law.reach rows x ≡ 0) → over ≡ []
@@ -365,7 +414,7 @@ map_raised law m number start safe is = record {
   meets = is.meets;
   reach = is.reach;
   past = is.past;
-  now_is = is.now_is;
+  now_is = (is.now_is.0, is.now_is.1, is.now_is.2);
   saves = tt;
   made_once = is.made_once;
   made_new = is.made_new;
@@ -379,7 +428,7 @@ map_lowered law m s is = record {
   meets = is.meets;
   reach = is.reach;
   past = is.past;
-  now_is = is.now_is;
+  now_is = (is.now_is.0, is.now_is.1, is.now_is.2, refl);
   saves = FitSaves-none (begun s.number s.begin);
   made_once = is.made_once;
   made_new = is.made_new;
@@ -483,7 +532,7 @@ module _ (law : Law) (m : Map) (p : Phase) (w : Work) (seat : ℕ) (session : Is
             (subst (λ (b : ℕ). IsNewestBelow (world.committed_in 1 m.over) m.rows oid b v.stamp v.row) (sym is.now_is.1) (is.past.newest_is oid))),
       )
 
-  -- END SAFE
+  -- A SNAPSHOT that ends, or is sealed as its mark
   shows_one : HasSnapshot (map_view (record m { stand = stand_of p w })) seat → (s : Snapshot) × (stand_of p w ≡ world.snapshot s)
   shows_one has =
       subst (λ (q : ℕ). (s : Snapshot) × (((map_view (record m { stand = stand_of p w })).session q).stand ≡ world.snapshot s)) (one law m p w seat session) has
@@ -523,7 +572,35 @@ module _ (law : Law) (m : Map) (p : Phase) (w : Work) (seat : ℕ) (session : Is
   end_done then_over has is standing =
       let one_is = last_one has standing in
       let work : begun m.begun m.tail ≡ work_of (stand_of p w) = one_is.2 ∙ sym (ap work_of one_is.1) in
-      let ended : Session = record { over = m.over ++ finished (work_of (stand_of p w)) None ∷ []; stand = world.idle } in
+      let ended : Session = record { over = m.over ++ record { work = work_of (stand_of p w); fate = world.aborts } ∷ []; stand = world.idle } in
       subst (λ (q : ℕ). DidAbort (map_view (record m { stand = stand_of p w })) q (map_view (record m { stand = world.idle; over = then_over }))) (sym (one law m p w seat session))
       (becomes (record m { stand = stand_of p w }) then_over world.idle ended (λ active. absurd (cc active))
-      (ap (λ (list : List Finished). record { over = list; stand = world.idle }) (is ∙ ap (λ (x : Work). m.over ++ finished x None ∷ []) work)))
+      (ap (λ (list : List Finished). record { over = list; stand = world.idle }) (is ∙ ap (λ (x : Work). m.over ++ record { work = x; fate = world.aborts } ∷ []) work)))
+
+  -- MARK. The mark has the end of the log for its place, where the snapshot began.
+  marks_at : phase_at (map_view (record m { stand = stand_of p w })) seat ≡ Safe → IsWorld law (record m { stand = stand_of p w }) → (u : Work) → u ≡ record (begun m.begun m.tail) { is_mark = true }
+      → u ≡ marking (record { number = w.number; begin = w.begin; is_safe = true })
+  marks_at safe standing u is =
+      let now = (within law m p w seat session Safe safe standing).now_is in
+      is ∙ ap (λ (n : ℕ). record (begun n m.tail) { is_mark = true }) (sym now.2.number_is) ∙ ap (λ (n : ℕ). record (begun w.number n) { is_mark = true }) (sym now.1)
+
+  pub mark_stands : (u : Work) (end : ℕ) → phase_at (map_view (record m { stand = stand_of p w })) seat ≡ Safe → u ≡ record (begun m.begun m.tail) { is_mark = true } → end ≡ m.tail + LEAST_BLOCK
+      → IsWorld law (record m { stand = stand_of p w }) → IsWorld law (record m { stand = world.sealed u u.begin; tail = end })
+  mark_stands u end safe is end_is standing =
+      let s : Snapshot = record { number = w.number; begin = w.begin; is_safe = true } in
+      world_is law (record m { stand = world.sealed u u.begin; tail = end })
+      (subst (λ (x : Work). IsMapWorld law (record m { stand = world.sealed x x.begin; tail = end })) (sym (marks_at safe standing u is))
+      (map_marking law m s end end_is (within law m p w seat session Safe safe standing)))
+
+  pub mark_done : (u : Work) (stamp end : ℕ) → phase_at (map_view (record m { stand = stand_of p w })) seat ≡ Safe → u ≡ record (begun m.begun m.tail) { is_mark = true } → stamp ≡ m.tail → end ≡ m.tail + LEAST_BLOCK
+      → IsWorld law (record m { stand = stand_of p w }) → DidMark (map_view (record m { stand = stand_of p w })) seat stamp (map_view (record m { stand = world.sealed u u.begin; tail = end }))
+  mark_done u stamp end safe is stamp_is end_is standing =
+      let s : Snapshot = record { number = w.number; begin = w.begin; is_safe = true } in
+      let now = (within law m p w seat session Safe safe standing).now_is in
+      subst (λ (x : Work). DidMark (map_view (record m { stand = stand_of p w })) seat stamp (map_view (record m { stand = world.sealed x x.begin; tail = end }))) (sym (marks_at safe standing u is))
+      (while law m p w seat session Safe safe (λ (q : ℕ) (x : Phase). DidMark (map_view (record m { stand = stand_of x w })) q stamp (map_view (record m { stand = world.sealed (marking s) w.begin; tail = end }))) (record {
+        snapshot = s;
+        stands = refl;
+        safe = refl;
+        seals = seals m (world.snapshot s) (marking s) stamp end stamp_is (now.1 ∙ sym stamp_is) end_is (omega arith) (λ x stand. absurd (cc));
+      }))

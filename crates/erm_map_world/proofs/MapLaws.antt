@@ -15,9 +15,9 @@ use Rattle.erm_world.specs.Safe.{HasSafeStamps}
 use Rattle.erm_world.specs.Saves.{AreSavesOf, OnceOf}
 use Rattle.erm_world.specs.Snapshots.{snapshot_not_active}
 use Rattle.erm_map_world.specs.MapWorks.{rows_now}
-use Rattle.erm_map_world.specs.MapWorld.{AreOver, FitSaves, IsMapWorld, IsNow, IsWorld, Map, Saw, bound_of, made_of, map_view}
+use Rattle.erm_map_world.specs.MapWorld.{AreOver, FitSaves, IsBareMark, IsMapWorld, IsNow, IsWorld, Map, Saw, bound_of, made_of, map_view}
 use Rattle.erm_map_world.proofs.Histories.{none_overwrites}
-use Rattle.erm_world.specs.World.{Finished, Has, HasStamp, IsCurrent, IsSession, IsWorking, Snapshot, Stand, View, Work, committed_in, history_of, history_upto, made_by_all, made_upto, phase_at, phase_of, stamp_of, work_at, work_of}
+use Rattle.erm_world.specs.World.{Finished, Has, HasStamp, IsCurrent, IsSession, Snapshot, Stand, View, Work, committed_in, history_of, history_upto, made_by_all, made_upto, phase_at, phase_of, stamp_of, work_at, work_of}
 use Rattle.erm_world.specs.World as world
 
 pub history_is : (m : Map) → history_of (map_view m) ≡ committed_in 1 m.over
@@ -155,6 +155,17 @@ few_fit (world.active w) saves active fit = fit.1
 few_fit (world.sealed w stamp) saves active fit = absurd (cc)
 few_fit (world.snapshot s) saves active fit = absurd (snapshot_not_active s active)
 
+-- a mark has done nothing
+bare_now : (law : Law) (rows : Rows) (over : List Finished) (tail number : ℕ) (stand : Stand) (w : Work) → IsNow law rows over tail number stand → IsCurrent stand w → IsBareMark w
+bare_now law rows over tail number world.idle w is current = absurd current
+bare_now law rows over tail number (world.active u) w is current = subst IsBareMark current (λ mark. absurd (let unmarked = is.3 in cc))
+bare_now law rows over tail number (world.sealed u stamp) w is current = subst IsBareMark current is.5
+bare_now law rows over tail number (world.snapshot s) w is current = subst IsBareMark current (λ mark. absurd (cc))
+
+has_bare : (law : Law) (m : Map) → IsMapWorld law m → (w : Work) → Has (map_view m) 1 w → IsBareMark w
+has_bare law m is w (inl (f, within, e)) = subst IsBareMark e (is.past.past within.0 f within.1).bare
+has_bare law m is w (inr current) = bare_now law m.rows m.over m.tail m.begun m.stand w is.now_is current
+
 -- SERIALIZABLE. What the laws of a world ask.
 map_serializable : (law : Law) (m : Map) → IsMapWorld law m → IsSerializable law (map_view m)
 map_serializable law m is =
@@ -190,6 +201,13 @@ map_serializable law m is =
           let at = subst (λ (q : ℕ). phase_at v q ≡ Active) (one seat session) active in
           let few = few_fit m.stand m.saves at is.saves in
           subst (λ (q : ℕ). length (v.saves q) ≤ SAVES) (sym (one seat session)) few;
+      unmarked = λ seat w session stand.
+          let at : m.stand ≡ world.active w = subst (λ (q : ℕ). (v.session q).stand ≡ world.active w) (one seat session) stand in
+          let now : IsNow law m.rows m.over m.tail m.begun (world.active w) = subst (λ (x : Stand). IsNow law m.rows m.over m.tail m.begun x) at is.now_is in now.3;
+      marks = λ seat w session is_one. has_bare law m is w (subst (λ (q : ℕ). Has v q w) (one seat session) is_one);
+      marked = λ seat f session within.
+          let there : f ∈ m.over = subst (λ (q : ℕ). f ∈ (v.session q).over) (one seat session) within in
+          (is.past.past there.0 f there.1).marked;
       opening_meets = is.meets;
       opening_reach = is.reach;
       lawful = λ seat w stamp session is_one. (stamped seat w stamp session is_one).lawful;
@@ -225,8 +243,9 @@ map_safe law m is seat session safe =
     record {
       past = omega (arith, begin, now.1);
       history = commit_safe law m (work_at (map_view m) seat).begin is;
-      begins = λ q w own working.
-          absurd (subst (λ (x : Stand). IsWorking x w) has.1 (subst (λ (n : ℕ). IsWorking ((map_view m).session n).stand w) (the_first m q own) working));
+      begins = λ q w own current.
+          let at = subst (λ (x : Stand). IsCurrent x w) has.1 (subst (λ (n : ℕ). IsCurrent ((map_view m).session n).stand w) (the_first m q own) current) in
+          omega (arith, begin, ap (λ (u : Work). u.begin) at);
     }
 
 pub world_is : (law : Law) (m : Map) → IsMapWorld law m → IsWorld law m

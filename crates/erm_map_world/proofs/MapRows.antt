@@ -70,8 +70,9 @@ pub unclaimed_in : (list items : List VersionWritten) (oid : ℕ) (found : Optio
 unclaimed_in list items oid found same is none = found_in list items oid found same is (unfound found none)
 
 -- a transaction that has done nothing
-pub blank_is : (m : MapWork) (number start : ℕ) → m.number ≡ number → m.begin ≡ start → m.reads.items ≡ [] → m.claims.items ≡ [] → m.made.items ≡ [] → work_in m ≡ begun number start
-blank_is m number start number_is begin_is none unclaimed unmade i = record { number = number_is i; begin = begin_is i; reads = none i; claims = unclaimed i; made = unmade i }
+pub blank_is : (m : MapWork) (number start : ℕ) → m.number ≡ number → m.begin ≡ start → m.reads.items ≡ [] → m.claims.items ≡ [] → m.made.items ≡ [] → m.is_mark ≡ false → work_in m ≡ begun number start
+blank_is m number start number_is begin_is none unclaimed unmade unmarked i =
+    record { number = number_is i; begin = begin_is i; reads = none i; claims = unclaimed i; made = unmade i; is_mark = unmarked i }
 
 -- the newest version, in the lists behind slices
 pub newest_in : (rows row_items : List (List ℕ)) (over over_items : List MapDone) (oid : ℕ) (found : VersionRead) → rows ≡ row_items → over ≡ over_items → found ≡ newest (rows_of rows) (map done_of over) oid

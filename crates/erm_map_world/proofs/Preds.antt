@@ -1,5 +1,5 @@
 -- The predecessor stamp of a transaction, where one more is over.
-use Rattle.std.proofs.Common.{◌≡◌, ℕ, ◌<◌, ◌≤◌, ◌⊎◌, true, [], ◌∷◌, ◌++◌, max, Option, Some, None, is_some, inl, inr, refl, sym, ap, subst, arith, append-nil}
+use Rattle.std.proofs.Common.{◌≡◌, ℕ, ◌<◌, ◌≤◌, ◌⊎◌, Bool, true, false, [], ◌∷◌, ◌++◌, max, Option, Some, None, is_some, inl, inr, refl, sym, ap, ◌∙◌, subst, arith, append-nil}
 use Rattle.std.proofs.lemmas.Bool.{cases_lt}
 use Rattle.erm_model.specs.declared.history.TransactionRecord.{TransactionRecord}
 use Rattle.erm_model.specs.History.{CountsForPred, History, IsPredecessorStamp}
@@ -38,12 +38,18 @@ uncounted h greatest t n none is = record {
   attained = attained_still h n t greatest is.attained;
 }
 
+-- one that has not committed adds nothing to the history
+pub none_committed : (is_mark : Bool) (begin : ℕ) (u : Work) → commit_of 1 u (fate_of is_mark begin None) ≡ []
+none_committed true begin u = refl
+none_committed false begin u = refl
+
 pub pred_with : (h : History) (greatest : ℕ) (t : TransactionRecord) (u : Work) (pred : Option ℕ) → true ≡ is_some pred → u.begin < t.stamp → Follows t (commit_with u 0) → IsPredecessorStamp h greatest t
-    → IsPredecessorStamp (h ++ commit_of 1 u (fate_of u.begin pred)) (max greatest u.begin) t
+    → IsPredecessorStamp (h ++ commit_of 1 u (fate_of u.is_mark u.begin pred)) (max greatest u.begin) t
 pred_with h greatest t u None some low follows is = cc
 pred_with h greatest t u (Some pred) some low follows is = counted h greatest t (commit_with u pred) low follows is
 
 pub pred_without : (h : History) (greatest : ℕ) (t : TransactionRecord) (u : Work) (pred : Option ℕ) → (true ≡ is_some pred → u.begin < t.stamp → Follows t (commit_with u 0) → ⊥) → IsPredecessorStamp h greatest t
-    → IsPredecessorStamp (h ++ commit_of 1 u (fate_of u.begin pred)) greatest t
-pred_without h greatest t u None none is = subst (λ (list : History). IsPredecessorStamp list greatest t) (sym (append-nil h)) is
+    → IsPredecessorStamp (h ++ commit_of 1 u (fate_of u.is_mark u.begin pred)) greatest t
+pred_without h greatest t u None none is =
+    subst (λ (list : History). IsPredecessorStamp list greatest t) (sym (ap (λ (end : History). h ++ end) (none_committed u.is_mark u.begin u) ∙ append-nil h)) is
 pred_without h greatest t u (Some pred) none is = uncounted h greatest t (commit_with u pred) (λ low follows. none refl low follows) is

@@ -27,14 +27,22 @@ oid_after : (fate : Fate) (w : Work) (v : VersionRead) → (version_after fate w
 oid_after (world.commits stamp succ pred) w v = refl
 oid_after (world.excluded stamp succ pred) w v = refl
 oid_after world.aborts w v = refl
+oid_after (world.marked stamp safe) w v = refl
 
 pub oid_kept : (over : List Finished) (v : VersionRead) → (newest_after over v).oid ≡ v.oid
 oid_kept [] v = refl
 oid_kept (f ∷ over) v = oid_kept over (version_after f.fate f.work v) ∙ oid_after f.fate f.work v
 
--- one that was aborted leaves what was there
-pub rows_aborted : (rows : Rows) (over : List Finished) (w : Work) → rows_now rows (over ++ finished w None ∷ []) ≡ rows_now rows over
-rows_aborted rows over w i oid = (newest_push over (finished w None) (record { oid = oid; stamp = 0; row = rows oid }) i).row
+-- one that has not committed leaves what was there
+unwritten : (is_mark : Bool) (begin : ℕ) (w : Work) (v : VersionRead) → version_after (fate_of is_mark begin None) w v ≡ v
+unwritten true begin w v = refl
+unwritten false begin w v = refl
+
+pub newest_unmade : (over : List Finished) (w : Work) (v : VersionRead) → newest_after (over ++ finished w None ∷ []) v ≡ newest_after over v
+newest_unmade over w v = newest_push over (finished w None) v ∙ unwritten w.is_mark w.begin w (newest_after over v)
+
+pub rows_unmade : (rows : Rows) (over : List Finished) (w : Work) → rows_now rows (over ++ finished w None ∷ []) ≡ rows_now rows over
+rows_unmade rows over w i oid = (newest_unmade over w (record { oid = oid; stamp = 0; row = rows oid }) i).row
 
 -- a commit leaves its writes
 row_committed : (rows : Rows) (over : List Finished) (w : Work) (pred oid : ℕ) → rows_now rows (over ++ finished w (Some pred) ∷ []) oid ≡ after_writes w.claims (rows_now rows over) oid
@@ -161,7 +169,7 @@ pub found_none : (cs : List VersionWritten) (oid : ℕ) → found_row cs oid ≡
 found_none cs oid = none_by (is_claimed cs oid) (own_row cs oid [])
 
 pub version_some : (pred : Option ℕ) (w : Work) (v : VersionRead) (row : List ℕ) → true ≡ is_some pred → found_row w.claims v.oid ≡ Some row
-    → record { oid = v.oid; stamp = w.begin; row = row } ≡ version_after (fate_of w.begin pred) w v
+    → record { oid = v.oid; stamp = w.begin; row = row } ≡ version_after (fate_of w.is_mark w.begin pred) w v
 version_some None w v row some found = cc
 version_some (Some pred) w v row some found =
     let (claimed, own) = found_some w.claims v.oid row found in
@@ -169,10 +177,14 @@ version_some (Some pred) w v row some found =
     let is : row ≡ own_row w.claims v.oid v.row = own ∙ own_row-claimed w.claims v.oid [] v.row claimed in
     (λ i. record { oid = v.oid; stamp = stamp i; row = is i })
 
-pub version_none : (pred : Option ℕ) (w : Work) (v : VersionRead) → found_row w.claims v.oid ≡ None → v ≡ version_after (fate_of w.begin pred) w v
-version_none None w v found = refl
+pub version_none : (pred : Option ℕ) (w : Work) (v : VersionRead) → found_row w.claims v.oid ≡ None → v ≡ version_after (fate_of w.is_mark w.begin pred) w v
+version_none None w v found = sym (unwritten w.is_mark w.begin w v)
 version_none (Some pred) w v found =
     let none = found_none w.claims v.oid found in
     let stamp : v.stamp ≡ cond (is_claimed w.claims v.oid) w.begin v.stamp = ap (λ (test : Bool). cond test w.begin v.stamp) (sym none) in
     let is : v.row ≡ own_row w.claims v.oid v.row = sym (own_row-unclaimed w.claims v.oid v.row none) in
     (λ i. record { oid = v.oid; stamp = stamp i; row = is i })
+
+pub version_still : (pred : Option ℕ) (w : Work) (v : VersionRead) → false ≡ is_some pred → v ≡ version_after (fate_of w.is_mark w.begin pred) w v
+version_still None w v none = sym (unwritten w.is_mark w.begin w v)
+version_still (Some pred) w v none = cc

@@ -1,9 +1,11 @@
 -- The transactions of a world of one session, and the newest versions that they leave.
-use Rattle.std.specs.Prelude.{ℕ, ◌⊎◌, if◌then◌else◌, List, [], ◌∷◌, Option, Some, None}
+use Rattle.std.specs.Prelude.{◌≡◌, Bool, true, false, ℕ, ◌⊎◌, if◌then◌else◌, List, [], ◌∷◌, Option, Some, None}
 use Rattle.erm_model.specs.declared.history.TransactionRecord.{TransactionRecord}
 use Rattle.erm_model.specs.declared.history.VersionRead.{VersionRead}
 use Rattle.erm_model.specs.declared.history.VersionWritten.{VersionWritten}
-use Rattle.erm_model.specs.History.{OverwritesFrom, OverwritesReadOf, ReadsFrom}
+use Rattle.erm_model.specs.declared.outcome.Outcome.{Outcome}
+use Rattle.erm_model.specs.declared.outcome.Outcome.TheVariants.{Committed, Marked}
+use Rattle.erm_model.specs.History.{History, IsPredecessorStamp, OverwritesFrom, OverwritesReadOf, ReadsFrom}
 use Rattle.erm_model.specs.Rows.{Rows}
 use Rattle.erm_map_world.specs.declared.works.MapDone.{MapDone}
 use Rattle.erm_map_world.specs.declared.works.MapWork.{MapWork}
@@ -23,16 +25,16 @@ restored_claim None c = undone c
 
 -- what a transaction has done
 abbrev pub work_in : MapWork → Work
-work_in m = record { number = m.number; begin = m.begin; reads = m.reads.items; claims = m.claims.items; made = m.made.items }
+work_in m = record { number = m.number; begin = m.begin; reads = m.reads.items; claims = m.claims.items; made = m.made.items; is_mark = m.is_mark }
 
--- How it ended: with this predecessor stamp where it has committed. It has its block where it began, since nobody else commits
--- meanwhile, and that is its successor stamp too.
-abbrev pub fate_of : ℕ → Option ℕ → Fate
-fate_of begin None = world.aborts
-fate_of begin (Some pred) = world.commits begin begin pred
+-- How it ended, where it is a mark or none: with this predecessor stamp where it has committed. It has its block where it began, since nobody else
+-- commits meanwhile, and that is its successor stamp too.
+abbrev pub fate_of : Bool → ℕ → Option ℕ → Fate
+fate_of is_mark begin None = if is_mark then world.marked begin begin else world.aborts
+fate_of is_mark begin (Some pred) = world.commits begin begin pred
 
 abbrev pub finished : Work → Option ℕ → Finished
-finished w pred = record { work = w; fate = fate_of w.begin pred }
+finished w pred = record { work = w; fate = fate_of w.is_mark w.begin pred }
 
 abbrev pub done_of : MapDone → Finished
 done_of d = finished (work_in d.work) d.pred
@@ -40,6 +42,16 @@ done_of d = finished (work_in d.work) d.pred
 -- as the history has it
 abbrev pub commit_with : Work → ℕ → TransactionRecord
 commit_with w pred = record_of 1 w w.begin w.begin pred
+
+-- The predecessor stamp of a sealed transaction after what was committed: a mark has none.
+abbrev pub EndsWith : History → Work → Option ℕ → Type 0
+EndsWith h w None = w.is_mark ≡ true
+EndsWith h w (Some pred) = (w.is_mark ≡ false) × IsPredecessorStamp h pred (commit_with w 0)
+
+-- what is told of one that ends with it, and whose block ends here
+abbrev pub told_of : Work → ℕ → Option ℕ → Outcome
+told_of w end None = Marked w.begin w.begin
+told_of w end (Some pred) = Committed (record { number = w.number; stamp = w.begin; end = end; succ = w.begin; pred = pred })
 
 -- an edge of the dependency graph leads from the second to the first
 abbrev pub Follows : TransactionRecord → TransactionRecord → Type 0
@@ -51,6 +63,7 @@ version_after (world.commits stamp succ pred) w v =
     record { oid = v.oid; stamp = if is_claimed w.claims v.oid then stamp else v.stamp; row = own_row w.claims v.oid v.row }
 version_after (world.excluded stamp succ pred) w v = v
 version_after world.aborts w v = v
+version_after (world.marked stamp safe) w v = v
 
 abbrev pub newest_after : List Finished → VersionRead → VersionRead
 newest_after [] v = v

@@ -13,7 +13,7 @@ use Rattle.erm_model.specs.RowTransaction.{Law}
 use Rattle.erm_model.specs.Rows.{Rows}
 use Rattle.erm_model.specs.SerialOrder.{StampsDiffer}
 use Rattle.erm_map_world.specs.MapWorks.{newest, rows_now}
-use Rattle.erm_world.specs.Laws.{FitsWork, IsLawfulWork, IsPossibleIn, IsSerializable}
+use Rattle.erm_world.specs.Laws.{EndsAsMarked, FitsWork, IsLawfulWork, IsPossibleIn, IsSerializable}
 use Rattle.erm_world.specs.Safe.{HasSafeStamps}
 use Rattle.erm_world.specs.Saves.{AreSavesOf}
 use Rattle.erm_world.specs.World.{Finished, Stand, View, Work, committed_in, size_of, stamp_of, work_of}
@@ -70,13 +70,19 @@ pub record Saw (law : Law) (rows : Rows) (h : History) (there : Rows) (number : 
   pub once : (i j : ℕ) (c d : VersionWritten) → slice_get w.claims i ≡ Some c → slice_get w.claims j ≡ Some d → c.oid ≡ d.oid → i ≡ j
   pub fits : FitsWork law w there
 
--- one that is over: it began within the log, and has committed there if it has
+-- a mark has done nothing
+abbrev pub IsBareMark : Work → Type 0
+IsBareMark w = w.is_mark ≡ true → w ≡ record (world.begun w.number w.begin) { is_mark = true }
+
+-- one that is over: it began within the log, and has its block there if it has one
 pub record IsPast (law : Law) (rows : Rows) (h : History) (start bound number : ℕ) (f : Finished) : Type 0 where
   pub there : Rows
   pub saw : Saw law rows h there number f.work
   pub above : start ≤ f.work.begin
   pub below : f.work.begin ≤ bound
   pub stamped : (stamp : ℕ) → stamp_of f.fate ≡ Some stamp → (stamp ≡ f.work.begin) × (stamp < bound) × IsLawfulWork law f.work
+  pub marked : EndsAsMarked f.work f.fate
+  pub bare : IsBareMark f.work
 
 -- a commit below a bound: it began where it committed, and has its definitions' stamps
 pub record IsCommitBelow (h : History) (bound : ℕ) (t : TransactionRecord) : Type 0 where
@@ -112,9 +118,9 @@ bound_of (world.snapshot s) tail = tail
 abbrev pub IsNow : Law → Rows → List Finished → ℕ → ℕ → Stand → Type 0
 IsNow law rows over tail number world.idle = number ≡ length over
 IsNow law rows over tail number (world.active w) =
-    (number ≡ length over + 1) × (w.begin ≡ tail) × Saw law rows (committed_in 1 over) (rows_now rows over) number w
+    (number ≡ length over + 1) × (w.begin ≡ tail) × Saw law rows (committed_in 1 over) (rows_now rows over) number w × (w.is_mark ≡ false)
 IsNow law rows over tail number (world.sealed w stamp) = (number ≡ length over + 1) × (w.begin ≡ stamp) × (tail ≡ stamp + size_of w)
-    × IsLawfulWork law w × Saw law rows (committed_in 1 over) (rows_now rows over) number w
+    × IsLawfulWork law w × Saw law rows (committed_in 1 over) (rows_now rows over) number w × IsBareMark w
 IsNow law rows over tail number (world.snapshot s) =
     (number ≡ length over + 1) × (s.begin ≡ tail) × Saw law rows (committed_in 1 over) (rows_now rows over) number (world.begun s.number s.begin)
 

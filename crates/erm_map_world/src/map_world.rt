@@ -5,7 +5,8 @@ ghost use Rattle.erm_model.specs.declared.outcome.Phase.TheVariants.{Active, Pen
 ghost use Rattle.erm_model.specs.Rows.{rows_of};
 
 use crate::works::{
-    MapDone, MapWork, block_size, copied, newest_version, own, predecessor, restore, seen, set_row,
+    MapDone, MapWork, block_size, copied, newest_version, outcome_of, own, own_predecessor,
+    restore, seen, set_row,
 };
 use erm_model::{
     LAST_NUMBER, OID_LIMIT, Oid, Outcome, Phase, READ_LIMIT, Receipt, Row, RowLaw, RowStop, SAVES,
@@ -51,6 +52,8 @@ pub struct MapWorld<L> {
     ghost room_pending: { phase ≡ Pending → vec_len over < vec_capacity over },
     ghost room_safe: { phase ≡ Safe → vec_len over < vec_capacity over },
     ghost below_stop: { phase ≡ Active → tail < STOP },
+    ghost below_stop_pending: { phase ≡ Pending → tail < STOP },
+    ghost below_stop_safe: { phase ≡ Safe → tail < STOP },
 }
 
 impl<L> MapWorld<L> {
@@ -63,6 +66,7 @@ impl<L> MapWorld<L> {
         ensures claims { result.claims.items ≡ [] }
         ensures few { vec_len result.claims ≡ 0 }
         ensures made { result.made.items ≡ [] }
+        ensures mark { result.is_mark ≡ false }
     {
         MapWork {
             number: self.begun,
@@ -70,6 +74,7 @@ impl<L> MapWorld<L> {
             reads: Vec::new(self.alloc),
             claims: Vec::new(self.alloc),
             made: Vec::new(self.alloc),
+            is_mark: false,
         }
     }
 }
@@ -201,25 +206,15 @@ impl<L: RowLaw> RowWorld for MapWorld<L> {
     }
 
     fn settle(&mut self, _seat: Seat) -> Result<Outcome, Wait> {
-        let pred = predecessor(self.over.as_slice(), &self.work);
-        let receipt = Receipt {
-            number: self.work.number,
-            stamp: self.work.begin,
-            end: self.tail,
-            succ: self.work.begin,
-            pred,
-        };
+        let pred = own_predecessor(self.over.as_slice(), &self.work);
+        let told = outcome_of(&self.work, self.tail, pred);
         let blank = self.blank();
         let work = mem::replace(&mut self.work, blank);
-        let done = MapDone {
-            work,
-            pred: Some(pred),
-        };
-        if self.over.push(done).is_err() {
+        if self.over.push(MapDone { work, pred }).is_err() {
             unreachable!();
         }
         self.phase = Phase::Idle;
-        Ok(Outcome::Committed(receipt))
+        Ok(told)
     }
 
     fn durable(&mut self, _seat: Seat, receipt: &Receipt) -> Result<(), NotFlushed> {
@@ -273,6 +268,7 @@ impl<L: RowLaw> MapWorld<L> {
                 reads: Vec::new(alloc),
                 claims: Vec::new(alloc),
                 made: Vec::new(alloc),
+                is_mark: false,
             },
             phase: Phase::Idle,
             saves: Vec::new(alloc),

@@ -5,12 +5,12 @@ ghost use Rattle.erm_model.specs.declared.limits.TheConstants.{GREATEST_BLOCK, W
 ghost use Rattle.erm_model.specs.History.{History, IsPredecessorStamp, Makes, Overwrites, OverwritesFrom, OverwritesReadOf, ReadsFrom};
 ghost use Rattle.erm_model.specs.Rows.{rows_of};
 ghost use Rattle.erm_record.specs.Stored.{block_words};
-ghost use Rattle.erm_map_world.specs.MapWorks.{Follows, commit_with, done_of, found_row, newest, restored_claim, version_after, work_in};
+ghost use Rattle.erm_map_world.specs.MapWorks.{EndsWith, Follows, commit_with, done_of, found_row, newest, restored_claim, told_of, version_after, work_in};
 ghost use Rattle.erm_world.specs.World.{commit_of, committed_in};
 ghost use Rattle.erm_world.specs.Saves.{restored};
 ghost use Rattle.erm_world.specs.Works.{row_read, with_row};
 
-use erm_model::{LEAST_BLOCK, Oid, Row, Stamp, VersionRead, VersionWritten};
+use erm_model::{LEAST_BLOCK, Oid, Outcome, Receipt, Row, Stamp, VersionRead, VersionWritten};
 use erm_record::stored_length;
 use std::alloc::{AllocError, Global};
 
@@ -22,13 +22,15 @@ pub struct MapWork {
     pub reads: Vec<VersionRead>,
     pub claims: Vec<VersionWritten>,
     pub made: Vec<Oid>,
+    /// Whether it is the mark of a safe snapshot, which has done nothing.
+    pub is_mark: bool,
 }
 
 /// A transaction that is over.
 #[derive(Drop)]
 pub struct MapDone {
     pub work: MapWork,
-    /// Its predecessor stamp, where it has committed.
+    /// Its predecessor stamp, where it has committed. A mark has none.
     pub pred: Option<Stamp>,
 }
 
@@ -238,4 +240,34 @@ pub fn predecessor(over: &[MapDone], t: &MapWork) -> Stamp
         greatest = predecessor_after(done, t, greatest);
     }
     greatest
+}
+
+/// The predecessor stamp of a sealed transaction, which has its block where it began. A mark has none.
+pub fn own_predecessor(over: &[MapDone], t: &MapWork) -> Option<Stamp>
+    ensures { EndsWith (committed_in 1 (map done_of over.now)) (work_in t.now) result }
+{
+    if t.is_mark {
+        None
+    } else {
+        Some(predecessor(over, t))
+    }
+}
+
+/// What is told of a sealed transaction that ends with this predecessor stamp, and whose block ends at `end`.
+pub fn outcome_of(t: &MapWork, end: Stamp, pred: Option<Stamp>) -> Outcome
+    ensures { result ≡ told_of (work_in t.now) end pred }
+{
+    match pred {
+        None => Outcome::Marked {
+            stamp: t.begin,
+            safe: t.begin,
+        },
+        Some(pred) => Outcome::Committed(Receipt {
+            number: t.number,
+            stamp: t.begin,
+            end,
+            succ: t.begin,
+            pred,
+        }),
+    }
 }

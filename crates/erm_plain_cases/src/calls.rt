@@ -30,12 +30,13 @@ pub(crate) enum Call {
     Survey,
     SnapshotBegin,
     SafeRead(Oid),
+    Mark,
     EndSafe,
 }
 
-// Its answer: of a begin, a snapshot's begin or a seal, the stamp; of an object made, its number; of a row, the first word, where zeros stand behind
+// Its answer: of a begin, a snapshot's begin, a seal or a snapshot's seal, the stamp; of an object made, its number; of a row, the first word, where zeros stand behind
 // it, or the one that it has everywhere; of a tidy, how many versions were cut off; of a savepoint, how many are held; of a commit, its number, stamp, end, successor and predecessor
-// stamp; of an exclusion, the three stamps.
+// stamp; of an exclusion, the three stamps; of a mark, its stamp and the safe one.
 #[derive(Clone, Copy, PartialEq, Eq)]
 pub(crate) enum Reply {
     OutOfPhase,
@@ -53,6 +54,7 @@ pub(crate) enum Reply {
     Stopped(RowStop),
     Commits([u64; 5]),
     Excluded([u64; 3]),
+    Marked([u64; 2]),
     Waits(Wait),
     NotFlushed(NotFlushed),
     NotSafe(SafeStop),
@@ -234,6 +236,7 @@ fn told(outcome: Outcome) -> Reply {
     match outcome {
         Outcome::Committed(r) => Reply::Commits([r.number as u64, r.stamp, r.end, r.succ, r.pred]),
         Outcome::Excluded { stamp, succ, pred } => Reply::Excluded([stamp, succ, pred]),
+        Outcome::Marked { stamp, safe } => Reply::Marked([stamp, safe]),
     }
 }
 

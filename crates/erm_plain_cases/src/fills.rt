@@ -50,11 +50,15 @@ const ALL: [Turn; 5] = [
     Turn(1, Call::Settle, Reply::Commits([1, 13, 2_194, 13, 0])),
 ];
 
-// The block behind the last that the ring has room for.
-const FULL: [Turn; 4] = [
+// The block behind the last that the ring has room for, and a mark behind that.
+const FULL: [Turn; 8] = [
+    Turn(3, Call::BeginSafe, Reply::At(32_778)),
+    Turn(3, Call::Survey, Reply::Done),
     Turn(1, Call::Begin, Reply::At(32_778)),
     Turn(1, Call::Seal, Reply::At(32_778)),
     Turn(1, Call::Settle, Reply::Waits(Wait::Ring { flushed: 13 })),
+    Turn(3, Call::Mark, Reply::At(32_783)),
+    Turn(3, Call::Settle, Reply::Waits(Wait::Ring { flushed: 13 })),
     Turn(
         1,
         Call::Durable(18),
@@ -63,7 +67,7 @@ const FULL: [Turn; 4] = [
 ];
 
 // The same after a flush turn.
-const FREE: [Turn; 4] = [
+const FREE: [Turn; 5] = [
     Turn(1, Call::Durable(32_778), Reply::Done),
     Turn(
         1,
@@ -75,7 +79,8 @@ const FREE: [Turn; 4] = [
         Call::Settle,
         Reply::Commits([6_554, 32_778, 32_783, 32_778, 0]),
     ),
-    Turn(1, Call::Begin, Reply::At(32_783)),
+    Turn(3, Call::Settle, Reply::Marked([32_783, 32_778])),
+    Turn(1, Call::Begin, Reply::At(32_788)),
 ];
 
 const RING: Gathered = Gathered::Words {

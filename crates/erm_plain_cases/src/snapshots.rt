@@ -81,6 +81,7 @@ pub(crate) fn ask_snapshot<W: SafeWorld>(world: &mut W, seat: Seat, call: Call) 
         (Call::SnapshotBegin, Phase::Pending) => Reply::At(world.snapshot_begin(seat)),
         (Call::SnapshotBegin, Phase::Safe) => Reply::At(world.snapshot_begin(seat)),
         (Call::SafeRead(oid), Phase::Safe) if oid < OID_LIMIT => read(world, seat, oid),
+        (Call::Mark, Phase::Safe) => Reply::At(world.mark(seat)),
         (Call::EndSafe, Phase::Pending) => end(world, seat),
         (Call::EndSafe, Phase::Safe) => end(world, seat),
         _ => Reply::OutOfPhase,
@@ -241,9 +242,33 @@ const FILLED: [Turn; 17] = [
     Turn(3, Call::EndSafe, Reply::Done),
 ];
 
+// A safe snapshot is sealed as a mark, behind a session that had sealed before it, and settles before that one does. It is over then, and the next
+// ones begin behind the mark.
+const MARKED: [Turn; 19] = [
+    Turn(3, Call::Mark, Reply::OutOfPhase),
+    Turn(1, Call::Begin, Reply::At(13)),
+    Turn(1, Call::Write(16, 7), Reply::Done),
+    Turn(3, Call::BeginSafe, Reply::At(13)),
+    Turn(3, Call::Mark, Reply::OutOfPhase),
+    Turn(3, Call::Survey, Reply::Done),
+    Turn(1, Call::Mark, Reply::OutOfPhase),
+    Turn(1, Call::Seal, Reply::At(13)),
+    Turn(3, Call::Mark, Reply::At(20)),
+    Turn(3, Call::Mark, Reply::OutOfPhase),
+    Turn(3, Call::SafeRead(16), Reply::OutOfPhase),
+    Turn(3, Call::EndSafe, Reply::OutOfPhase),
+    Turn(2, Call::Begin, Reply::At(25)),
+    Turn(3, Call::Settle, Reply::Marked([20, 13])),
+    Turn(3, Call::Settle, Reply::OutOfPhase),
+    Turn(1, Call::Settle, Reply::Commits([1, 13, 20, 13, 0])),
+    Turn(2, Call::Read(16), Reply::First(7)),
+    Turn(3, Call::BeginSafe, Reply::At(25)),
+    Turn(3, Call::Survey, Reply::Done),
+];
+
 const WENT_BEHIND: Reply = Reply::NotSafe(SafeStop::Unsafe { seat: 2, stamp: 35 });
 
-const CASES: [Case; 5] = [
+const CASES: [Case; 6] = [
     (
         "wait, unsafe, the next one, and unsafe again",
         &[
@@ -257,6 +282,7 @@ const CASES: [Case; 5] = [
     ("two at one stamp", &[Step::Turns(&AT_ONE_STAMP)]),
     ("a session sealed below", &[Step::Turns(&SEALED)]),
     ("whole rows", &[Step::Turns(&FILLED)]),
+    ("a mark", &[Step::Turns(&MARKED)]),
 ];
 
 #[test]

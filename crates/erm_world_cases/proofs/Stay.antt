@@ -6,7 +6,7 @@ use Rattle.erm_model.specs.declared.operation.Op.{Op}
 use Rattle.erm_model.specs.declared.operation.Op.TheVariants.{Get, Put, Del, Next, Scan, Save, Back}
 use Rattle.erm_model.specs.declared.operation.Reply.{Reply}
 use Rattle.erm_model.specs.declared.outcome.Outcome.{Outcome}
-use Rattle.erm_model.specs.declared.outcome.Outcome.TheVariants.{Committed, Excluded}
+use Rattle.erm_model.specs.declared.outcome.Outcome.TheVariants.{Committed, Excluded, Marked}
 use Rattle.erm_model.specs.declared.outcome.Phase.TheVariants.{Active, Idle}
 use Rattle.erm_model.specs.declared.row_stop.RowStop.{RowStop}
 use Rattle.erm_model.specs.RowTransaction.{Asked, Event, Face, IsStopped, Law, SameLaw, ends}
@@ -89,6 +89,7 @@ done_kept v t seat w fate runs did =
 outcome_kept : (v t : View) (seat : ℕ) (w : Work) (stamp : ℕ) (outcome : Outcome) → AllRun v → Settled v seat w stamp outcome t → Kept v t
 outcome_kept v t seat w stamp (Committed r) runs did = done_kept v t seat w _ runs did.0
 outcome_kept v t seat w stamp (Excluded at succ pred) runs did = done_kept v t seat w _ runs did.0
+outcome_kept v t seat w stamp (Marked at safe) runs did = done_kept v t seat w _ runs did.0
 
 pub settled_kept : (v t : View) (seat : ℕ) (r : Result Outcome Wait) → AllRun v
     → IfOk r (λ outcome. DidSettle v seat outcome t) → IfErr r (λ stop. DidNotSettle v seat stop t) → Kept v t

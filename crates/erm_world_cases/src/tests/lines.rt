@@ -102,6 +102,7 @@ pub(super) enum Asked {
     Commit,
     Abort,
     Safe,
+    Mark,
 }
 
 // What it is answered.
@@ -131,6 +132,8 @@ pub(super) enum Told {
     Excluded,
     // The snapshot is safe, at this stamp.
     Safe(Stamp),
+    // Its mark names the first stamp, and stands at the second.
+    Marked(Stamp, Stamp),
     // It waits for the session of this seat.
     Waits(Seat),
     Ended,
@@ -179,6 +182,7 @@ fn told_by_answer(answer: Answer) -> Told {
         Answer::Committed { stamp, .. } => Told::Committed(stamp),
         Answer::Excluded { .. } => Told::Excluded,
         Answer::Safe(stamp) => Told::Safe(stamp),
+        Answer::Marked { safe, stamp } => Told::Marked(safe, stamp),
         Answer::WaitSeat { seat, .. } => Told::Waits(seat),
         Answer::Ended => Told::Ended,
         Answer::Aborted => Told::Aborted,
@@ -222,6 +226,7 @@ fn command_of(asked: Asked) -> Option<Command>
         Asked::Commit => Some(Command::Commit),
         Asked::Abort => Some(Command::Abort),
         Asked::Safe => Some(Command::Safe),
+        Asked::Mark => Some(Command::Mark),
         _ => of_table(asked),
     }
 }
@@ -343,6 +348,32 @@ const SNAPSHOTS: [Exchange; 16] = [
 fn snapshots_by_lines(rt: HostRuntime) -> Result<(), AllocError> {
     let mut world = world(&rt, rt.alloc(), 16)?;
     assert_eq!(rt; first_other(rt.alloc(), &mut world, &SNAPSHOTS)?, None);
+    Ok(())
+}
+
+const MARKS: [Exchange; 14] = [
+    (1, Asked::Begin, Told::Began(13)),
+    (1, Asked::Mark, Told::NotSafe),
+    (1, Asked::Put(0, 5, 7), Told::Done),
+    (1, Asked::Commit, Told::Committed(13)),
+    (1, Asked::Mark, Told::NoTransaction),
+    (2, Asked::Safe, Told::Safe(33)),
+    (2, Asked::Mark, Told::Marked(33, 33)),
+    (2, Asked::Mark, Told::NoTransaction),
+    (1, Asked::Begin, Told::Began(38)),
+    (2, Asked::Safe, Told::Safe(38)),
+    (1, Asked::Seal, Told::Sealed(38)),
+    (1, Asked::Mark, Told::IsSealed),
+    // Behind the block of the other, for which it doesn't wait.
+    (2, Asked::Mark, Told::Marked(38, 43)),
+    (1, Asked::Settle, Told::Committed(38)),
+];
+
+// A safe snapshot leaves a mark in the log, and is over.
+#[test]
+fn marks_by_lines(rt: HostRuntime) -> Result<(), AllocError> {
+    let mut world = world(&rt, rt.alloc(), 16)?;
+    assert_eq!(rt; first_other(rt.alloc(), &mut world, &MARKS)?, None);
     Ok(())
 }
 

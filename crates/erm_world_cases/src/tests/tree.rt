@@ -24,7 +24,7 @@ fn renew<W: RowWorld>(world: &mut W) -> Option<Stamp>
     seal(world, 1)?;
     match settle(world, 1)? {
         Outcome::Committed(_) => begin(world, 1),
-        Outcome::Excluded { .. } => None,
+        Outcome::Excluded { .. } | Outcome::Marked { .. } => None,
     }
 }
 

@@ -11,7 +11,7 @@ pub returns-then-follows : goal.returns-then-follows
 returns-then-follows c = λ h is.
     let u = work_in c.args.done.now.work in
     let t = commit_with (work_in c.args.t.now) 0 in
-    subst (λ n. IsPredecessorStamp (h ++ commit_of 1 u (fate_of u.begin c.args.done.now.pred)) n t) (sym c.max.ensures)
+    subst (λ n. IsPredecessorStamp (h ++ commit_of 1 u (fate_of u.is_mark u.begin c.args.done.now.pred)) n t) (sym c.max.ensures)
     (pred_with h c.args.greatest t u c.args.done.now.pred (sym c.if-is_some.true ∙ c.is_some.ensures) c.if-done-t.true (c.follows.ensures.0 c.if-follows.true) is)
 
 pub returns-else-is_some : goal.returns-else-is_some

@@ -2,8 +2,12 @@ use Rattle.std.proofs.Common.{sym, ◌∙◌, ap, not}
 use Rattle.erm_model.specs.declared.history.VersionWritten.{VersionWritten}
 use Rattle.std.proofs.Common.{List}
 use Rattle.erm_map_world.specs.MapWorks.{found_row, work_in}
-use Rattle.erm_map_world.proofs.Versions.{version_none, version_some}
+use Rattle.erm_map_world.proofs.Versions.{version_none, version_some, version_still}
 use Rattle.erm_map_world.proofs.works.version.Goals as goal
+
+pub returns-then-is_none : goal.returns-then-is_none
+returns-then-is_none c =
+    version_still c.args.done.now.pred (work_in c.args.done.now.work) c.args.before (sym (c.is_none.ensures ∙ ap not c.if-is_none.true))
 
 pub returns-in-Some : goal.returns-in-Some
 returns-in-Some c =

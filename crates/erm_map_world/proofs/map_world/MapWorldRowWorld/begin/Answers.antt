@@ -9,4 +9,4 @@ pub returns-clause-stands : goal.returns-clause-stands
 returns-clause-stands g c =
     let s = c.args.self.now in
     begin_stands g.L.RowLaw.law (map_of s) s.phase (work_in s.work) c.args._seat c.requires.session _ _ _ c.requires.idle (ap (map done_of) c.reserve.ensures.items)
-    (blank_is c.blank.result (s.begun + 1) s.tail c.blank.ensures.number c.blank.ensures.begin c.blank.ensures.reads c.blank.ensures.claims c.blank.ensures.made) (ap saves_in c.clear.ensures.items) c.requires.stands
+    (blank_is c.blank.result (s.begun + 1) s.tail c.blank.ensures.number c.blank.ensures.begin c.blank.ensures.reads c.blank.ensures.claims c.blank.ensures.made c.blank.ensures.mark) (ap saves_in c.clear.ensures.items) c.requires.stands

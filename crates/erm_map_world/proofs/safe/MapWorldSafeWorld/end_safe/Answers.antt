@@ -22,7 +22,7 @@ returns-clause-stands g c =
     let s = c.args.self.now in
     let blank =
     blank_is c.blank-work.result s.begun s.tail c.blank-work.ensures.number c.blank-work.ensures.begin c.blank-work.ensures.reads c.blank-work.ensures.claims
-    c.blank-work.ensures.made
+    c.blank-work.ensures.made c.blank-work.ensures.mark
     in
     end_stands g.L.RowLaw.law (map_of s) s.phase (work_in s.work) c.args._seat c.requires.session _ c.requires.snapshot
     (ap (map done_of) (pushed c.push.result c.push.new.self.items s.over.items (record { work = c.blank-work.result; pred = None }) c.push.ensures.items (sym c.if-is_err.false ∙ c.is_err.ensures.value))
@@ -34,7 +34,7 @@ returns-clause-ended g c =
     let s = c.args.self.now in
     let blank =
     blank_is c.blank-work.result s.begun s.tail c.blank-work.ensures.number c.blank-work.ensures.begin c.blank-work.ensures.reads c.blank-work.ensures.claims
-    c.blank-work.ensures.made
+    c.blank-work.ensures.made c.blank-work.ensures.mark
     in
     end_done g.L.RowLaw.law (map_of s) s.phase (work_in s.work) c.args._seat c.requires.session _ c.requires.snapshot
     (ap (map done_of) (pushed c.push.result c.push.new.self.items s.over.items (record { work = c.blank-work.result; pred = None }) c.push.ensures.items (sym c.if-is_err.false ∙ c.is_err.ensures.value))
