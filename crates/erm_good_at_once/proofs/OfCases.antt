@@ -13,15 +13,16 @@ use Rattle.erm_report.specs.Printable.{FitsTypes}
 use Rattle.erm_script.specs.declared.script.Command.TheVariants as command
 use Rattle.erm_script.specs.declared.script.ScriptLine.{ScriptLine}
 use Rattle.erm_good_report.specs.GoodReport.{answer_lines, fault_line}
+use Rattle.erm_good_report.specs.Marks.{FitsSealed, HasMarkCause, StopsAtMarks, stop_told}
 use Rattle.erm_good_report.specs.Opening.{AtOnce, is_before}
 use Rattle.erm_good_report.specs.Phases.{FitsPhase, PhasesAgree, phase_of}
 use Rattle.erm_good_report.specs.Refusals.{HasCause, IsInReach}
 use Rattle.erm_good_report.specs.Stamps.{Told, begin_told, stamp_printed}
-use Rattle.erm_good_report.specs.Transactions.{Said, Transaction, said_of}
+use Rattle.erm_good_report.specs.Transactions.{Mark, Said, Snapshot, Transaction, progress_of, said_of}
 use Rattle.erm_good_report.proofs.Snapshots.{no_looks, no_safe, none_agree}
 use Rattle.erm_good_report.proofs.Parts.{all_pairs_from_test, each_place, pairs_pass, told_from_test, told_pass}
 use Rattle.erm_good_at_once.specs.Cases.{BeginsAgree, BegunAtOneMet, BegunBelowItsOwner, GapIsAllowed, HoleIsRefused, OutOfPhaseIsRefused, first_opening, lines_out_of_phase, lines_with_gap, lines_with_hole, names, said_met, said_named, script_with_gap}
-use Rattle.erm_good_at_once.specs.CutReports.{AreSerial, IsCutAtOnce, OwesInPart, answered_of, less, moment_in}
+use Rattle.erm_good_at_once.specs.CutReports.{AreSerial, IsCutAtOnce, MarksOweInPart, OwesInPart, answered_of, less, moment_in}
 
 less_from : (m n : ℕ) → nat_lt m n ≡ true → m < n
 less_from m n pass = grind (arith, nat_tests)
@@ -94,6 +95,28 @@ owes = record {
   safe = none_agree (moment_in first_opening script_with_gap (answered_of counts script_with_gap) (answer.NoTransaction ∷ []) []) first_opening (answered_of counts script_with_gap) (answer.NoTransaction ∷ []) [] refl;
 }
 
+-- and no mark
+abbrev part : List ScriptLine
+part = answered_of counts script_with_gap
+
+no_mark : (P : Mark → Type 0) (k : Mark) → k ∈ [] → P k
+no_mark P k (i, at) = cc
+
+marks : MarksOweInPart first_opening 2 script_with_gap part (answer.NoTransaction ∷ []) []
+marks = record {
+  settles = each_place (λ i l a. FitsSealed (progress_of l.session (take i (said_of part (answer.NoTransaction ∷ [])))).snapshot l.command a) part (answer.NoTransaction ∷ []) (tt, tt);
+  closes = λ c (k, at). cc;
+  stamps = no_mark _;
+  differ = λ i j d less within. absurd (omega arith);
+  causes = λ i l a s at answered is. each_place
+      (λ i l a. (s : Snapshot) → (progress_of l.session (take i (said_of part (answer.NoTransaction ∷ [])))).snapshot ≡ Some s
+          → HasMarkCause (moment_in first_opening script_with_gap part (answer.NoTransaction ∷ []) [] i l) [] s l.command a)
+      part (answer.NoTransaction ∷ []) ((λ s is. tt), tt) i l a at answered s is;
+  stops = λ i place l a at answered is. each_place
+      (λ i l a. (place : ℕ) → stop_told a ≡ Some place → StopsAtMarks (moment_in first_opening script_with_gap part (answer.NoTransaction ∷ []) [] i l) [] place)
+      part (answer.NoTransaction ∷ []) ((λ place is. absurd (cc is)), tt) i l a at answered place is;
+}
+
 cut_at_once : IsCutAtOnce first_opening names script_with_gap lines_with_gap
 cut_at_once = record {
   counts = counts;
@@ -105,6 +128,7 @@ cut_at_once = record {
   once = λ i j d less within. absurd (omega arith);
   unseen = λ c (k, at). cc;
   owes = owes;
+  marks = marks;
 }
 
 -- in turn the first line is answered first

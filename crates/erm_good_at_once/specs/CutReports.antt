@@ -12,12 +12,13 @@ use Rattle.erm_report.specs.Printable.{FitsTypes}
 use Rattle.erm_script.specs.declared.script.ScriptLine.{ScriptLine}
 use Rattle.erm_good_report.specs.Causes.{HasCauseOf}
 use Rattle.erm_good_report.specs.GoodReport.{answer_lines, places_of}
+use Rattle.erm_good_report.specs.Marks.{MarksAgree}
 use Rattle.erm_good_report.specs.Opening.{AtOnce, Opening}
 use Rattle.erm_good_report.specs.Phases.{Closed, Closes, PhasesAgree, phase_of}
 use Rattle.erm_good_report.specs.Refusals.{HasCause, IsInReach, Moment, moment_at}
 use Rattle.erm_good_report.specs.Snapshots.{SnapshotsAgree}
 use Rattle.erm_good_report.specs.Stamps.{StampsAgree}
-use Rattle.erm_good_report.specs.Transactions.{Transaction, ended_of, history_of, said_of, steps_of, transactions_of}
+use Rattle.erm_good_report.specs.Transactions.{Transaction, ended_of, history_of, marks_of, said_of, steps_of, transactions_of}
 use Rattle.erm_good_at_once.specs.Rising.{StampsRise}
 
 -- one line less of a session
@@ -52,6 +53,12 @@ pub record OwesInPart (opening : Opening) (whole part : List ScriptLine) (answer
       → IsInReach (moment_in opening whole part answers told i l) l.command a
   pub safe : SnapshotsAgree (moment_in opening whole part answers told) opening part answers told
 
+-- what the marks of such a part owe, of all that its lines tell
+abbrev pub MarksOweInPart : Opening → ℕ → (whole part : List ScriptLine) → List Answer → List Closed → Type 0
+MarksOweInPart opening sessions whole part answers closed =
+    let told = transactions_of sessions (places_of part answers closed) in
+    MarksAgree (moment_in opening whole part answers told) part answers closed told (marks_of sessions (places_of part answers closed))
+
 -- A session that was closed though no line tells it: each of its lines is answered, one written twice twice, and they leave it sealed.
 pub record IsUnseen (whole part : List ScriptLine) (answers : List Answer) (c : Closed) : Type 0 where
   pub fits : Closes Sealed c.answer
@@ -72,3 +79,4 @@ pub record IsCutAtOnce (opening : Opening) (names : List (List ℕ)) (script : L
   pub owes : OwesInPart opening script (answered_of counts script) answers
       (transactions_of (length names) (places_of (answered_of counts script) answers closed))
       (ended_of (length names) (places_of (answered_of counts script) answers closed))
+  pub marks : MarksOweInPart opening (length names) script (answered_of counts script) answers closed

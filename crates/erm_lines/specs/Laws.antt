@@ -10,7 +10,7 @@ use Rattle.erm_report.specs.declared.answer.Answer.TheVariants as answer
 use Rattle.erm_script.specs.declared.script.ScriptLine.{ScriptLine}
 use Rattle.erm_world.specs.World.{IsSession, View, phase_at}
 use Rattle.erm_good_report.specs.Causes.{HasCauseOf}
-use Rattle.erm_good_report.specs.GoodReport.{HaveTightWindows, places_of, serial_of}
+use Rattle.erm_good_report.specs.GoodReport.{HaveTightWindows, MarksOwe, places_of, serial_of}
 use Rattle.erm_good_report.specs.Opening.{Opening, InTurn}
 use Rattle.erm_good_report.specs.Phases.{Closed, ClosesAgree, PhasesAgree, phase_of}
 use Rattle.erm_good_report.specs.Refusals.{HasCauses, moment_at}
@@ -102,6 +102,19 @@ RunsHaveSafeSnapshots = OfRuns (λ opening script answers closed told. Snapshots
 
 abbrev pub PartsHaveSafeSnapshots : Type 0
 PartsHaveSafeSnapshots = OfParts (λ opening script answers closed told. SnapshotsAgree (moment_at InTurn opening script answers told) opening script answers told)
+
+-- what any run so far owes of the marks of snapshots; so do a whole run, and one that was cut off
+abbrev pub CoursesHaveMarks : Type 0
+CoursesHaveMarks = (v t : View) (script : List ScriptLine) (answers : List Answer) (course : IsCourse v script answers t) (closed : List Closed) (opening : Opening)
+    → AreClosed course.closing closed → IsOpeningOf v opening → MarksOwe InTurn opening v.opening.sessions script answers closed
+
+abbrev pub RunsHaveMarks : Type 0
+RunsHaveMarks = (v t : View) (script : List ScriptLine) (answers : List Answer) (run : IsRun v script answers t) (closed : List Closed) (opening : Opening)
+    → AreClosed run.closing closed → IsOpeningOf v opening → MarksOwe InTurn opening v.opening.sessions script answers closed
+
+abbrev pub PartsHaveMarks : Type 0
+PartsHaveMarks = (v t : View) (script : List ScriptLine) (answers : List Answer) → IsPart v script answers t → (opening : Opening) → IsOpeningOf v opening
+    → MarksOwe InTurn opening v.opening.sessions script answers []
 
 -- Run in the serial order of all, the commits told and the safe snapshots that ended give their replies, and end in the map of the commits alone:
 -- where there are no more sessions than there may be.

@@ -6,7 +6,7 @@ use Rattle.erm_model.specs.Member.{◌∈◌}
 use Rattle.erm_report.specs.declared.answer.Answer.{Answer}
 use Rattle.erm_script.specs.declared.script.ScriptLine.{ScriptLine}
 use Rattle.erm_world.specs.World.{IsSession, View}
-use Rattle.erm_good_report.specs.GoodReport.{places_of, serial_of}
+use Rattle.erm_good_report.specs.GoodReport.{MarksOwe, places_of, serial_of}
 use Rattle.erm_good_report.specs.Opening.{AtOnce, Opening}
 use Rattle.erm_good_report.specs.Phases.{Closed, ClosesAgree, PhasesAgree}
 use Rattle.erm_good_report.specs.Refusals.{moment_at}
@@ -49,6 +49,11 @@ RunsAtOnceHaveSnapshots = OfRunsAtOnce (λ opening script answers closed told.
 -- what executions at once owe of snapshots that only read
 abbrev pub RunsAtOnceHaveSafeSnapshots : Type 0
 RunsAtOnceHaveSafeSnapshots = OfRunsAtOnce (λ opening script answers closed told. SnapshotsAgree (moment_at AtOnce opening script answers told) opening script answers told)
+
+-- and of their marks
+abbrev pub RunsAtOnceHaveMarks : Type 0
+RunsAtOnceHaveMarks = (v f : View) (script : List ScriptLine) (answers : List Answer) (closed : List Closed) (opening : Opening)
+    → IsRunAtOnce v script answers closed f → IsOpeningOf v opening → MarksOwe AtOnce opening v.opening.sessions script answers closed
 
 -- run in the serial order, the commits told give their replies, from the opening's map on
 abbrev pub RunsAtOnceAreSerial : Type 0

@@ -19,7 +19,7 @@ use Rattle.erm_good_report.specs.Refusals.{draws_of, total_of}
 use Rattle.erm_good_report.specs.Snapshots.{SnapshotsAgree}
 use Rattle.erm_good_report.specs.Stamps.{StampsAgree}
 use Rattle.erm_good_report.specs.Transactions.{Transaction, history_of as commits_of, progress_of, said_of, steps_of, transactions_of}
-use Rattle.erm_good_at_once.specs.CutReports.{AreSerial, moment_in}
+use Rattle.erm_good_at_once.specs.CutReports.{AreSerial, MarksOweInPart, moment_in}
 use Rattle.erm_good_at_once.specs.Rising.{StampsRise}
 use Rattle.erm_lines.specs.Executions.{IsOpened, IsOpeningOf}
 use Rattle.erm_lines.specs.Told.{Tells}
@@ -75,6 +75,10 @@ RunsInPartHaveSnapshots = OfRunsInPart (λ opening whole part answers told.
 
 abbrev pub RunsInPartHaveSafeSnapshots : Type 0
 RunsInPartHaveSafeSnapshots = OfRunsInPart (λ opening whole part answers told. SnapshotsAgree (moment_in opening whole part answers told) opening part answers told)
+
+abbrev pub RunsInPartHaveMarks : Type 0
+RunsInPartHaveMarks = (v f : View) (whole part : List ScriptLine) (answers : List Answer) (closed : List Closed) (opening : Opening)
+    → IsRunInPart v whole part answers closed f → IsOpeningOf v opening → MarksOweInPart opening v.opening.sessions whole part answers closed
 
 abbrev pub RunsInPartAreSerial : Type 0
 RunsInPartAreSerial = OfRunsInPart (λ opening whole part answers told. AreSerial opening (commits_of told))

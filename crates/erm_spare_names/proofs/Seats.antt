@@ -11,7 +11,7 @@ use Rattle.erm_report.specs.declared.answer.Answer.{Answer}
 use Rattle.erm_report.specs.declared.answer.Answer.TheVariants as answer
 use Rattle.erm_script.specs.declared.script.Command.{Command}
 use Rattle.erm_good_report.specs.Phases.{phase_after, phase_of}
-use Rattle.erm_good_report.specs.Transactions.{Aborts, Commits, Ending, Excludes, Progress, Said, Snapshot, Transaction, committed_as, committed_of, ended, ended_as, ended_of, goes_on, heard, history_of, nothing, own_snapshot, placed_at, progress_of, transactions_of, with_end, with_ending, with_line, with_seal}
+use Rattle.erm_good_report.specs.Transactions.{Aborts, Commits, Ending, Excludes, Progress, Said, Snapshot, Transaction, committed_as, committed_of, ended, ended_as, ended_of, goes_on, heard, history_of, marked_as, marks_of, nothing, own_snapshot, placed_at, progress_of, transactions_of, with_end, with_ending, with_line, with_mark, with_seal}
 
 -- ---- what is so of all elements
 
@@ -121,6 +121,11 @@ ended_without_spare sessions spare said first =
     flat_spare (λ seat. filter_map (ended_as seat) (progress_of seat said).snapshots) 1 sessions spare
     (λ seat low. ap (λ (p : Progress). filter_map (ended_as seat) p.snapshots) (no_progress sessions seat (omega (arith, low)) said first nothing))
 
+pub marks_without_spare : (sessions spare : ℕ) (said : List Said) → IsSaidOfFirst sessions said → marks_of (sessions + spare) said ≡ marks_of sessions said
+marks_without_spare sessions spare said first =
+    flat_spare (λ seat. filter_map (marked_as seat) (progress_of seat said).snapshots) 1 sessions spare
+    (λ seat low. ap (λ (p : Progress). filter_map (marked_as seat) p.snapshots) (no_progress sessions seat (omega (arith, low)) said first nothing))
+
 -- ---- a transaction that is told is one of its seat, and so is a snapshot that ended
 
 abbrev IsOf : ℕ → Transaction → Type 0
@@ -166,6 +171,7 @@ after_answer seat asked answer.NotSafe p are = are
 after_answer seat asked (answer.Safe begin) p are = are
 after_answer seat asked (answer.Unsafe other stamp) p are = over seat Aborts (record p { snapshot = Some (own_snapshot p) }) are
 after_answer seat asked answer.Ended p are = over seat Aborts (record p { snapshot = option_map with_end p.snapshot }) are
+after_answer seat asked (answer.Marked safe stamp) p are = over seat Aborts (record p { snapshot = option_map (with_mark safe stamp) p.snapshot }) are
 after_answer seat asked a p are = on seat asked a p are
 
 either : (seat : ℕ) (own : Bool) (p q : Progress) → AreOf seat p → AreOf seat q → AreOf seat (cond own q p)

@@ -17,14 +17,16 @@ use Rattle.erm_report.specs.declared.line.Line.{Line}
 use Rattle.erm_report.specs.declared.line.Line.TheVariants as line
 use Rattle.erm_script.specs.declared.script.ScriptLine.{ScriptLine}
 use Rattle.erm_script.specs.Script.{name_of}
-use Rattle.erm_good_report.specs.GoodReport.{HaveTightWindows, IsGoodReport, OrderAgrees, OwesToAnswers, Report, answer_lines, close_line, line_in_order, order_line, places_of, report_lines, serial_of}
+use Rattle.erm_good_report.specs.GoodReport.{HaveTightWindows, IsGoodReport, MarksOwe, OrderAgrees, OwesToAnswers, Report, answer_lines, close_line, line_in_order, order_line, places_of, report_lines, serial_of}
+use Rattle.erm_good_report.specs.Marks.{MarksAgree}
 use Rattle.erm_good_report.specs.Opening.{AtOnce, Opening}
 use Rattle.erm_good_report.specs.Phases.{Closed, ClosesAgree, is_idle, phase_of}
-use Rattle.erm_good_report.specs.Transactions.{Said, Transaction, ended_of, history_of, said_of, transactions_of}
-use Rattle.erm_good_at_once.specs.CutReports.{IsUnseen, OwesInPart, answered_of, less}
+use Rattle.erm_good_report.specs.Refusals.{moment_at}
+use Rattle.erm_good_report.specs.Transactions.{Mark, Said, Transaction, ended_of, history_of, marks_of, said_of, transactions_of}
+use Rattle.erm_good_at_once.specs.CutReports.{IsUnseen, OwesInPart, answered_of, less, moment_in}
 use Rattle.erm_good_at_once.specs.Rising.{StampsRise}
 use Rattle.erm_spare_names.specs.Spare.{CutWithoutSpare, GoodWithoutSpare, NamesOnlyFirst, SpareNamesTellNothing, TellNoMore}
-use Rattle.erm_spare_names.proofs.Seats.{IsSaidOfFirst, commits_of_seats, each_before, each_either, each_joined, each_mapped, each_member, each_weaker, ended_of_seats, ended_without_spare, filter_spare, filter_within, spare_is_idle, told_of_seats, told_without_spare}
+use Rattle.erm_spare_names.proofs.Seats.{IsSaidOfFirst, commits_of_seats, each_before, each_either, each_joined, each_mapped, each_member, each_weaker, ended_of_seats, ended_without_spare, filter_spare, filter_within, marks_without_spare, spare_is_idle, told_of_seats, told_without_spare}
 
 -- ---- places of a script's lines, and of sessions that were closed
 
@@ -107,6 +109,9 @@ module _ (names spare : List (List ℕ)) where
     no_more_ended : ended_of (length names) said ≡ ended_of (length (names ++ spare)) said
     no_more_ended = sym (ap (λ (n : ℕ). ended_of n said) seats ∙ ended_without_spare (length names) (length spare) said first)
 
+    no_more_marks : marks_of (length names) said ≡ marks_of (length (names ++ spare)) said
+    no_more_marks = sym (ap (λ (n : ℕ). marks_of n said) seats ∙ marks_without_spare (length names) (length spare) said first)
+
     no_more_placed : serial_of (length names) said ≡ serial_of (length (names ++ spare)) said
     no_more_placed =
         ap (λ (ts : List Transaction). history_of ts ++ ended_of (length names) said) no_more
@@ -149,6 +154,7 @@ good opening names spare script lines few told = (
       each = g.each;
       closes = closes;
       owes = subst (λ (ts : List Transaction). OwesToAnswers AtOnce opening script r.answers ts) (sym same) g.owes;
+      marks = marks_owed;
       order = subst (λ (cs : List Committed). OrderAgrees cs opening.map r) (sym placed) g.order;
     };
     rise = subst (λ (ts : List Transaction). StampsRise AtOnce ts (said_of script r.answers)) (sym same) told.rise;
@@ -187,6 +193,12 @@ good opening names spare script lines few told = (
 
     placed : serial_of (length names) places ≡ serial_of (length (names ++ spare)) places
     placed = no_more_placed names spare places first
+
+    marks_owed : MarksOwe AtOnce opening (length names) script r.answers r.closed
+    marks_owed =
+        subst (λ (ks : List Mark). MarksAgree (moment_at AtOnce opening script r.answers (transactions_of (length names) places)) script r.answers r.closed (transactions_of (length names) places) ks)
+        (sym (no_more_marks names spare places first))
+        (subst (λ (ts : List Transaction). MarksAgree (moment_at AtOnce opening script r.answers ts) script r.answers r.closed ts (marks_of (length (names ++ spare)) places)) (sym same) g.marks)
 
     ends_named : AllByRecursion (λ (c : Closed). IsNamedAlike names spare c.session) r.closed
     ends_named = closed_of_seats names spare (said_of script r.answers) said (IsNamedAlike names spare) (named_alike names spare) r.closed closes
@@ -238,6 +250,10 @@ cut opening names spare script lines few told =
         owes =
             subst (λ (cs : List Committed). OwesInPart opening script part told.answers (transactions_of (length names) places) cs) (sym (no_more_ended names spare places first))
             (subst (λ (ts : List Transaction). OwesInPart opening script part told.answers ts (ended_of (length (names ++ spare)) places)) (sym same) told.owes);
+        marks =
+            subst (λ (ks : List Mark). MarksAgree (moment_in opening script part told.answers (transactions_of (length names) places)) part told.answers told.closed (transactions_of (length names) places) ks)
+            (sym (no_more_marks names spare places first))
+            (subst (λ (ts : List Transaction). MarksAgree (moment_in opening script part told.answers ts) part told.answers told.closed ts (marks_of (length (names ++ spare)) places)) (sym same) told.marks);
       },
       refl,
       refl,

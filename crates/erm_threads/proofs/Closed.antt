@@ -12,6 +12,7 @@ use Rattle.erm_threads.specs.Work.{DidWork, WasEnded}
 decided_idle : (seat : ℕ) (a : Answer) (v t : View) → DidDecideBeside seat a v t → phase_at t seat ≡ Idle
 decided_idle seat (answer.Committed stamp succ pred) v t (r, at, above, below, after) = ap (λ (s : Session). phase_of s.stand) after.2.3.0.own
 decided_idle seat (answer.Excluded stamp succ pred) v t after = ap (λ (s : Session). phase_of s.stand) after.2.3.0.own
+decided_idle seat (answer.Marked safe stamp) v t after = ap (λ (s : Session). phase_of s.stand) after.2.3.0.own
 decided_idle seat a v t did = absurd did
 
 close_idle : (phase : Phase) (seat : ℕ) (a : Answer) (v t : View) → DidCloseBeside phase seat a v t → phase_at t seat ≡ Idle

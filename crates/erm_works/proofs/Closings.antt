@@ -22,6 +22,7 @@ closing_cases Active answer.Aborted fits = inl refl
 closing_cases Active a fits = absurd fits
 closing_cases Sealed (answer.Committed stamp succ pred) fits = inr (tt, refl)
 closing_cases Sealed (answer.Excluded stamp succ pred) fits = inr (tt, refl)
+closing_cases Sealed (answer.Marked safe stamp) fits = inr (tt, refl)
 closing_cases Sealed a fits = absurd fits
 closing_cases Pending answer.Aborted fits = inl refl
 closing_cases Pending a fits = absurd fits
