@@ -206,7 +206,7 @@ module _
       let is_saved : (s : IsSaved sound here h.pair c old wrote) × Meets (base (put h.pair c)) s.there.blocks =
       subst (λ (x : State). (s : IsSaved sound x h.pair c old wrote) × Meets (base (put h.pair c)) s.there.blocks) (all_behind log slots c.slot.stamp old p)
       (saved_meeting sound respects Meets (state_at log p.front) [] p.blocks h.pair c old may (met_same sound log slots old h (state_behind (state_at log p.front) p.blocks) may.there)
-      (meets_rest start h.front p.front p.blocks (state_of (Some c)) p.split may.state.at)) in
+      (meets_rest start h.front p.front p.blocks (state_of (Some c)) p.split may.state)) in
       let s = is_saved.0 in
       let from = s.from in
       let stamp = past_low log slots c.slot.stamp old p in

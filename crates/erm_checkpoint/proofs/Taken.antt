@@ -275,7 +275,7 @@ module _
       let Meets : State → List Block → Type 0 = MeetsLast start h.front in
       let is_saved : (s : IsSaved sound here h.pair c old wrote) × Meets (base (put h.pair c)) s.there.blocks =
       saved_meeting sound respects Meets here [] [] h.pair c old may (met_same sound log slots old h here may.there)
-      (meets_rest start h.front h.front [] (state_of (Some c)) (sym (append-nil h.front)) may.state.at) in
+      (meets_rest start h.front h.front [] (state_of (Some c)) (sym (append-nil h.front)) may.state) in
       let s = is_saved.0 in
       let from = s.from in
       let low : removal_end slots ≤ (base (put h.pair c)).at / SEGMENT_WORDS = removals_below log slots c old h may in

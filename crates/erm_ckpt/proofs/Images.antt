@@ -268,25 +268,25 @@ meets_more start front from met more m = record {
 }
 
 -- recovery begins behind a part of the front, and meets the others
-pub meets_rest : (start : State) (front passed both : List Block) (from : State) → front ≡ passed ++ both → from.at ≡ (state_behind start passed).at → MeetsLast start front from both
-meets_rest start front passed both from split at = record {
+pub meets_rest : (start : State) (front passed both : List Block) (from : State) → front ≡ passed ++ both → SameState from (state_behind start passed) → MeetsLast start front from both
+meets_rest start front passed both from split same = record {
   older = [];
   passed = passed;
   both = both;
   met_is = refl;
   front_is = split;
-  joins = at;
+  joins = same;
   one = inl refl;
 }
 
 -- recovery meets older blocks, and nothing of the front is there yet
-pub meets_older : (start from : State) (met : List Block) → (state_behind from met).at ≡ start.at → MeetsLast start [] from met
-meets_older start from met at = record {
+pub meets_older : (start from : State) (met : List Block) → SameState (state_behind from met) start → MeetsLast start [] from met
+meets_older start from met same = record {
   older = met;
   passed = [];
   both = [];
   met_is = sym (append-nil met);
   front_is = refl;
-  joins = at;
+  joins = same;
   one = inr refl;
 }

@@ -22,14 +22,15 @@ pub record RecoversTo (sound : Rows → Type 0) (state : State) (pair : Pair) (i
   pub opens : IsFresh (state.run + 1) image state.at
 
 -- Recovery that begins at a state meets blocks, of which the last ones are of a front that stands from another state on: the whole front, behind
--- older blocks up to where the front begins; or no older ones, and of the front those from the place on where recovery begins.
+-- older blocks up to where the front begins; or no older ones, and of the front those from the place on where recovery begins. Where they join, both
+-- have one state.
 pub record MeetsLast (start : State) (front : List Block) (base : State) (met : List Block) : Type 0 where
   pub older : List Block
   pub passed : List Block
   pub both : List Block
   pub met_is : met ≡ older ++ both
   pub front_is : front ≡ passed ++ both
-  pub joins : (state_behind base older).at ≡ (state_behind start passed).at
+  pub joins : SameState (state_behind base older) (state_behind start passed)
   pub one : (older ≡ []) ⊎ (passed ≡ [])
 
 -- An image recovers to the state behind a front of these blocks, which stand from a state on: to all below a place at least. The blocks that it

@@ -13,9 +13,9 @@ use Rattle.erm_log_words.specs.Tears.{IsFresh}
 use Rattle.erm_log_words.specs.Words.{word_at}
 use Rattle.erm_outside.specs.Disk.{contents, Image, IsImage, IsSettled, Step}
 use Rattle.erm_ckpt.specs.declared.slot.TheConstants.{LOG_START}
-use Rattle.erm_ckpt.specs.Recovered.{Pair, State, base, best, end_at, slots_of}
+use Rattle.erm_ckpt.specs.Recovered.{Pair, State, base, best, end_at, slots_of, state_behind}
 use Rattle.erm_ckpt.proofs.Images.{meets_older, state_grows}
-use Rattle.erm_ckpt.specs.States.{HoldsAll, RecoversTo}
+use Rattle.erm_ckpt.specs.States.{HoldsAll, RecoversTo, SameState}
 use Rattle.erm_recover.specs.Opening.{Opens, RecoversEither, open_block, opened}
 use Rattle.erm_checkpoint.specs.Taken.{HoldsLog, state_at}
 use Rattle.erm_world.specs.Log.{Log, words_of}
@@ -77,6 +77,11 @@ module _ (sound : Rows → Type 0) where
   opened_holds state pair log steps just holds begins =
       let next : State = opened state in
       let place : next.at ≡ log.flushed = sym just.at ∙ sym just.flushed in
+      let as_opened : SameState (state_behind (base pair) holds.there.blocks) (state_at log []) = record {
+        at = holds.there.is.at ∙ sym just.at;
+        run = holds.there.is.run ∙ sym just.run;
+        rows = λ oid less. holds.there.is.rows oid less ∙ sym (just.rows oid less);
+      } in
       record {
         ready = record {
           settled = holds.settled;
@@ -92,13 +97,9 @@ module _ (sound : Rows → Type 0) where
         there = record {
           blocks = holds.there.blocks;
           recovers = holds.there.recovers;
-          is = record {
-            at = holds.there.is.at ∙ sym just.at;
-            run = holds.there.is.run ∙ sym just.run;
-            rows = λ oid less. holds.there.is.rows oid less ∙ sym (just.rows oid less);
-          };
+          is = as_opened;
           opens = subst (λ (at : ℕ). IsFresh (log.opened.run + 1) (contents steps) at) (sym just.at)
               (subst (λ (run : ℕ). IsFresh (run + 1) (contents steps) next.at) (sym just.run) holds.there.opens);
         };
-        meets = meets_older (state_at log []) (base pair) holds.there.blocks (holds.there.is.at ∙ sym just.at);
+        meets = meets_older (state_at log []) (base pair) holds.there.blocks as_opened;
       }

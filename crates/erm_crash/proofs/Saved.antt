@@ -156,7 +156,7 @@ module _
       let start : State = state_at m [] in
       let Q : State → List Block → Type 0 = MeetsLast start h.front in
       let meets = met_same sound m slots mid h here s.may.there in
-      let behind = meets_rest start h.front h.front [] (state_of (Some c)) (sym (append-nil h.front)) s.may.state.at in
+      let behind = meets_rest start h.front h.front [] (state_of (Some c)) (sym (append-nil h.front)) s.may.state in
       let kept : AtMoments (Torn sound respects Q here) mid new = elim s.saves [
         | inl part ↦ elim part [
           | inl writes ↦ part_keeps sound respects Q here [] pair c mid s.may meets behind new writes
@@ -205,7 +205,7 @@ module _
       let start : State = state_at m [] in
       let Q : State → List Block → Type 0 = MeetsLast start h.front in
       let meets = met_same sound m slots mid h (state_behind from p.blocks) s.may.there in
-      let behind = meets_rest start h.front p.front p.blocks (state_of (Some c)) p.split s.may.state.at in
+      let behind = meets_rest start h.front p.front p.blocks (state_of (Some c)) p.split s.may.state in
       let kept : AtMoments (Torn sound respects Q (state_behind from p.blocks)) mid new = elim s.saves [
         | inl part ↦ elim part [
           | inl writes ↦ part_keeps sound respects Q from p.blocks pair c mid s.may meets behind new writes

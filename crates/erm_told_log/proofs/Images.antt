@@ -41,7 +41,7 @@ module _ (sound : Rows → Type 0) (log : Log) (place : ℕ) (image : Image) (is
         let start : (state_behind (state_at log []) m.passed).at ≡ log.opened.at = ap (λ (bs : List Block). (state_behind (state_at log []) bs).at) none in
         let there = older_within b within in
         let less = there.below in
-        let joins = m.joins in
+        let joins = m.joins.at in
         omega (arith, less, joins, start)
   ]
 
@@ -52,7 +52,7 @@ module _ (sound : Rows → Type 0) (log : Log) (place : ℕ) (image : Image) (is
         let split : log.gathered ≡ m.passed ++ (m.both ++ past.rest) = past.split ∙ ap (λ (bs : List Block). bs ++ past.rest) m.front_is ∙ append_assoc m.passed m.both past.rest in
         let there = log_within sound log m.passed (m.both ++ past.rest) is split b within in
         let less = there.below in
-        let joins = m.joins in
+        let joins = m.joins.at in
         omega (arith, less, joins, begins)
     | inr none ↦ absurd (none_in_nil b (subst (λ (bs : List Block). b ∈ bs) none within))
   ]
