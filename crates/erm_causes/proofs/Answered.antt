@@ -15,7 +15,7 @@ use Rattle.erm_world.specs.Calls.{IsDone}
 use Rattle.erm_world.specs.Laws.{FitsWork, IsSerializable}
 use Rattle.erm_world.specs.Snapshots.{snapshot_not_active}
 use Rattle.erm_world.specs.Works.{claiming, reading}
-use Rattle.erm_world.specs.World.{Finished, IsSession, IsWorking, Session, Stand, View, Work, history_of, phase_at, phase_of, stamp_of, work_at, work_of}
+use Rattle.erm_world.specs.World.{Finished, IsSession, Session, Stand, View, Work, history_of, phase_at, phase_of, stamp_of, work_at, work_of}
 use Rattle.erm_world.specs.World as world
 use Rattle.erm_world.proofs.Lists.{∈-before, ∈-last}
 use Rattle.erm_world.proofs.Works.{is_claimed-push, row_read-push}
@@ -30,7 +30,7 @@ use Rattle.erm_lines.specs.Told.{TellsNow}
 use Rattle.erm_causes.specs.Touched.{AreOfTables, Touches, WasClosed}
 use Rattle.erm_causes.proofs.Begun.{CommitsKeep}
 use Rattle.erm_causes.proofs.Coloured.{AskedOf, KeepsTables}
-use Rattle.erm_causes.proofs.Fine.{FineAt, FineNow, FineOne, FineOver, IsFine, Turned, history_grows, number_told, over_later, still_session, touches_same, turned_then}
+use Rattle.erm_causes.proofs.Fine.{FineAt, FineNow, FineOne, FineOver, IsFine, Turned, history_grows, number_told, over_later, still_session, touches_same, turned_then, IsWorking}
 use Rattle.erm_causes.proofs.Together.{together_one_more}
 use Rattle.erm_causes.proofs.Lines.{CutFine, commits_keep, current_in, cut_fine, names_line, ran_made, stays_keep, still_saved, turned_by, whole_fine, writes_line}
 use Rattle.erm_causes.proofs.Made.{made_by_one, made_done}

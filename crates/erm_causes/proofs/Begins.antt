@@ -5,7 +5,7 @@ use Rattle.std.proofs.lemmas.Option.{slice_get_past}
 use Rattle.erm_model.specs.declared.limits.TheConstants.{STOP}
 use Rattle.erm_model.specs.declared.outcome.Phase.TheVariants.{Idle}
 use Rattle.erm_model.specs.Member.{◌∈◌}
-use Rattle.erm_machine.proofs.Listed.{∈-first}
+use Rattle.erm_machine.proofs.Listed.{∈-first, ∈-head, ∈-second}
 use Rattle.erm_node.specs.Sound.{sound_law}
 use Rattle.erm_report.specs.declared.answer.Answer.{Answer}
 use Rattle.erm_report.specs.declared.answer.Answer.TheVariants as answer
@@ -14,7 +14,7 @@ use Rattle.erm_script.specs.declared.script.Command.TheVariants as command
 use Rattle.erm_script.specs.declared.script.ScriptLine.{ScriptLine}
 use Rattle.erm_world.specs.Laws.{IsNumbered, IsSerializable}
 use Rattle.erm_world.specs.Safe.{HasSnapshot}
-use Rattle.erm_world.specs.World.{Finished, Has, IsCurrent, IsSession, IsWorking, Session, Stand, View, Work, begun, phase_at, work_of}
+use Rattle.erm_world.specs.World.{Finished, Has, IsCurrent, IsSession, Session, Stand, View, Work, begun, phase_at, work_of}
 use Rattle.erm_world.specs.World as world
 use Rattle.erm_good_report.specs.Phases.{refusal_in}
 use Rattle.erm_good_report.specs.Snapshots.{BeginsSnapshot, IsOfSnapshot}
@@ -23,17 +23,17 @@ use Rattle.erm_good_report.proofs.Places.{said_by}
 use Rattle.erm_lines.specs.Answers.{DidAskSafe, DidAskSnapshot, DidBeginAndAsk, DidCommand, DidLine, DidOfSnapshot}
 use Rattle.erm_lines.specs.Executions.{DidLog, DidLogLine, DidMove, IsExecution, IsOpened, Move, move_of}
 use Rattle.erm_lines.specs.Laws.{ExecutionsGoOn, ExecutionsTell}
-use Rattle.erm_lines.specs.Told.{Tells, TellsWatched}
+use Rattle.erm_lines.specs.Told.{Tells, TellsWatched, IsStillSealed}
 use Rattle.erm_lines.proofs.Moved.{moved}
 use Rattle.erm_lines.proofs.Watched.{start_where}
-use Rattle.erm_told.specs.Snapshots.{ExecutionsKeepBegins, begin_in}
+use Rattle.erm_told.specs.Snapshots.{ExecutionsKeepBegins, begin_in, HasNumbered}
 use Rattle.erm_told.proofs.Lasting.{Lasts, lasts_asked}
 use Rattle.erm_told.proofs.Lasting as lasting
 use Rattle.erm_told.proofs.Lines.{in_either}
 use Rattle.erm_told.proofs.Sessions.{next_is, watched_none}
 use Rattle.erm_told.proofs.Watching.{own_watched}
 use Rattle.erm_causes.proofs.AtPlaces.{AtPlace}
-use Rattle.erm_causes.proofs.Fine.{still_session}
+use Rattle.erm_causes.proofs.Fine.{still_session, IsWorking}
 use Rattle.erm_causes.proofs.Quiet.{idle_with}
 use Rattle.erm_causes.proofs.Waits.{allowed}
 
@@ -57,12 +57,27 @@ begin_of v seat numbered w (inr now) =
     let past : slice_get s.over (w.number - 1) ≡ None = slice_get_past s.over (w.number - 1) (omega (arith, numbered.now w now)) in
     ap (λ (o : Option Finished). option_map_or (λ (g : Finished). g.work.begin) o (work_of s.stand).begin) past ∙ ap (λ (x : Work). x.begin) (current_is s.stand w now)
 
+pub begin_by : (v : View) (seat : ℕ) → IsNumbered (v.session seat) → (number begin : ℕ) → HasNumbered v seat number begin → begin_in (v.session seat) number ≡ begin
+begin_by v seat numbered number begin (w, has, number_is, begin_is) =
+    sym (ap (λ (n : ℕ). begin_in (v.session seat) n) number_is) ∙ begin_of v seat numbered w has ∙ begin_is
+
+-- what is sealed is the session's at the end
+sealed_then : (w : Work) (stamp : ℕ) (t : View) (seat : ℕ) → IsStillSealed w stamp (t.session seat) → Has t seat w
+sealed_then w stamp t seat (inl still) = inr (subst (λ (at : Stand). IsCurrent at w) (sym still) refl)
+sealed_then w stamp t seat (inr (f, rest, front, over, is, stamped)) = inl (f, subst (λ (fs : List Finished). f ∈ fs) (sym over) (∈-second front (f ∷ rest) f (∈-head f rest)), is)
+
+pub sealed_numbered : ExecutionsGoOn → (moves : List Move) (v t : View) (seat : ℕ) (w : Work) (stamp : ℕ) → IsExecution v moves t → IsSession v seat → (v.session seat).stand ≡ world.sealed w stamp
+    → HasNumbered t seat w.number w.begin
+sealed_numbered go moves v t seat w stamp executed session stand = (w, sealed_then w stamp t seat (((go v t moves executed).2 seat session).sealed w stamp stand), refl, refl)
+
 -- one that lasts is the session's at the end
-pub lasts_then : ExecutionsKeepBegins → ExecutionsGoOn → (moves : List Move) (v t : View) (seat : ℕ) (w : Work) → IsExecution v moves t → IsSession v seat → Lasts w (v.session seat) → Has t seat w
-lasts_then keep go moves v t seat w executed session (lasting.still y stand own) = subst (λ (x : Work). Has t seat x) own (keep v t moves executed seat session y stand)
-lasts_then keep go moves v t seat w executed session (lasting.over (f, m, is)) =
+pub lasts_then : ExecutionsKeepBegins → ExecutionsGoOn → (moves : List Move) (v t : View) (seat : ℕ) (w : Work) → IsExecution v moves t → IsSession v seat → Lasts w (v.session seat) → HasNumbered t seat w.number w.begin
+lasts_then keep go moves v t seat w executed session (lasting.still y stand own) = subst (λ (x : Work). HasNumbered t seat x.number x.begin) own (keep v t moves executed seat session y stand)
+lasts_then keep go moves v t seat w executed session (lasting.sealed u stamp stand number begin) =
+    let has = sealed_numbered go moves v t seat u stamp executed session stand in (has.0, has.1, has.2 ∙ number, has.3 ∙ begin)
+lasts_then keep go moves v t seat w executed session (lasting.over u (f, m, is) number begin) =
     let goes = (go v t moves executed).2 seat session in
-    inl (f, subst (λ (fs : List Finished). f ∈ fs) (sym goes.over) (∈-first (v.session seat).over goes.more f m), is)
+    (u, inl (f, subst (λ (fs : List Finished). f ∈ fs) (sym goes.over) (∈-first (v.session seat).over goes.more f m), is), number, begin)
 
 -- A SAFE that has its snapshot was asked in a world in which the session has this snapshot. Where it had none before, it has begun at the end of the log.
 pub record SafeAsked (before after : View) (seat : ℕ) (p : Progress) (a : Answer) : Type 0 where
@@ -169,7 +184,7 @@ module _ (tell : ExecutionsTell) (go : ExecutionsGoOn) (keep : ExecutionsKeepBeg
         let w : Work = begun asked.own.number asked.own.begin in
         let lasts = lasts_asked asked.at l.session asked.own asked.stand a x.after asked.did in
         let has = lasts_then keep go x.more x.after t l.session w x.onward (still_session x.before x.after l.session after_opening asked.session) lasts in
-        ap (λ (n : ℕ). begin_in (t.session l.session) n) asked.number ∙ begin_of t l.session (lawful.numbered l.session last_session) w has
+        ap (λ (n : ℕ). begin_in (t.session l.session) n) asked.number ∙ begin_by t l.session (lawful.numbered l.session last_session) w.number w.begin has
 
   -- a line that begins a snapshot does so at the end of the log
   pub record BegunAt (session number : ℕ) : Type 0 where

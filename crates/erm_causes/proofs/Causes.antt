@@ -61,7 +61,7 @@ module _ (v : View) (sessions : ℕ) (said : List Said) (table : ℕ → ℕ) (h
       let own : IsCommitOf v u = (tells_commits v).only u within in
       let f : Finished = record { work = own.work; fate = world.commits own.stamp own.succ own.pred } in
       let found = both_over own.seat (TouchesOne table (history_of v)) (progress_of own.seat said).over (progress_of own.seat said).snapshots (v.session own.seat).over f
-      (tells own.seat own.session).over (touches own.seat own.session).over (holds.numbered own.seat own.session).over (commits_stay own.stamp own.succ own.pred) own.over in
+      (tells own.seat own.session).over (touches own.seat own.session).over (holds.numbered own.seat own.session).over (commits_stay f own.stamp own.succ own.pred refl) own.over in
       let same = found.2.tells.work.session in
       subst (λ (r : TransactionRecord). OverCommit v table sessions said r) (sym own.is) (record {
         told = record {
@@ -136,6 +136,7 @@ module _ (v : View) (sessions : ℕ) (said : List Said) (table : ℕ → ℕ) (h
         window_of stamp succ pred (is ∙ ap (λ n. world.commits n u p) (sym ends.0) ∙ ap (λ n. world.commits stamp n p) (sym ends.1) ∙ ap (λ n. world.commits stamp succ n) (sym ends.2))
     committed_cause (world.excluded s u p) is stamp succ pred ends = absurd ends
     committed_cause world.aborts is stamp succ pred ends = absurd ends
+    committed_cause (world.marked s safe) is stamp succ pred ends = absurd ends
 
     cause_as : (ending : Ending) → t.ending ≡ ending → HasCauseOf ending (transactions_of sessions said) t
     cause_as Unfinished is = tt

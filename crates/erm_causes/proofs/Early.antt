@@ -36,6 +36,7 @@ over_heard session asked (answer.Owned seat number) p t within = ∈-first p.ove
 over_heard session asked (answer.Newer stamp) p t within = ∈-first p.over _ t within
 over_heard session asked answer.Aborted p t within = ∈-first p.over _ t within
 over_heard session asked (answer.Unsafe seat stamp) p t within = ∈-first p.over _ t within
+over_heard session asked (answer.Marked safe stamp) p t within = ∈-first p.over _ t within
 over_heard session asked answer.Ended p t within = ∈-first p.over _ t within
 over_heard session asked a p t within = within
 

@@ -1,5 +1,5 @@
 -- A session's transactions touch objects of their lines' tables: what is kept of this by each move.
-use Rattle.std.proofs.Common.{◌≡◌, ◌≢◌, ℕ, ◌<◌, ◌≤◌, List, [], ◌++◌, Option, Some, None, append_assoc, inl, inr, sym, ap, ◌∙◌, subst, ⊎_elim}
+use Rattle.std.proofs.Common.{◌≡◌, ◌≢◌, ℕ, ◌<◌, ◌≤◌, List, [], ◌++◌, Option, Some, None, append_assoc, inl, inr, sym, ap, ◌∙◌, subst, ⊎_elim, false}
 use Rattle.std.specs.List.{slice_get}
 use Rattle.std.proofs.lemmas.Bool.{cases_eq}
 use Rattle.erm_model.specs.declared.history.TransactionRecord.{TransactionRecord}
@@ -11,7 +11,7 @@ use Rattle.erm_machine.proofs.Listed.{∈-first}
 use Rattle.erm_world.specs.Going.{Extends}
 use Rattle.erm_world.specs.Laws.{IsCommitOf}
 use Rattle.erm_world.specs.Saves.{with_claims}
-use Rattle.erm_world.specs.World.{Fate, Finished, IsSession, IsWorking, Session, Stand, View, Work, history_of, stamp_of}
+use Rattle.erm_world.specs.World.{Fate, Finished, IsSession, Session, Stand, View, Work, history_of, stamp_of, IsCurrent}
 use Rattle.erm_world.specs.World as world
 use Rattle.erm_world.proofs.Commits.{tells_commits}
 use Rattle.erm_maps.specs.Runs.{IsRunOf, Kept}
@@ -19,7 +19,7 @@ use Rattle.erm_good_report.specs.Causes.{NamesTable, WritesTable}
 use Rattle.erm_good_report.specs.Transactions.{Ending, Excludes, Exchange, Progress, Transaction}
 use Rattle.erm_lines.specs.Told.{TellsNow}
 use Rattle.erm_lines.proofs.Backs.{fits_with}
-use Rattle.erm_causes.specs.Touched.{Together, Touches, TouchesAll, TouchesNow, TouchesOne, TouchesOver, WasClosed}
+use Rattle.erm_causes.specs.Touched.{Together, Touches, TouchesAll, TouchesNow, TouchesOne, TouchesOver, WasClosed, IsUntold, IsBareMark}
 use Rattle.erm_causes.proofs.Coloured.{KeepsTables}
 use Rattle.erm_causes.proofs.Together.{together_as, together_over}
 
@@ -43,10 +43,24 @@ pub record FineAt (table : ℕ → ℕ) (t : Transaction) (k : Kept) : Type 0 wh
   pub steps : List Step
   pub run : IsRunOf k steps
 
+-- a transaction reads and writes, or has its commit stamp
+abbrev pub IsWorking : Stand → Work → Type 0
+IsWorking world.idle w = ⊥
+IsWorking (world.active u) w = u ≡ w
+IsWorking (world.sealed u stamp) w = (u ≡ w) × (u.is_mark ≡ false)
+IsWorking (world.snapshot s) w = ⊥
+
+pub works_current : (stand : Stand) (w : Work) → IsWorking stand w → IsCurrent stand w
+works_current world.idle w works = works
+works_current (world.active u) w works = works
+works_current (world.sealed u stamp) w works = works.0
+works_current (world.snapshot s) w works = absurd works
+
 -- one in progress, with the savepoints that its session holds; one that is sealed has none that count
 abbrev pub FineNow : (ℕ → ℕ) → Option Transaction → List (List VersionWritten) → Stand → Type 0
 FineNow table None held world.idle = Unit {0}
 FineNow table None held (world.snapshot x) = Unit {0}
+FineNow table None held (world.sealed w stamp) = IsBareMark w
 FineNow table (Some t) held (world.active w) = FineAt table t (record { work = w; saves = held })
 FineNow table (Some t) held (world.sealed w stamp) = Touches table t w × KeepsTables table w
 FineNow table current held stand = ⊥
@@ -105,13 +119,18 @@ over_later table h g more ts fs fine =
     (λ t f one. record { one = record { touches = one.one.touches; closed = closed_later h g more t.ending f.work one.one.closed }; keeps = one.keeps }) ts fs fine
 
 -- none that was aborted has a stamp
-pub stampless : (fate : Fate) (stamp : ℕ) (P : Type 0) → fate ≡ world.aborts → stamp_of fate ≡ Some stamp → P
+stampless : (fate : Fate) (stamp : ℕ) (P : Type 0) → fate ≡ world.aborts → stamp_of fate ≡ Some stamp → P
 stampless fate stamp P aborts is = let no : None ≡ Some stamp = sym (ap stamp_of aborts) ∙ is in absurd (cc)
+
+-- and a mark keeps to any tables
+pub untold_keeps : (table : ℕ → ℕ) (f : Finished) (stamp : ℕ) → IsUntold f → stamp_of f.fate ≡ Some stamp → KeepsTables table f.work
+untold_keeps table f stamp (inl aborts) is = stampless f.fate stamp (KeepsTables table f.work) aborts is
+untold_keeps table f stamp (inr mark) is = subst (λ (w : Work). KeepsTables table w) (sym mark.bare) (λ rows sound fits are. are)
 
 pub over_keeps : (table : ℕ → ℕ) (h : History) (p : Progress) (held : List (List VersionWritten)) (s : Session) → IsFine table h p held s → (f : Finished) (stamp : ℕ) → f ∈ s.over → stamp_of f.fate ≡ Some stamp → KeepsTables table f.work
 over_keeps table h p held s fine f stamp within is =
     ⊎_elim (λ (found : (t : Transaction) × (t ∈ p.over) × FineOne table h t f). found.2.keeps stamp is)
-    (λ (aborts : f.fate ≡ world.aborts). stampless f.fate stamp (KeepsTables table f.work) aborts is)
+    (λ (untold : IsUntold f). untold_keeps table f stamp untold is)
     (together_over (FineOne table h) p.over s.over f fine.over within)
 
 -- what touches so, without what is kept besides
@@ -121,7 +140,7 @@ over_touches table h ts fs fine = together_as (FineOne table h) (TouchesOne tabl
 now_touches : (table : ℕ → ℕ) (current : Option Transaction) (held : List (List VersionWritten)) (stand : Stand) → FineNow table current held stand → TouchesNow table current stand
 now_touches table None held world.idle now = tt
 now_touches table None held (world.active w) now = absurd now
-now_touches table None held (world.sealed w stamp) now = absurd now
+now_touches table None held (world.sealed w stamp) now = now
 now_touches table (Some t) held world.idle now = absurd now
 now_touches table (Some t) held (world.active w) now = now.touches
 now_touches table (Some t) held (world.sealed w stamp) now = now.0
@@ -138,7 +157,7 @@ number_told seat (Some u) world.idle w t tells works is = absurd works
 number_told seat (Some u) (world.active x) w t tells works is =
     let same : u ≡ t = cc in ap (λ (y : Transaction). y.number) (sym same) ∙ tells.0.work.number ∙ ap (λ (y : Work). y.number) works
 number_told seat (Some u) (world.sealed x stamp) w t tells works is =
-    let same : u ≡ t = cc in ap (λ (y : Transaction). y.number) (sym same) ∙ tells.0.work.number ∙ ap (λ (y : Work). y.number) works
+    let same : u ≡ t = cc in ap (λ (y : Transaction). y.number) (sym same) ∙ tells.0.work.number ∙ ap (λ (y : Work). y.number) works.0
 number_told seat (Some u) (world.snapshot s) w t tells works is = absurd works
 
 -- HISTORIES. One session goes on: what was over stays, with more behind.

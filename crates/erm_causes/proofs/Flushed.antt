@@ -49,10 +49,12 @@ quiet_flushed v seat asked a t (quiet.begins number begin idle room works hears)
 quiet_flushed v seat asked a t (quiet.seals stamp active did hears) = did.flushed
 quiet_flushed v seat asked a t (quiet.done w fate ending now did closed hears) = did.flushed
 quiet_flushed v seat asked a t (quiet.watched starts did hears) = watched_flushed v t seat did
+quiet_flushed v seat asked a t (quiet.marked w own stand marks did hears) = did.flushed
 
 lined_flushed : (v t : View) (seat : ℕ) (c : Command) (a : Answer) → Lined v seat c a t → t.flushed ≡ v.flushed
 lined_flushed v t seat c a (quiet.quiet did) = quiet_flushed v seat (Some c) a t did
 lined_flushed v t seat c a (quiet.sealed_first stamp between active sealed did) = quiet_flushed between seat (Some c) a t did ∙ sealed.flushed
+lined_flushed v t seat c a (quiet.marked_first stamp between sealed did) = quiet_flushed between seat (Some c) a t did ∙ sealed.seals.flushed
 lined_flushed v t seat c a (quiet.named k names active did) = operated_flushed v t seat c a active did
 lined_flushed v t seat c a (quiet.at_savepoint none active did hears) = (saves_of v t seat did).flushed
 

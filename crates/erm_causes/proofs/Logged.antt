@@ -21,12 +21,12 @@ use Rattle.erm_world.specs.World as world
 use Rattle.erm_good_report.specs.Opening.{InTurn, Opening}
 use Rattle.erm_good_report.specs.Phases.{Closed, IsAnswerTo, phase_after, refusal_in}
 use Rattle.erm_good_report.specs.Phases as report
-use Rattle.erm_good_report.specs.Refusals.{HasLogCause, HasUnfilledCause, IsAboveAll, IsLeastUndecided, IsSealedWith, IsUndecidedAt, Moment, NoneIsSealed, flushed_at, flushed_told, last_commit, moment_at, stamp_committed}
+use Rattle.erm_good_report.specs.Refusals.{HasLogCause, HasUnfilledCause, IsAboveAll, IsSealedWith, IsUndecidedAt, Moment, NoneIsSealed, flushed_at, flushed_told, last_commit, moment_at, stamp_committed, IsLeastOpen}
 use Rattle.erm_good_report.specs.Transactions.{Aborts, Commits, Ending, Excludes, Progress, Said, Snapshot, Transaction, Unfinished, heard, nothing, progress_of, stamp_of, stamp_of_ending}
 use Rattle.erm_lines.specs.Answers.{DidAskDurable, DidIn, DidLine, IsCommitted, IsLastCommit}
 use Rattle.erm_lines.specs.Executions.{AreClosed, DidLog, DidLogLine, IsCourse, IsDecidedTo, IsExecution, IsOpeningOf, IsPendingAt, line_moves, move_of, said_in}
 use Rattle.erm_lines.specs.Laws.{ExecutionsGoOn, ExecutionsTell}
-use Rattle.erm_lines.specs.Told.{EndsAs, Tells, TellsCurrent, TellsOver}
+use Rattle.erm_lines.specs.Told.{EndsAs, Tells, TellsCurrent, TellsOver, TellsNow, TellsWatched}
 use Rattle.erm_lines.proofs.Moved.{moved, said_move}
 use Rattle.erm_told.proofs.Ended.{reported}
 use Rattle.erm_told.proofs.Endings.{ending_stamp}
@@ -40,8 +40,9 @@ use Rattle.erm_causes.proofs.Flushed.{answers_to, lines_told}
 use Rattle.erm_causes.proofs.Moves.{move_opening}
 use Rattle.erm_causes.proofs.Placed.{Placed, lines_placed, opened_placed}
 use Rattle.erm_causes.proofs.Tables.{run_opening}
-use Rattle.erm_causes.proofs.Together.{commits_stay}
+use Rattle.erm_causes.proofs.Together.{commits_stay, ended_untold}
 use Rattle.erm_causes.proofs.Waits.{allowed}
+use Rattle.erm_told.proofs.Watching.{marking_of}
 
 -- THE LAST COMMIT. The report's fold over the transactions that are over.
 abbrev pub last_in : Option ℕ → List Transaction → Option ℕ
@@ -51,6 +52,7 @@ uncommitted : (ending : Ending) (fate : Fate) → EndsAs ending fate → (IsComm
 uncommitted (Commits stamp succ pred) (world.commits s u p) ends never = absurd (never tt)
 uncommitted (Commits stamp succ pred) (world.excluded s u p) ends never = absurd ends
 uncommitted (Commits stamp succ pred) world.aborts ends never = absurd ends
+uncommitted (Commits stamp succ pred) (world.marked s safe) ends never = absurd ends
 uncommitted Unfinished fate ends never = refl
 uncommitted (Excludes stamp succ pred) fate ends never = refl
 uncommitted Aborts fate ends never = refl
@@ -81,7 +83,7 @@ last_some seat [] ts ss f rest last stamp succ pred (inl (t, us, at, one, told))
     ∙ ap (λ (o : Option ℕ). last_in (option_map_or (λ n. Some n) o last) us) (committed t.ending f.fate stamp succ pred one.ends is)
     ∙ last_none seat us ss rest (Some stamp) told none
 last_some seat [] ts ss f rest last stamp succ pred (inr (s, more, at, one, told)) is none =
-    absurd (commits_stay stamp succ pred (sym is ∙ one.aborted))
+    absurd (commits_stay f stamp succ pred is (ended_untold s f one))
 last_some seat (g ∷ front) ts ss f rest last stamp succ pred (inl (t, us, at, one, told)) is none =
     ap (λ (list : List Transaction). last_in last list) at
     ∙ last_some seat front us ss f rest (option_map_or (λ n. Some n) (stamp_committed t.ending) last) stamp succ pred told is none
@@ -239,27 +241,40 @@ module _ (tell : ExecutionsTell) (go : ExecutionsGoOn) (v t : View) (script : Li
           record { session = session; work = stand.0; stamp = stand.1; stand = stand.2 }
       by (inr none) = absurd (not_idle (report.phase_of q m.before) (nothing_there q none).1 sealed)
 
-  sealed_as : (q : ℕ) (session : IsSession b q) (w : Work) (s : ℕ) → (b.session q).stand ≡ world.sealed w s → (y : Transaction) × IsSealedWith m q s y × TellsCurrent q y w
-  sealed_as q session w s stand = sealed_with tell go v t script answers run closed are i l a at answered opening q (first_session q session) w s stand
+  sealed_as : (q : ℕ) (session : IsSession b q) (w : Work) (s : ℕ) → (b.session q).stand ≡ world.sealed w s → w.is_mark ≡ false → (y : Transaction) × IsSealedWith m q s y × TellsCurrent q y w
+  sealed_as q session w s stand plain = sealed_with tell go v t script answers run closed are i l a at answered opening q (first_session q session) w s stand plain
+
+  -- what is sealed is no mark where a transaction is told
+  told_plain : (q : ℕ) (sealed : SealedThere q) (y : Transaction) → (progress_of q m.before).current ≡ Some y → sealed.work.is_mark ≡ false
+  told_plain q sealed y current =
+      let tells : TellsNow q (Some y) (world.sealed sealed.work sealed.stamp) = subst (λ (o : Option Transaction). TellsNow q o (world.sealed sealed.work sealed.stamp)) current
+      (subst (λ (at : Stand). TellsNow q (progress_of q m.before).current at) sealed.stand (told_there q sealed.session).0.now) in tells.1
 
   -- and has the stamp that is told of its transaction
   stamp_there : (q : ℕ) (sealed : SealedThere q) (y u : Transaction) (s : ℕ) → (progress_of q m.before).current ≡ Some y → u ∈ m.all → u.session ≡ y.session → u.number ≡ y.number → stamp_of u ≡ Some s → s ≡ sealed.stamp
   stamp_there q sealed y u s current within of_session number told =
-      let is = sealed_as q sealed.session sealed.work sealed.stamp sealed.stand in
+      let is = sealed_as q sealed.session sealed.work sealed.stamp sealed.stand (told_plain q sealed y current) in
       let same : y ≡ is.0 = the_same (progress_of q m.before).current y is.0 current is.1.current in
       told_is (stamp_of u) s sealed.stamp told
       (is.1.stamp_is u within (of_session ∙ ap (λ (z : Transaction). z.session) same) (number ∙ ap (λ (z : Transaction). z.number) same))
 
-  least_undecided : (place : ℕ) → IsPendingAt b place → ((s : ℕ) → IsPendingAt b s → place ≤ s) → IsLeastUndecided m place
-  least_undecided place is least =
-      let here = sealed_as is.seat is.session is.work place is.sealed in
-      record { session = is.seat; transaction = here.0; sealed = here.1; least = below }
+  least_undecided : (place : ℕ) → IsPendingAt b place → ((s : ℕ) → IsPendingAt b s → place ≤ s) → IsLeastOpen m place
+  least_undecided place is least = by is.work.is_mark refl
     where
       below : (other : ℕ) → IsUndecidedAt m other → place ≤ other
       below other undecided =
           let sealed = sealed_there undecided.session undecided.sealed.sealed in
           let same = stamp_there undecided.session sealed undecided.transaction undecided.whole other undecided.sealed.current undecided.of undecided.same.0 undecided.same.1 undecided.told in
           omega (arith, same, least sealed.stamp (record { seat = undecided.session; session = sealed.session; work = sealed.work; sealed = sealed.stand }))
+
+      by : (marks : Bool) → is.work.is_mark ≡ marks → IsLeastOpen m place
+      by false plain =
+          let here = sealed_as is.seat is.session is.work place is.sealed plain in
+          inl (record { session = is.seat; transaction = here.0; sealed = here.1; least = below })
+      by true marks =
+          let told = told_there is.seat is.session in
+          let own = marking_of (progress_of is.seat m.before).snapshot is.work place marks (subst (λ (at : Stand). TellsWatched (progress_of is.seat m.before).snapshot at) is.sealed told.0.watched) in
+          inr (record { session = is.seat; snapshot = own.own; current = own.is; sealed = told.1 ∙ ap world.phase_of is.sealed; least = below })
 
   below_tail : (q : ℕ) (w : Work) (s : ℕ) → IsSession b q → HasStamp b q w s → s < b.tail
   below_tail q w s session has = (lawful.stamps q w s session has).1
@@ -288,10 +303,10 @@ module _ (tell : ExecutionsTell) (go : ExecutionsGoOn) (v t : View) (script : Li
       omega (arith, above, below_tail q sealed.work sealed.stamp sealed.session (inr sealed.stand))
 
   -- A LINE OF THE LOG.
-  flushes_cause : (place : ℕ) → IsDecidedTo b place → IsLeastUndecided m place ⊎ (NoneIsSealed m × IsAboveAll m place)
+  flushes_cause : (place : ℕ) → IsDecidedTo b place → IsLeastOpen m place ⊎ (NoneIsSealed m × IsAboveAll m place)
   flushes_cause place decided = by decided.stop
     where
-      by : (place ≡ b.tail) ⊎ IsPendingAt b place → IsLeastUndecided m place ⊎ (NoneIsSealed m × IsAboveAll m place)
+      by : (place ≡ b.tail) ⊎ IsPendingAt b place → IsLeastOpen m place ⊎ (NoneIsSealed m × IsAboveAll m place)
       by (inl is) = inr (none_sealed (λ s pending. omega (arith, is, decided.least s pending)), subst (IsAboveAll m) (sym is) above_all)
       by (inr pending) = inl (least_undecided place pending decided.least)
 

@@ -1,18 +1,18 @@
 -- The world in which a line of a run was run, and what was told of it by then.
-use Rattle.std.proofs.Common.{◌≡◌, ℕ, zero, suc, ◌<◌, true, List, [], ◌∷◌, ◌++◌, Option, Some, None, take, slice_get, refl, sym, ap, ◌∙◌, subst}
+use Rattle.std.proofs.Common.{◌≡◌, ℕ, zero, suc, ◌<◌, true, List, [], ◌∷◌, ◌++◌, Option, Some, None, take, slice_get, refl, sym, ap, ◌∙◌, subst, false}
 use Rattle.erm_model.specs.declared.history.VersionWritten.{VersionWritten}
 use Rattle.erm_node.specs.Sound.{sound_law}
 use Rattle.erm_report.specs.declared.answer.Answer.{Answer}
 use Rattle.erm_script.specs.declared.script.ScriptLine.{ScriptLine}
 use Rattle.erm_world.specs.Laws.{IsSerializable}
 use Rattle.erm_world.specs.Works.{is_claimed}
-use Rattle.erm_world.specs.World.{IsCurrent, IsWorking, Stand, View, Work, made_by_all}
+use Rattle.erm_world.specs.World.{IsCurrent, Stand, View, Work, made_by_all}
 use Rattle.erm_world.specs.World as world
 use Rattle.erm_good_report.specs.Transactions.{Transaction, table_of}
 use Rattle.erm_lines.specs.Executions.{DidMove, IsExecution, Move, line_moves, move_of}
 use Rattle.erm_lines.specs.Told.{TellsCurrent, TellsNow}
 use Rattle.erm_causes.specs.Touched.{Touches}
-use Rattle.erm_causes.proofs.Fine.{FineNow}
+use Rattle.erm_causes.proofs.Fine.{FineNow, IsWorking}
 use Rattle.erm_causes.proofs.Moves.{move_table}
 use Rattle.erm_causes.proofs.Tables.{AreRight}
 
@@ -76,26 +76,38 @@ pub now_told : (table : ℕ → ℕ) (seat : ℕ) (current : Option Transaction)
     → FineNow table current held stand → IsWorking stand w → NowTold table seat current w
 now_told table seat current held world.idle w tells fine is = absurd is
 now_told table seat None held (world.active u) w tells fine is = absurd tells
-now_told table seat None held (world.sealed u stamp) w tells fine is = absurd tells
+now_told table seat None held (world.sealed u stamp) w tells fine is = absurd (let plain = is.1 in cc)
 now_told table seat (Some t) held (world.active u) w tells fine is =
     subst (λ (x : Work). NowTold table seat (Some t) x) is (record { told = t; is = refl; tells = tells.0; touches = fine.touches })
 now_told table seat (Some t) held (world.sealed u stamp) w tells fine is =
-    subst (λ (x : Work). NowTold table seat (Some t) x) is (record { told = t; is = refl; tells = tells.0; touches = fine.0 })
+    subst (λ (x : Work). NowTold table seat (Some t) x) is.0 (record { told = t; is = refl; tells = tells.0; touches = fine.0 })
 now_told table seat current held (world.snapshot s) w tells fine is = absurd is
 
-pub current_of_sealed : (stand : Stand) (w : Work) (stamp : ℕ) → stand ≡ world.sealed w stamp → IsWorking stand w
-current_of_sealed stand w stamp is = subst (λ (at : Stand). IsWorking at w) (sym is) refl
+pub current_of_sealed : (stand : Stand) (w : Work) (stamp : ℕ) → stand ≡ world.sealed w stamp → w.is_mark ≡ false → IsWorking stand w
+current_of_sealed stand w stamp is plain = subst (λ (at : Stand). IsWorking at w) (sym is) (refl, plain)
 
 pub current_of_active : (stand : Stand) (w : Work) → stand ≡ world.active w → IsWorking stand w
 current_of_active stand w is = subst (λ (at : Stand). IsWorking at w) (sym is) refl
 
--- one that has claimed an object is no snapshot
-pub claims_work : (stand : Stand) (w : Work) (oid : ℕ) → IsCurrent stand w → is_claimed w.claims oid ≡ true → IsWorking stand w
-claims_work world.idle w oid current claims = absurd current
-claims_work (world.active u) w oid current claims = current
-claims_work (world.sealed u stamp) w oid current claims = current
-claims_work (world.snapshot s) w oid current claims =
-    let no : is_claimed [] oid ≡ true = subst (λ (x : Work). is_claimed x.claims oid ≡ true) (sym current) claims in absurd (cc)
+-- one that has done something is no mark
+pub sealed_works : (P : Work → Type 0) → ((number begin : ℕ) → P (record (world.begun number begin) { is_mark = true }) → ⊥)
+    → (table : ℕ → ℕ) (seat : ℕ) (current : Option Transaction) (held : List (List VersionWritten)) (w : Work) (stamp : ℕ)
+    → TellsNow seat current (world.sealed w stamp) → FineNow table current held (world.sealed w stamp) → P w → w.is_mark ≡ false
+sealed_works P never table seat None held w stamp tells fine has = absurd (never w.number w.begin (subst P fine has))
+sealed_works P never table seat (Some t) held w stamp tells fine has = tells.1
+
+pub never_claimed : (oid number begin : ℕ) → is_claimed (record (world.begun number begin) { is_mark = true }).claims oid ≡ true → ⊥
+never_claimed oid number begin is = cc
+
+-- one that has claimed an object is no snapshot, nor a mark
+pub claims_work : (table : ℕ → ℕ) (seat : ℕ) (current : Option Transaction) (held : List (List VersionWritten)) (stand : Stand) (w : Work) (oid : ℕ) → TellsNow seat current stand
+    → FineNow table current held stand → IsCurrent stand w → is_claimed w.claims oid ≡ true → IsWorking stand w
+claims_work table seat current held world.idle w oid tells fine is claims = absurd is
+claims_work table seat current held (world.active u) w oid tells fine is claims = is
+claims_work table seat current held (world.sealed u stamp) w oid tells fine is claims =
+    (is, sealed_works (λ x. is_claimed x.claims oid ≡ true) (never_claimed oid) table seat current held u stamp tells fine (subst (λ (x : Work). is_claimed x.claims oid ≡ true) (sym is) claims))
+claims_work table seat current held (world.snapshot s) w oid tells fine is claims =
+    let no : is_claimed [] oid ≡ true = subst (λ (x : Work). is_claimed x.claims oid ≡ true) (sym is) claims in absurd (cc)
 
 pub the_told : (current : Option Transaction) (t u : Transaction) → current ≡ Some t → current ≡ Some u → t ≡ u
 the_told current t u first second = cc

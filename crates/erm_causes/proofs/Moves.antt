@@ -1,5 +1,5 @@
 -- Each move of an execution leaves all sessions so that their transactions touch objects of their lines' tables alone.
-use Rattle.std.proofs.Common.{◌≡◌, ◌≢◌, ℕ, zero, suc, ◌<◌, ◌≤◌, ◌==◌, cond, List, [], ◌∷◌, ◌++◌, Option, Some, None, append-nil, inl, inr, refl, sym, ap, ◌∙◌, subst, ne_eqb, arith}
+use Rattle.std.proofs.Common.{◌≡◌, ◌≢◌, ℕ, zero, suc, ◌<◌, ◌≤◌, ◌==◌, cond, List, [], ◌∷◌, ◌++◌, Option, Some, None, append-nil, inl, inr, refl, sym, ap, ◌∙◌, subst, ne_eqb, arith, true, false}
 use Rattle.std.specs.Option.{option_map, option_to_list}
 use Rattle.std.proofs.lemmas.Bool.Decides.{eqb_tells}
 use Rattle.erm_model.specs.declared.history.TransactionRecord.{TransactionRecord}
@@ -13,7 +13,7 @@ use Rattle.erm_node.specs.Sound.{sound_law}
 use Rattle.erm_world.specs.Calls.{DidSeal, IsDone, Works}
 use Rattle.erm_world.specs.Going.{Extends}
 use Rattle.erm_world.specs.Laws.{IsCommitOf, IsSerializable}
-use Rattle.erm_world.specs.World.{Fate, Finished, IsSession, Session, Stand, View, Work, history_of, made_by_all, made_in, made_upto, phase_at, phase_of, work_at, work_of}
+use Rattle.erm_world.specs.World.{Fate, Finished, IsSession, Session, Stand, View, Work, history_of, made_by_all, made_in, made_upto, phase_at, phase_of, work_at, work_of, marking}
 use Rattle.erm_world.specs.World as world
 use Rattle.erm_world.proofs.Commits.{tells_commits}
 use Rattle.erm_world.proofs.Saves.{begins_without}
@@ -30,10 +30,10 @@ use Rattle.erm_lines.proofs.Keeping.{NoneRuns}
 use Rattle.erm_lines.proofs.Moved.{log_flushes, log_of_none}
 use Rattle.erm_told.proofs.Executed.{knows_logged, knows_start, knows_still, knows_turn}
 use Rattle.erm_told.proofs.Lines.{turn_end, turn_line}
-use Rattle.erm_told.proofs.Sessions.{sealed_untold}
-use Rattle.erm_told.proofs.Turns.{TellsAt}
+use Rattle.erm_told.proofs.Sessions.{sealed_untold, now_watching}
+use Rattle.erm_told.proofs.Turns.{TellsAt, seals_plain}
 use Rattle.erm_told_limits.proofs.Ran.{active_with}
-use Rattle.erm_causes.specs.Touched.{AreOfTables, Touches, WasClosed}
+use Rattle.erm_causes.specs.Touched.{AreOfTables, Touches, WasClosed, IsBareMark}
 use Rattle.erm_causes.proofs.Answered.{done_turned, goes_on_fine, now_active, operated_fine, operated_made, operated_turned}
 use Rattle.erm_causes.proofs.Begun.{CommitsKeep}
 use Rattle.erm_causes.proofs.Coloured.{KeepsTables}
@@ -46,9 +46,10 @@ use Rattle.erm_causes.proofs.Own.{TreeLaws}
 use Rattle.erm_causes.proofs.Quiet.{HasNow, Lined, Quiet, SameLines, SameNow, closed_quiet, lined, now_works}
 use Rattle.erm_causes.proofs.Quiet as quiet
 use Rattle.erm_causes.proofs.Saved.{AtSavepoint, at_fine, saves_made, saves_of}
-use Rattle.erm_causes.proofs.Snapshots.{LeavesNone, Starts, Watches, none_made, none_told}
+use Rattle.erm_causes.proofs.Snapshots.{LeavesNone, Starts, Watches, none_made, none_told, mark_told, marked_none}
 use Rattle.erm_causes.proofs.Snapshots as snapshots
 use Rattle.erm_told_limits.proofs.Given.{HistoryLaws}
+use Rattle.erm_world.specs.Safe.{DidMark}
 
 -- what a session holds at its savepoints
 abbrev Saves : Type 0
@@ -77,6 +78,9 @@ itself_turned v t seat is = record {
 seal_turned : (v t : View) (seat stamp : ℕ) → DidSeal v seat stamp t → Turned v seat t
 seal_turned v t seat stamp did = own_turned v t seat (world.sealed (work_at v seat) stamp) did.own did.others did.saves did.opening
 
+pub mark_turned : (v t : View) (seat stamp : ℕ) → DidMark v seat stamp t → Turned v seat t
+mark_turned v t seat stamp did = own_turned v t seat (world.sealed (marking did.snapshot) stamp) did.seals.own did.seals.others did.seals.saves did.seals.opening
+
 pub watched_turned : (v t : View) (seat : ℕ) → Watches v seat t → Turned v seat t
 watched_turned v t seat (snapshots.looks is) = itself_turned v t seat is
 watched_turned v t seat (snapshots.watches x did) = own_turned v t seat (world.snapshot x) did.own did.others did.saves.others did.opening
@@ -88,14 +92,20 @@ quiet_turned v seat asked a t (quiet.begins number begin idle room works hears) 
 quiet_turned v seat asked a t (quiet.seals stamp active did hears) = seal_turned v t seat stamp did
 quiet_turned v seat asked a t (quiet.done w fate ending now did closed hears) = done_turned v t seat w fate did
 quiet_turned v seat asked a t (quiet.watched starts did hears) = watched_turned v t seat did
+quiet_turned v seat asked a t (quiet.marked w own stand marks did hears) = done_turned v t seat w (world.marked own w.begin) did
 
 seal_made : (v t : View) (seat stamp : ℕ) → IsSession v seat → DidSeal v seat stamp t → (x : ℕ) → made_by_all t x ≡ made_by_all v x
 seal_made v t seat stamp session did x =
     omega (arith, made_by_one v t seat x session did.others did.opening, ap (λ (s : Session). made_in s x) did.own)
 
+mark_made : (v t : View) (seat stamp : ℕ) → IsSession v seat → DidMark v seat stamp t → (x : ℕ) → made_by_all t x ≡ made_by_all v x
+mark_made v t seat stamp session did x =
+    let none : times_made (work_of (v.session seat).stand).made x ≡ 0 = ap (λ (stand : Stand). times_made (work_of stand).made x) did.stands in
+    omega (arith, made_by_one v t seat x session did.seals.others did.seals.opening, ap (λ (s : Session). made_in s x) did.seals.own, none)
+
 pub work_now : (stand : Stand) (w : Work) → HasNow stand w → work_of stand ≡ w
 work_now stand w (inl active) = ap work_of active
-work_now stand w (inr (stamp, sealed)) = ap work_of sealed
+work_now stand w (inr (stamp, sealed, plain)) = ap work_of sealed
 
 watched_made : (v t : View) (seat : ℕ) → IsSession v seat → Starts v seat → Watches v seat t → (x : ℕ) → made_by_all t x ≡ made_by_all v x
 watched_made v t seat session starts (snapshots.looks is) x = ap (λ (y : View). made_by_all y x) is
@@ -114,6 +124,9 @@ quiet_made v seat asked a t session (quiet.done w fate ending now did closed hea
     let same : times_made (work_at v seat).made x ≡ times_made w.made x = ap (λ (y : Work). times_made y.made x) (work_now (v.session seat).stand w now) in
     omega (arith, made_by_one v t seat x session did.others did.opening, made_done v t seat w fate x did, same)
 quiet_made v seat asked a t session (quiet.watched starts did hears) x = watched_made v t seat session starts did x
+quiet_made v seat asked a t session (quiet.marked w own stand marks did hears) x =
+    let same : times_made (work_at v seat).made x ≡ times_made w.made x = ap (λ (at : Stand). times_made (work_of at).made x) stand in
+    omega (arith, made_by_one v t seat x session did.others did.opening, made_done v t seat w (world.marked own w.begin) x did, same)
 
 -- FINE. And its transactions touch what they did.
 module _ (table : ℕ → ℕ) where
@@ -142,9 +155,12 @@ module _ (table : ℕ → ℕ) where
 
   now_has : (current : Option Transaction) (held : Saves) (stand : Stand) (w : Work) → FineNow table current held stand → HasNow stand w → HasFine current w
   now_has None held world.idle w now (inl active) = cc
-  now_has None held world.idle w now (inr (stamp, sealed)) = cc
+  now_has None held world.idle w now (inr (stamp, sealed, plain)) = cc
   now_has None held (world.active u) w now has = absurd now
-  now_has None held (world.sealed u stamp) w now has = absurd now
+  now_has None held (world.sealed u stamp) w now (inl active) = cc
+  now_has None held (world.sealed u stamp) w now (inr (other, sealed, plain)) =
+      let same : u ≡ w = work_now (world.sealed u stamp) w (inr (other, sealed, plain)) in
+      let no : true ≡ false = sym (ap (λ (x : Work). x.is_mark) now) ∙ ap (λ (x : Work). x.is_mark) same ∙ plain in absurd (cc)
   now_has (Some t) held world.idle w now has = absurd now
   now_has (Some t) held (world.active u) w now has =
       let same : u ≡ w = work_now (world.active u) w has in
@@ -153,7 +169,7 @@ module _ (table : ℕ → ℕ) where
       let same : u ≡ w = work_now (world.sealed u stamp) w has in
       record { told = t; is = refl; touches = subst (λ (x : Work). Touches table t x) same now.0; keeps = subst (λ (x : Work). KeepsTables table x) same now.1 }
   now_has None held (world.snapshot s) w now (inl active) = cc
-  now_has None held (world.snapshot s) w now (inr (stamp, sealed)) = cc
+  now_has None held (world.snapshot s) w now (inr (stamp, sealed, plain)) = cc
   now_has (Some t) held (world.snapshot s) w now has = absurd now
 
   seal_now : (current : Option Transaction) (held later : Saves) (stand : Stand) (stamp : ℕ) → phase_of stand ≡ Active → FineNow table current held stand
@@ -168,6 +184,15 @@ module _ (table : ℕ → ℕ) where
     over = over_later table (history_of v) (history_of t) (history_grows v t seat (seal_turned v t seat stamp did)) p.over (v.session seat).over fine.over;
     now = seal_now p.current (v.saves seat) (t.saves seat) (v.session seat).stand stamp active fine.now;
   })
+
+  mark_fine : (v t : View) (seat stamp : ℕ) (p : Progress) → DidMark v seat stamp t → TellsNow seat p.current (v.session seat).stand → IsFine table (history_of v) p (v.saves seat) (v.session seat)
+      → IsFine table (history_of t) p (t.saves seat) (t.session seat)
+  mark_fine v t seat stamp p did tells fine =
+      let none = now_watching seat p.current did.snapshot (subst (λ (at : Stand). TellsNow seat p.current at) did.stands tells) in
+      subst (λ (s : Session). IsFine table (history_of t) p (t.saves seat) s) (sym did.seals.own) (record {
+        over = over_later table (history_of v) (history_of t) (history_grows v t seat (mark_turned v t seat stamp did)) p.over (v.session seat).over fine.over;
+        now = subst (λ (o : Option Transaction). FineNow table o (t.saves seat) (world.sealed (marking did.snapshot) stamp)) (sym none) refl;
+      })
 
   begun_fine : (v t : View) (seat number begin : ℕ) (p : Progress) (told : Transaction) → IsRunOf (record { work = world.begun number begin; saves = [] }) []
       → (v.session seat).stand ≡ world.idle → Works v seat (world.begun number begin) t
@@ -227,7 +252,21 @@ module _ (table : ℕ → ℕ) where
       subst (λ (s : Session). IsFine table (history_of t) (heard seat asked a p) (t.saves seat) s) (sym did.own)
       (none_fine (history_of t) (heard seat asked a p) (t.saves seat) (record { over = (v.session seat).over ++ f ∷ []; stand = world.idle }) p.over None heard_is.0 heard_is.1
       (together_untold (FineOne table (history_of t)) p.over (v.session seat).over f
-      (over_later table (history_of v) (history_of t) (history_grows v t seat (watched_turned v t seat (snapshots.ends number begin did))) p.over (v.session seat).over fine.over) refl) tt)
+      (over_later table (history_of v) (history_of t) (history_grows v t seat (watched_turned v t seat (snapshots.ends number begin did))) p.over (v.session seat).over fine.over) (inl refl)) tt)
+
+  marked_fine : (v t : View) (seat : ℕ) (asked : Option Command) (a : Answer) (p : Progress) (w : Work) (own : ℕ) → (v.session seat).stand ≡ world.sealed w own → w.is_mark ≡ true
+      → IsDone v seat w (world.marked own w.begin) t → LeavesNone asked a → TellsNow seat p.current (v.session seat).stand → IsFine table (history_of v) p (v.saves seat) (v.session seat)
+      → IsFine table (history_of t) (heard seat asked a p) (t.saves seat) (t.session seat)
+  marked_fine v t seat asked a p w own stand marks did hears tells fine =
+      let none : p.current ≡ None = marked_none seat p.current w own marks (subst (λ (at : Stand). TellsNow seat p.current at) stand tells) in
+      let bare : IsBareMark w = subst (λ (o : Option Transaction). FineNow table o (v.saves seat) (world.sealed w own)) none (subst (λ (at : Stand). FineNow table p.current (v.saves seat) at) stand fine.now) in
+      let heard_is = hears seat p none in
+      let f : Finished = record { work = w; fate = world.marked own w.begin } in
+      subst (λ (s : Session). IsFine table (history_of t) (heard seat asked a p) (t.saves seat) s) (sym did.own)
+      (none_fine (history_of t) (heard seat asked a p) (t.saves seat) (record { over = (v.session seat).over ++ f ∷ []; stand = world.idle }) p.over None heard_is.0 heard_is.1
+      (together_untold (FineOne table (history_of t)) p.over (v.session seat).over f
+      (over_later table (history_of v) (history_of t) (history_grows v t seat (done_turned v t seat w (world.marked own w.begin) did)) p.over (v.session seat).over fine.over)
+      (inr (record { bare = bare; stamp = own; safe = w.begin; ended = refl }))) tt)
 
   quiet_fine : NoneRuns → (v : View) (seat : ℕ) (asked : Option Command) (a : Answer) (t : View) (p : Progress) → IsSerializable sound_law t
       → TellsNow seat p.current (v.session seat).stand → Quiet v seat asked a t → IsFine table (history_of v) p (v.saves seat) (v.session seat)
@@ -245,6 +284,7 @@ module _ (table : ℕ → ℕ) where
       subst (λ (q : Progress). IsFine table (history_of t) q (t.saves seat) (t.session seat)) (sym (hears seat p)) (done_fine v t seat w fate ending p now did (closed holds) tells fine)
   quiet_fine run v seat asked a t p holds tells (quiet.watched starts did hears) fine =
       watched_fine v t seat asked a p did hears (none_told v seat p.current starts tells) fine
+  quiet_fine run v seat asked a t p holds tells (quiet.marked w own stand marks did hears) fine = marked_fine v t seat asked a p w own stand marks did hears tells fine
 
 -- SESSIONS. What is said is heard of its session alone.
 abbrev pub heard_one : ℕ → Option Command → Answer → (ℕ → Progress) → ℕ → Progress
@@ -323,6 +363,8 @@ lined_made : (v t : View) (seat : ℕ) (c : Command) (a : Answer) → IsSession 
 lined_made v t seat c a session (quiet.quiet did) x = omega (arith, quiet_made v seat (Some c) a t session did x)
 lined_made v t seat c a session (quiet.sealed_first stamp between active sealed did) x =
     omega (arith, seal_made v between seat stamp session sealed x, quiet_made between seat (Some c) a t (still_session v between seat sealed.opening session) did x)
+lined_made v t seat c a session (quiet.marked_first stamp between sealed did) x =
+    omega (arith, mark_made v between seat stamp session sealed x, quiet_made between seat (Some c) a t (still_session v between seat sealed.seals.opening session) did x)
 lined_made v t seat c a session (quiet.named k names active did) x = operated_made v t seat c a session active did x
 lined_made v t seat c a session (quiet.at_savepoint none active did hears) x =
     let goes = saves_of v t seat did in omega (arith, made_by_one v t seat x session goes.others goes.opening, saves_made v t seat x did)
@@ -342,6 +384,8 @@ pub lined_turned : (v t : View) (seat : ℕ) (c : Command) (a : Answer) → Line
 lined_turned v t seat c a (quiet.quiet did) = quiet_turned v seat (Some c) a t did
 lined_turned v t seat c a (quiet.sealed_first stamp between active sealed did) =
     turned_then v between t seat (seal_turned v between seat stamp sealed) (quiet_turned between seat (Some c) a t did)
+lined_turned v t seat c a (quiet.marked_first stamp between sealed did) =
+    turned_then v between t seat (mark_turned v between seat stamp sealed) (quiet_turned between seat (Some c) a t did)
 lined_turned v t seat c a (quiet.named k names active did) = operated_turned v t seat c a active did
 lined_turned v t seat c a (quiet.at_savepoint none active did hears) = savepoint_turned v t seat did
 
@@ -385,7 +429,7 @@ move_range l a range = by l.command
 pub seal_told : (v t : View) (seat stamp : ℕ) (p : Progress) → phase_at v seat ≡ Active → DidSeal v seat stamp t → TellsNow seat p.current (v.session seat).stand → TellsNow seat p.current (t.session seat).stand
 seal_told v t seat stamp p active did tells =
     subst (λ (s : Session). TellsNow seat p.current s.stand) (sym did.own)
-    (sealed_untold seat stamp p.current (work_at v seat) (subst (λ (at : Stand). TellsNow seat p.current at) (active_with (v.session seat).stand active) tells))
+    (sealed_untold seat stamp p.current (work_at v seat) (seals_plain v seat stamp t active did) (subst (λ (at : Stand). TellsNow seat p.current at) (active_with (v.session seat).stand active) tells))
 
 pub opened_told : (v : View) → IsOpened v → AllTold (λ q. nothing) v
 opened_told v opened q session = (knows_start v q (opened.idle q session)).told
@@ -430,6 +474,9 @@ module _ (tree : TreeLaws) (laws : HistoryLaws) (run : NoneRuns) (table : ℕ �
   lined_fine seat c a session range made (quiet.sealed_first stamp between active sealed did) =
       quiet_fine table run between seat (Some c) a t (p seat) holds (seal_told v between seat stamp (p seat) active sealed (told seat session).tells.now) did
       (seal_fine table v between seat stamp (p seat) active sealed (fine seat session))
+  lined_fine seat c a session range made (quiet.marked_first stamp between sealed did) =
+      quiet_fine table run between seat (Some c) a t (p seat) holds (mark_told v between seat stamp (p seat).current sealed (told seat session).tells.now) did
+      (mark_fine table v between seat stamp (p seat) sealed (told seat session).tells.now (fine seat session))
   lined_fine seat c a session range made (quiet.named k names active did) =
       operated_fine tree laws table v t seat c a k session active names range holds opened (all_keep table p v fine) (made k names) (p seat) (fine seat session) (told seat session).tells.now did
   lined_fine seat c a session range made (quiet.at_savepoint none active did hears) = savepoint_fine seat c a session active did hears

@@ -52,7 +52,7 @@ busy_most (world.snapshot x) = omega arith
 
 busy_now : (stand : Stand) (w : Work) → HasNow stand w → busy stand ≡ 1
 busy_now stand w (inl active) = ap busy active
-busy_now stand w (inr (stamp, sealed)) = ap busy sealed
+busy_now stand w (inr (stamp, sealed, plain)) = ap busy sealed
 
 busy_unless : (stand : Stand) → (phase_of stand ≡ Idle → ⊥) → busy stand ≡ 1
 busy_unless world.idle never = absurd (never refl)
@@ -113,6 +113,7 @@ quiet_takes v seat asked a t (quiet.seals stamp active did hears) =
     goes_on v t seat (ap (λ (s : Session). s.over) did.own) (inl (active_some v seat active))
 quiet_takes v seat asked a t (quiet.done w fate ending now did closed hears) = takes_done v t seat w fate did (inl (busy_some v seat (busy_now (v.session seat).stand w now)))
 quiet_takes v seat asked a t (quiet.watched starts did hears) = watched_takes v t seat starts did
+quiet_takes v seat asked a t (quiet.marked w own stand marks did hears) = takes_done v t seat w (world.marked own w.begin) did (inl (busy_some v seat (ap busy stand)))
 
 -- behind a world in which it has the same over, and had a number before
 takes_behind : (v u t : View) (seat : ℕ) → (u.session seat).over ≡ (v.session seat).over → 0 < numbers_of (v.session seat) → Takes u seat t → Takes v seat t
@@ -132,6 +133,8 @@ lined_takes : (v t : View) (seat : ℕ) (c : Command) (a : Answer) → Lined v s
 lined_takes v t seat c a (quiet.quiet did) = quiet_takes v seat (Some c) a t did
 lined_takes v t seat c a (quiet.sealed_first stamp between active sealed did) =
     takes_behind v between t seat (ap (λ (s : Session). s.over) sealed.own) (active_some v seat active) (quiet_takes between seat (Some c) a t did)
+lined_takes v t seat c a (quiet.marked_first stamp between sealed did) =
+    takes_behind v between t seat (ap (λ (s : Session). s.over) sealed.seals.own) (busy_some v seat (ap busy sealed.stands)) (quiet_takes between seat (Some c) a t did)
 lined_takes v t seat c a (quiet.named k names active did) = operated_takes v t seat c a active did
 lined_takes v t seat c a (quiet.at_savepoint none active did hears) = goes_on v t seat (saves_of v t seat did).over (inl (active_some v seat active))
 
@@ -228,6 +231,7 @@ opened_taken v opened = record {
 decided_tail : (v t : View) (seat : ℕ) (a : Answer) → DidDecide v seat a t → t.tail ≡ v.tail
 decided_tail v t seat (answer.Committed stamp succ pred) (r, at, after, before, (w, own, stand, ready, settled)) = settled.0.tail
 decided_tail v t seat (answer.Excluded stamp succ pred) (w, own, stand, ready, settled) = settled.0.tail
+decided_tail v t seat (answer.Marked safe stamp) (w, own, stand, ready, settled) = settled.0.tail
 decided_tail v t seat (answer.WaitSeat other seen) did = ap (λ (x : View). x.tail) did.0
 decided_tail v t seat (answer.WaitRing flushed) did = ap (λ (x : View). x.tail) did.0
 decided_tail v t seat a did = absurd did
@@ -250,6 +254,7 @@ closes_tail (flush ∷ moves) v t last (u, did, then, rest) = closes_tail moves 
 draws_one : (c : Command) → draws_of c ≤ 1
 draws_one command.Seal = omega arith
 draws_one command.Commit = omega arith
+draws_one command.Mark = omega arith
 draws_one c = omega arith
 
 pub draws_few : (script : List ScriptLine) → total_of draws_of script ≤ length script

@@ -12,16 +12,16 @@ use Rattle.erm_report.specs.declared.answer.Answer.TheVariants as answer
 use Rattle.erm_script.specs.declared.script.Command.{Command}
 use Rattle.erm_script.specs.declared.script.Command.TheVariants as command
 use Rattle.erm_script.specs.declared.script.ScriptLine.{ScriptLine}
-use Rattle.erm_world.specs.Calls.{DidSeal, IsDone}
+use Rattle.erm_world.specs.Calls.{DidSeal, IsDone, Seals}
 use Rattle.erm_world.specs.Face.{Goes, Grows}
 use Rattle.erm_world.specs.Face as face
-use Rattle.erm_world.specs.World.{Fate, Finished, HasStamp, IsSession, Session, Stand, View, Work, phase_at, phase_of, size_of, stamp_of, work_at}
+use Rattle.erm_world.specs.World.{Fate, Finished, HasStamp, IsSession, Session, Stand, View, Work, phase_at, phase_of, size_of, stamp_of, work_at, marking}
 use Rattle.erm_world.specs.World as world
 use Rattle.erm_world.specs.Onward.{goes_itself, goes_then}
 use Rattle.erm_world.proofs.Lists.{∈-parts}
 use Rattle.erm_world.proofs.Txns.{stopped, went}
 use Rattle.erm_good_report.specs.Phases.{HasNoSnapshot, NeedsReader, NeedsWriter, refusal_of}
-use Rattle.erm_lines.specs.Answers.{DidAskSnapshot, DidAsked, DidCommand, DidDecide, DidLine, DidOperation, WasRefusedAs}
+use Rattle.erm_lines.specs.Answers.{DidAskSnapshot, DidAsked, DidCommand, DidDecide, DidLine, DidOperation, WasRefusedAs, DidOfSnapshot}
 use Rattle.erm_lines.specs.Executions.{DidLog, DidLogLine, DidMove, FlushesTo, IsDecidedTo, IsExecution, IsOpened, IsPendingAt, line_moves, move_of}
 use Rattle.erm_lines.specs.Operations.{Ran}
 use Rattle.erm_lines.proofs.Moved.{active_where, asked_still, moved}
@@ -30,6 +30,7 @@ use Rattle.erm_causes.proofs.Saved.{AtSavepoint, asked_back, asked_save, saves_o
 use Rattle.erm_causes.proofs.Snapshots.{Watches, line_watches, starts_watches}
 use Rattle.erm_causes.proofs.Snapshots as snapshots
 use Rattle.erm_told_limits.proofs.Ran.{active_with}
+use Rattle.erm_world.specs.Safe.{HasSnapshot}
 
 -- The blocks of the transactions that are sealed lie in the log one behind another, up to its end. The place that is flushed lies within none of
 -- them, and what isn't decided is at or behind it.
@@ -209,23 +210,26 @@ watched_steps v t seat (snapshots.watches x did) =
     (not_sealed v t seat (λ w s sealed. snapshot_unsealed (t.session seat).stand x w s (ap (λ (r : Session). r.stand) did.own) sealed) (ap (λ (r : Session). r.over) did.own))
 watched_steps v t seat (snapshots.ends number begin did) = aborted v t seat (world.begun number begin) did
 
--- one is sealed at the end of the log
-sealed_steps : (v t : View) (seat stamp : ℕ) → DidSeal v seat stamp t → Steps v t
-sealed_steps v t seat stamp did = one_steps v t seat did.others did.opening (omega (arith, did.tail)) did.flushed (stamps, now)
+-- one is sealed at the end of the log, a transaction or a mark
+seals_steps : (v t : View) (seat : ℕ) (u : Work) (stamp : ℕ) → Seals v seat u stamp t → Steps v t
+seals_steps v t seat u stamp did = one_steps v t seat did.others did.opening (omega (arith, did.tail)) did.flushed (stamps, now)
   where
-    stand : (t.session seat).stand ≡ world.sealed (work_at v seat) stamp
+    stand : (t.session seat).stand ≡ world.sealed u stamp
     stand = ap (λ (x : Session). x.stand) did.own
 
     stamps : (w : Work) (s : ℕ) → HasStamp t seat w s → HasStamp v seat w s ⊎ IsNewAt v t w s
     stamps w s (inl (f, m, work, stamped)) = inl (inl (f, subst (λ (fs : List Finished). f ∈ fs) (ap (λ (x : Session). x.over) did.own) m, work, stamped))
     stamps w s (inr sealed) =
         let same = sym stand ∙ sealed in
-        let work : work_at v seat ≡ w = the_work (work_at v seat) w stamp s same in
-        let at : stamp ≡ s = the_stamp (work_at v seat) w stamp s same in
+        let work : u ≡ w = the_work u w stamp s same in
+        let at : stamp ≡ s = the_stamp u w stamp s same in
         inr (sym at ∙ did.stamp_is, did.tail ∙ ap (λ (x : Work). v.tail + size_of x) work)
 
     now : (w : Work) (s : ℕ) → (t.session seat).stand ≡ world.sealed w s → ((v.session seat).stand ≡ world.sealed w s) ⊎ (s ≡ v.tail)
-    now w s sealed = inr (sym (the_stamp (work_at v seat) w stamp s (sym stand ∙ sealed)) ∙ did.stamp_is)
+    now w s sealed = inr (sym (the_stamp u w stamp s (sym stand ∙ sealed)) ∙ did.stamp_is)
+
+sealed_steps : (v t : View) (seat stamp : ℕ) → DidSeal v seat stamp t → Steps v t
+sealed_steps v t seat stamp did = seals_steps v t seat (work_at v seat) stamp did
 
 -- it is decided, or waits
 decided_steps : (v t : View) (seat : ℕ) (a : Answer) → DidDecide v seat a t → Steps v t
@@ -233,6 +237,8 @@ decided_steps v t seat (answer.Committed stamp succ pred) (r, at, after, before,
     is_done v t seat w (world.commits own r.succ r.pred) settled.0 (λ s is. stand ∙ ap (λ (n : ℕ). world.sealed w n) (the_place own s is))
 decided_steps v t seat (answer.Excluded stamp succ pred) (w, own, stand, ready, settled) =
     is_done v t seat w (world.excluded own succ pred) settled.0 (λ s is. stand ∙ ap (λ (n : ℕ). world.sealed w n) (the_place own s is))
+decided_steps v t seat (answer.Marked safe stamp) (w, own, stand, ready, settled) =
+    is_done v t seat w (world.marked own w.begin) settled.0 (λ s is. stand ∙ ap (λ (n : ℕ). world.sealed w n) (the_place own s is))
 decided_steps v t seat (answer.WaitSeat other seen) did = still_steps v t did.0
 decided_steps v t seat (answer.WaitRing flushed) did = still_steps v t did.0
 decided_steps v t seat a did = absurd did
@@ -315,10 +321,15 @@ module _ (v t : View) (seat : ℕ) (before : Placed v) where
   commanded command.Durable a free plain did = placed_then v t before (still_steps v t (asked_still v t seat a did))
   commanded c a free plain did = absurd did
 
+  watched : (c : Command) (a : Answer) → HasSnapshot v seat → DidOfSnapshot v seat c a t → Placed t
+  watched command.Mark a has did =
+      placed_then did.between t (placed_then v did.between before (seals_steps v did.between seat (marking did.sealed.snapshot) did.stamp did.sealed.seals)) (decided_steps did.between t seat a did.decided)
+  watched c a has did = placed_then v t before (watched_steps v t seat (line_watches v t seat c a has (λ (marks : c ≡ command.Mark). cc) did))
+
   asked : (c : Command) (a : Answer) (r : Option Answer) → refusal_of (phase_at v seat) c ≡ r → DidAsked r v seat c a t → Placed t
   asked c a (Some refusal) is did = placed_then v t before (still_steps v t did)
   asked c a None is did =
-      in_either (Placed t) v t seat c a (λ plain done. commanded c a is plain done) (λ has done. placed_then v t before (watched_steps v t seat (line_watches v t seat c a has done))) did
+      in_either (Placed t) v t seat c a (λ plain done. commanded c a is plain done) (λ has done. watched c a has done) did
 
 -- LINES OF THE LOG. What is flushed goes up to where all is decided, or stays.
 module _ (v t : View) (before : Placed v) where

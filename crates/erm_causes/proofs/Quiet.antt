@@ -1,5 +1,5 @@
 -- Moves that touch no object: a transaction begins, is sealed, or is over; or nothing happens.
-use Rattle.std.proofs.Common.{◌≡◌, ℕ, ◌+◌, ◌<◌, ◌≤◌, ◌⊎◌, Bool, false, cond, ◌++◌, length, Option, Some, None, append-nil, inl, inr, refl, sym, ap, subst, arith}
+use Rattle.std.proofs.Common.{◌≡◌, ℕ, ◌+◌, ◌<◌, ◌≤◌, ◌⊎◌, Bool, false, cond, ◌++◌, length, Option, Some, None, append-nil, inl, inr, refl, sym, ap, subst, arith, true}
 use Rattle.std.specs.Option.{option_map, option_to_list}
 use Rattle.erm_model.specs.declared.limits.TheConstants.{STOP}
 use Rattle.erm_model.specs.declared.history.TransactionRecord.{TransactionRecord}
@@ -11,7 +11,7 @@ use Rattle.erm_node.specs.Sound.{sound_law}
 use Rattle.erm_world.specs.Calls.{DidSeal, IsDone, Works}
 use Rattle.erm_world.specs.Laws.{IsSerializable}
 use Rattle.erm_world.specs.Snapshots.{snapshot_not_idle}
-use Rattle.erm_world.specs.World.{Fate, Finished, HasStamp, IsSession, IsWorking, Session, Stand, View, Work, bare, history_of, phase_at, phase_of, record_of, work_at}
+use Rattle.erm_world.specs.World.{Fate, Finished, HasStamp, IsSession, Session, Stand, View, Work, bare, history_of, phase_at, phase_of, record_of, work_at}
 use Rattle.erm_world.specs.World as world
 use Rattle.erm_world.proofs.Lists.{∈-last}
 use Rattle.erm_report.specs.declared.answer.Answer.{Answer}
@@ -22,18 +22,19 @@ use Rattle.erm_script.specs.declared.script.ScriptLine.{ScriptLine}
 use Rattle.erm_good_report.specs.Phases.{Closes, FitsRefusal, HasNoSnapshot, Need, NeedsAny, NeedsReader, NeedsWriter, need_of, refusal_for, refusal_in, refusal_of}
 use Rattle.erm_good_report.proofs.Phases.{phase_refuses}
 use Rattle.erm_good_report.specs.Transactions.{Aborts, Commits, Ending, Excludes, Exchange, Progress, Transaction, begun, ended, goes_on, heard, table_of, with_line, with_seal, works_on_map}
-use Rattle.erm_lines.specs.Answers.{DidAskBack, DidAskDurable, DidAskSave, DidAskSnapshot, DidAsked, DidClose, DidCommand, DidDecide, DidLine, DidOperation}
+use Rattle.erm_lines.specs.Answers.{DidAskBack, DidAskDurable, DidAskSave, DidAskSnapshot, DidAsked, DidClose, DidCommand, DidDecide, DidLine, DidOperation, DidOfSnapshot}
 use Rattle.erm_lines.specs.Executions.{DidEnd}
 use Rattle.erm_lines.specs.Whole.{is_snapshot}
 use Rattle.erm_lines.proofs.Moved.{active_where, asked_still}
 use Rattle.erm_lines.proofs.Watched.{idle_where, snapshot_there, start_where}
 use Rattle.erm_told.proofs.Lines.{in_either}
 use Rattle.erm_causes.specs.Touched.{IsClosedBy, WasClosed}
-use Rattle.erm_causes.proofs.Fine.{still_session}
+use Rattle.erm_causes.proofs.Fine.{still_session, IsWorking}
 use Rattle.erm_causes.proofs.Operated.{GoesOnBy, Operated, operated}
 use Rattle.erm_causes.proofs.Saved.{AtSavepoint, asked_back, asked_save}
 use Rattle.erm_causes.proofs.Snapshots.{LeavesNone, Starts, Watches, ended_bare, leaves_none, line_none, line_watches, starts_none, starts_watches}
 use Rattle.erm_told_limits.proofs.Ran.{active_with}
+use Rattle.erm_world.specs.Safe.{DidMark, HasSnapshot}
 
 -- a line that works on no table, nor on savepoints, or no line
 abbrev pub NamesNone : Option Command → Type 0
@@ -60,13 +61,13 @@ BeginsBy asked a = (seat : ℕ) (p : Progress) → (t : Transaction) × (heard s
 abbrev pub DoneBy : Option Command → Answer → Ending → Type 0
 DoneBy asked a ending = (seat : ℕ) (p : Progress) → heard seat asked a p ≡ ended ending p
 
--- a session has this transaction, sealed or not
+-- a session has this transaction, which is no mark, sealed or not
 abbrev pub HasNow : Stand → Work → Type 0
-HasNow stand w = (stand ≡ world.active w) ⊎ ((stamp : ℕ) × (stand ≡ world.sealed w stamp))
+HasNow stand w = (stand ≡ world.active w) ⊎ ((stamp : ℕ) × (stand ≡ world.sealed w stamp) × (w.is_mark ≡ false))
 
 pub now_works : (stand : Stand) (w : Work) → HasNow stand w → IsWorking stand w
 now_works stand w (inl active) = subst (λ (at : Stand). IsWorking at w) (sym active) refl
-now_works stand w (inr (stamp, sealed)) = subst (λ (at : Stand). IsWorking at w) (sym sealed) refl
+now_works stand w (inr (stamp, sealed, plain)) = subst (λ (at : Stand). IsWorking at w) (sym sealed) (refl, plain)
 
 pub data Quiet (v : View) (seat : ℕ) (asked : Option Command) (a : Answer) (t : View) : Type 0 where
   still : t ≡ v → StillBy asked a → Quiet v seat asked a t
@@ -75,6 +76,7 @@ pub data Quiet (v : View) (seat : ℕ) (asked : Option Command) (a : Answer) (t 
   done : (w : Work) (fate : Fate) (ending : Ending) → HasNow (v.session seat).stand w → IsDone v seat w fate t
       → (IsSerializable sound_law t → WasClosed (history_of t) ending w) → DoneBy asked a ending → Quiet v seat asked a t
   watched : Starts v seat → Watches v seat t → LeavesNone asked a → Quiet v seat asked a t
+  marked : (w : Work) (own : ℕ) → (v.session seat).stand ≡ world.sealed w own → w.is_mark ≡ true → IsDone v seat w (world.marked own w.begin) t → LeavesNone asked a → Quiet v seat asked a t
 
 -- such a line leaves the lines
 pub same_line : (asked : Option Command) (a : Answer) (t : Transaction) → NamesNone asked → (with_line asked a t).lines ≡ t.lines
@@ -153,11 +155,13 @@ excluded_closed v t seat w stamp succ pred session settled successor predecessor
 -- DECIDED.
 pub decided : (v t : View) (seat : ℕ) (asked : Option Command) (a : Answer) → IsSession v seat → NamesNone asked → DidDecide v seat a t → Quiet v seat asked a t
 decided v t seat asked (answer.Committed stamp succ pred) session none (r, at, is_succ, is_pred, (w, own, stand, ready, settled)) =
-    done w (world.commits own r.succ r.pred) (Commits stamp succ pred) (inr (own, stand)) settled.0 (λ holds. tt) (λ q p. refl)
+    done w (world.commits own r.succ r.pred) (Commits stamp succ pred) (inr (own, stand, settled.1)) settled.0 (λ holds. tt) (λ q p. refl)
 decided v t seat asked (answer.Excluded stamp succ pred) session none (w, own, stand, ready, settled) =
-    done w (world.excluded own succ pred) (Excludes (Some stamp) succ pred) (inr (own, stand)) settled.0
-    (λ holds. subst (λ (n : ℕ). IsClosedBy (history_of t) w (Some n) succ pred) (sym settled.1) (excluded_closed v t seat w own succ pred session settled.0 settled.2 settled.3 settled.4 holds))
+    done w (world.excluded own succ pred) (Excludes (Some stamp) succ pred) (inr (own, stand, settled.1)) settled.0
+    (λ holds. subst (λ (n : ℕ). IsClosedBy (history_of t) w (Some n) succ pred) (sym settled.2) (excluded_closed v t seat w own succ pred session settled.0 settled.3 settled.4 settled.5 holds))
     (λ q p. refl)
+decided v t seat asked (answer.Marked safe stamp) session none (w, own, stand, ready, settled) =
+    marked w own stand settled.1 settled.0 (leaves_none asked (answer.Marked safe stamp) refl)
 decided v t seat asked (answer.WaitSeat other seen) session none did = still did.0 (λ q p. same_goes_on asked (answer.WaitSeat other seen) p none)
 decided v t seat asked (answer.WaitRing flushed) session none did = still did.0 (λ q p. same_goes_on asked (answer.WaitRing flushed) p none)
 decided v t seat asked a session none did = absurd did
@@ -181,10 +185,12 @@ idle_with (world.active w) is = cc
 idle_with (world.sealed w stamp) is = cc
 idle_with (world.snapshot s) is = absurd (snapshot_not_idle s is)
 
--- What a line did: it is a quiet one; or it sealed its transaction, and then it is; or it is one that names a table, or one of savepoints.
+-- What a line did: it is a quiet one; or it sealed its transaction, or its mark, and then it is; or it is one that names a table, or one of
+-- savepoints.
 pub data Lined (v : View) (seat : ℕ) (c : Command) (a : Answer) (t : View) : Type 0 where
   quiet : Quiet v seat (Some c) a t → Lined v seat c a t
   sealed_first : (stamp : ℕ) (between : View) → phase_at v seat ≡ Active → DidSeal v seat stamp between → Quiet between seat (Some c) a t → Lined v seat c a t
+  marked_first : (stamp : ℕ) (between : View) → DidMark v seat stamp between → Quiet between seat (Some c) a t → Lined v seat c a t
   named : (k : ℕ) → table_of c ≡ Some k → phase_at v seat ≡ Active → Operated v seat c a t → Lined v seat c a t
   at_savepoint : table_of c ≡ None → phase_at v seat ≡ Active → AtSavepoint v seat t → GoesOnBy a → Lined v seat c a t
 
@@ -255,13 +261,20 @@ module _ (v t : View) (seat : ℕ) (session : IsSession v seat) where
   commanded command.Save a free plain did = saved_line a (active_where NeedsWriter (phase_at v seat) tt plain free) did
   commanded (command.Back n) a free plain did = back_line n a (active_where NeedsWriter (phase_at v seat) tt plain free) did
   commanded command.Durable a free plain did = quiet (still (asked_still v t seat a did) (durable_heard a did))
+  commanded command.Mark a free plain did = absurd did
   commanded command.Flush a free plain did = absurd did
   commanded command.Checkpoint a free plain did = absurd did
 
+  watched_line : (c : Command) (a : Answer) → HasSnapshot v seat → DidOfSnapshot v seat c a t → Lined v seat c a t
+  watched_line command.Mark a has did =
+      marked_first did.stamp did.between did.sealed
+      (decided did.between t seat (Some command.Mark) a (still_session v did.between seat did.sealed.seals.opening session) refl did.decided)
+  watched_line c a has did =
+      quiet (watched (inl has) (line_watches v t seat c a has (λ (marks : c ≡ command.Mark). cc) did) (leaves_none (Some c) a (line_none v t seat c a did)))
+
   asked_line : (c : Command) (a : Answer) (r : Option Answer) → refusal_of (phase_at v seat) c ≡ r → FitsRefusal r c a → DidAsked r v seat c a t → Lined v seat c a t
   asked_line c a None is fits did =
-      in_either (Lined v seat c a t) v t seat c a (λ plain done. commanded c a is plain done)
-      (λ has done. quiet (watched (inl has) (line_watches v t seat c a has done) (leaves_none (Some c) a (line_none v t seat c a done)))) did
+      in_either (Lined v seat c a t) v t seat c a (λ plain done. commanded c a is plain done) (λ has done. watched_line c a has done) did
   asked_line c a (Some refusal) is fits did =
       quiet (still did (subst (StillBy (Some c)) (sym fits) (refusal_still (need_of c) (phase_at v seat) refusal is (Some c))))
 

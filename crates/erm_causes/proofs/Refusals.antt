@@ -48,6 +48,7 @@ use Rattle.erm_told_limits.proofs.Given.{HistoryLaws}
 use Rattle.erm_causes.proofs.Waits.{Decides, IsDecision, Waited, excluded_named, named_active, newer_named, none_for_ring, owned_named, waited_ring, waited_seat}
 use Rattle.erm_causes.proofs.Waits as waits
 use Rattle.erm_causes.proofs.Refused.{Known, KnowsStamps, newer_by, owned_by, waits_to_read, waits_to_settle}
+use Rattle.erm_lines.specs.Told.{TellsNow}
 
 -- which refusal was answered so
 not_yet : (why : RowStop) (other seen : ℕ) → stop_told why ≡ Some (answer.WaitSeat other seen) → why ≡ stop.NotYet other seen
@@ -132,6 +133,7 @@ reads_wait m (command.Scan n low high) t k seat seen named waits = waits
 reads_wait m (command.Tidy n key) t k seat seen named waits = waits
 reads_wait m command.Save t k seat seen named waits = waits
 reads_wait m (command.Back n) t k seat seen named waits = waits
+reads_wait m command.Mark t k seat seen named waits = waits
 reads_wait m command.Durable t k seat seen named waits = waits
 reads_wait m command.Flush t k seat seen named waits = waits
 reads_wait m command.Checkpoint t k seat seen named waits = waits
@@ -242,10 +244,10 @@ module _ (tree : TreeLaws) (laws : HistoryLaws) (table : ℕ → ℕ) (m : Momen
     settles_wait other seen way = waits_to_settle table m before known stamps c a now.told w now.touches own_stamp own_is at others opening other seen way
 
   -- The transaction that a line decides is told, where it was sealed before and where the line sealed it.
-  pub decided_now : (w : Work) (stamp : ℕ) → (before.session m.session).stand ≡ world.sealed w stamp → NowTold table m.session (current_of m m.session) w
-  decided_now w stamp is =
+  pub decided_now : (w : Work) (stamp : ℕ) → (before.session m.session).stand ≡ world.sealed w stamp → w.is_mark ≡ false → NowTold table m.session (current_of m m.session) w
+  decided_now w stamp is plain =
       now_told table m.session (current_of m m.session) (before.saves m.session) (before.session m.session).stand w (known.tells m.session session) (known.fine m.session session)
-      (current_of_sealed (before.session m.session).stand w stamp is)
+      (current_of_sealed (before.session m.session).stand w stamp is plain)
 
   pub sealed_now : (between : View) (stamp : ℕ) → c ≡ command.Commit → DidSeal before m.session stamp between → (w : Work) (other : ℕ) → (between.session m.session).stand ≡ world.sealed w other
       → NowTold table m.session (current_of m m.session) w
@@ -258,6 +260,12 @@ module _ (tree : TreeLaws) (laws : HistoryLaws) (table : ℕ → ℕ) (m : Momen
       (current_of_active (before.session m.session).stand (work_at before m.session) (active_with (before.session m.session).stand active)))
 
   module _ (u : Transaction) (current : current_of m m.session ≡ Some u) where
+    -- what is sealed is no mark, since a transaction is told
+    unmarked : (w : Work) (stamp : ℕ) → (before.session m.session).stand ≡ world.sealed w stamp → w.is_mark ≡ false
+    unmarked w stamp stand =
+        let told : TellsNow m.session (Some u) (world.sealed w stamp) = subst (λ (at : Stand). TellsNow m.session (Some u) at) stand
+        (subst (λ (o : Option Transaction). TellsNow m.session o (before.session m.session).stand) current (known.tells m.session session)) in told.1
+
     as_told : (P : Transaction → Type 0) (w : Work) (now : NowTold table m.session (current_of m m.session) w) → P now.told → P u
     as_told P w now it = subst P (the_told (current_of m m.session) now.told u now.is current) it
 
@@ -269,7 +277,7 @@ module _ (tree : TreeLaws) (laws : HistoryLaws) (table : ℕ → ℕ) (m : Momen
         (reads_wait m c (with_line (Some c) a (own k names active a).told) k other seen names (named_waits k names active a other seen refused))
     wait_seat_as other seen (waits.settled is (same, (w, stamp, stand, waiting))) =
         let a = answer.WaitSeat other seen in
-        let now = decided_now w stamp stand in
+        let now = decided_now w stamp stand (unmarked w stamp stand) in
         let waits_to = settles_wait a before (λ q another. refl) refl same w now stamp stand other seen waiting.1 in
         as_told (λ t. HasWaitCause m c (with_line (Some c) a t) other seen) w now
         (subst (λ (d : Command). HasWaitCause m d (with_line (Some c) a now.told) other seen) (sym is) waits_to)
@@ -299,7 +307,7 @@ module _ (tree : TreeLaws) (laws : HistoryLaws) (table : ℕ → ℕ) (m : Momen
       wait_ring_as (waits.named k names (why, told, did)) = absurd (none_for_ring why flushed told)
       wait_ring_as (waits.settled is (same, (w, own_stamp, stand, waiting))) =
           let a = answer.WaitRing flushed in
-          let now = decided_now w own_stamp stand in
+          let now = decided_now w own_stamp stand (unmarked w own_stamp stand) in
           record {
             flushed_is = waiting.0 ∙ place;
             own = own_stamp;
@@ -339,17 +347,17 @@ module _ (tree : TreeLaws) (laws : HistoryLaws) (table : ℕ → ℕ) (m : Momen
       committed_so : (stamp succ pred : ℕ) (r : Receipt) → r.stamp ≡ stamp → r.succ ≡ succ → r.pred ≡ pred → Settled at m.session w own (outcome.Committed r) after
           → HasWindowBefore m (with_line (Some c) a u) stamp succ pred
       committed_so stamp succ pred r stamp_is succ_is pred_is settled =
-          let window = window_before table m before at after c a in_at holds commits others opening over w now own r.succ r.pred settled.0 settled.4 settled.5 in
+          let window = window_before table m before at after c a in_at holds commits others opening over w now own r.succ r.pred settled.0 settled.5 settled.6 in
           as_told (λ t. HasWindowBefore m (with_line (Some c) a t) stamp succ pred) w now
-          (subst (λ (n : ℕ). HasWindowBefore m (with_line (Some c) a now.told) n succ pred) (sym settled.2 ∙ stamp_is)
+          (subst (λ (n : ℕ). HasWindowBefore m (with_line (Some c) a now.told) n succ pred) (sym settled.3 ∙ stamp_is)
           (subst (λ (n : ℕ). HasWindowBefore m (with_line (Some c) a now.told) own n pred) succ_is
           (subst (λ (n : ℕ). HasWindowBefore m (with_line (Some c) a now.told) own r.succ n) pred_is window)))
 
       excluded_so : (stamp succ pred : ℕ) → Settled at m.session w own (outcome.Excluded stamp succ pred) after → HasNoWindowBefore m (with_line (Some c) a u) (Some stamp) succ pred
       excluded_so stamp succ pred settled =
           as_told (λ t. HasNoWindowBefore m (with_line (Some c) a t) (Some stamp) succ pred) w now
-          (subst (λ (n : ℕ). HasNoWindowBefore m (with_line (Some c) a now.told) (Some n) succ pred) (sym settled.1)
-          (no_window_before table m before at after c a in_at holds commits others opening over w now own succ pred settled.0 settled.2 settled.3 settled.4))
+          (subst (λ (n : ℕ). HasNoWindowBefore m (with_line (Some c) a now.told) (Some n) succ pred) (sym settled.2)
+          (no_window_before table m before at after c a in_at holds commits others opening over w now own succ pred settled.0 settled.3 settled.4 settled.5))
 
     decides_so : (a : Answer) (at : View) → IsSession at m.session → ((q : ℕ) → q ≢ m.session → at.session q ≡ before.session q) → at.opening ≡ before.opening
         → (at.session m.session).over ≡ (before.session m.session).over
@@ -362,7 +370,7 @@ module _ (tree : TreeLaws) (laws : HistoryLaws) (table : ℕ → ℕ) (m : Momen
     decides_so a at in_at others opening over now is did = absurd is
 
     pub outcome_cause : (a : Answer) → IsDecision a → Decides before m.session c a after → HasRefusalCause m c (with_line (Some c) a u) a
-    outcome_cause a is (waits.settles named did) = decides_so a before session (λ q another. refl) refl refl decided_now is did
+    outcome_cause a is (waits.settles named did) = decides_so a before session (λ q another. refl) refl refl (λ w own stand. decided_now w own stand (unmarked w own stand)) is did
     outcome_cause a is (waits.commits named stamp between sealed did) =
         decides_so a between (still_session before between m.session sealed.opening session) sealed.others sealed.opening (ap (λ (s : Session). s.over) sealed.own)
         (λ w own stand. sealed_now between stamp named sealed w own stand) is did

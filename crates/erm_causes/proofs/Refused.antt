@@ -1,5 +1,5 @@
 -- Refusals for what other sessions do have their causes.
-use Rattle.std.proofs.Common.{◌≡◌, ◌≢◌, ℕ, zero, ◌<◌, ◌≤◌, true, List, ◌∷◌, Some, inl, inr, refl, sym, ap, ◌∙◌, subst, arith}
+use Rattle.std.proofs.Common.{◌≡◌, ◌≢◌, ℕ, zero, ◌<◌, ◌≤◌, true, List, ◌∷◌, Some, inl, inr, refl, sym, ap, ◌∙◌, subst, arith, false}
 use Rattle.erm_model.specs.declared.history.TransactionRecord.{TransactionRecord}
 use Rattle.erm_model.specs.declared.history.VersionRead.{VersionRead}
 use Rattle.erm_model.specs.declared.history.VersionWritten.{VersionWritten}
@@ -23,8 +23,9 @@ use Rattle.erm_causes.proofs.Beside.{claimed_at, read_at, writes_name}
 use Rattle.erm_causes.proofs.Early.{EarlyCommit}
 use Rattle.erm_causes.proofs.Fine.{FineNow, names_more, writes_more}
 use Rattle.erm_causes.proofs.Lines.{lines_before}
-use Rattle.erm_causes.proofs.Moments.{NowTold, claims_work, current_of_sealed, now_told}
+use Rattle.erm_causes.proofs.Moments.{NowTold, claims_work, current_of_sealed, now_told, never_claimed, sealed_works}
 use Rattle.erm_told_limits.proofs.Ran.{Stays}
+use Rattle.erm_model.proofs.Members.{none_in_nil}
 
 -- What is told at a moment of a world's sessions.
 pub record Known (table : ℕ → ℕ) (m : Moment) (v : View) : Type 0 where
@@ -44,9 +45,9 @@ pub record OtherSealed (table : ℕ → ℕ) (m : Moment) (q seen : ℕ) (w : Wo
   pub touches : Touches table told w
 
 module _ (table : ℕ → ℕ) (m : Moment) (v : View) (known : Known table m v) (stamps : KnowsStamps m v) where
-  pub other_sealed : (q seen : ℕ) (w : Work) → IsSession v q → (v.session q).stand ≡ world.sealed w seen → OtherSealed table m q seen w
-  other_sealed q seen w session is =
-      let now = now_told table q (current_of m q) (v.saves q) (v.session q).stand w (known.tells q session) (known.fine q session) (current_of_sealed (v.session q).stand w seen is) in
+  pub other_sealed : (q seen : ℕ) (w : Work) → IsSession v q → (v.session q).stand ≡ world.sealed w seen → w.is_mark ≡ false → OtherSealed table m q seen w
+  other_sealed q seen w session is plain =
+      let now = now_told table q (current_of m q) (v.saves q) (v.session q).stand w (known.tells q session) (known.fine q session) (current_of_sealed (v.session q).stand w seen is plain) in
       record {
         told = now.told;
         sealed = record {
@@ -56,6 +57,14 @@ module _ (table : ℕ → ℕ) (m : Moment) (v : View) (known : Known table m v)
         };
         touches = now.touches;
       }
+
+  -- where it has done something
+  pub other_working : (P : Work → Type 0) → ((number begin : ℕ) → P (record (world.begun number begin) { is_mark = true }) → ⊥) → (q seen : ℕ) (w : Work) → IsSession v q
+      → (v.session q).stand ≡ world.sealed w seen → P w → OtherSealed table m q seen w
+  other_working P never q seen w session is has =
+      other_sealed q seen w session is
+      (sealed_works P never table q (current_of m q) (v.saves q) w seen (subst (λ (at : Stand). TellsNow q (current_of m q) at) is (known.tells q session))
+      (subst (λ (at : Stand). FineNow table (current_of m q) (v.saves q) at) is (known.fine q session)) has)
 
   -- a session of a world in which another one went on
   session_back : (at : View) (q : ℕ) → at.opening ≡ v.opening → IsSession at q → IsSession v q
@@ -73,7 +82,7 @@ module _ (table : ℕ → ℕ) (m : Moment) (v : View) (known : Known table m v)
     waits_to_read other seen ahead =
         let session = session_back at other stays.opening ahead.session in
         let stand : (v.session other).stand ≡ world.sealed ahead.work seen = ap (λ (s : Session). s.stand) (sym (stays.others other ahead.another)) ∙ ahead.stand in
-        let there = other_sealed other seen ahead.work session stand in
+        let there = other_working (λ x. is_claimed x.claims oid ≡ true) (never_claimed oid) other seen ahead.work session stand ahead.claims in
         record {
           another = ahead.another;
           other = there.told;
@@ -89,7 +98,8 @@ module _ (table : ℕ → ℕ) (m : Moment) (v : View) (known : Known table m v)
         let session = session_back at other stays.opening owned.session in
         let same = stays.others other owned.another in
         let now = now_told table other (current_of m other) (v.saves other) (v.session other).stand owned.work (known.tells other session) (known.fine other session)
-        (claims_work (v.session other).stand owned.work oid (subst (λ (s : Session). IsCurrent s.stand owned.work) same owned.current) owned.claims) in
+        (claims_work table other (current_of m other) (v.saves other) (v.session other).stand owned.work oid (known.tells other session) (known.fine other session)
+        (subst (λ (s : Session). IsCurrent s.stand owned.work) same owned.current) owned.claims) in
         record {
           another = owned.another;
           other = now.told;
@@ -129,14 +139,15 @@ module _ (table : ℕ → ℕ) (m : Moment) (v : View) (known : Known table m v)
     writes_own : (n : ℕ) → WritesTable t n → WritesTable (with_line (Some c) a t) n
     writes_own n writes = writes_more t (with_line (Some c) a t) n (lines_before c a t) writes
 
-    the_other : (other seen : ℕ) (work : Work) → IsSealedBelow at m.session own other seen work → OtherSealed table m other seen work
-    the_other other seen work below =
+    the_other : (P : Work → Type 0) → ((number begin : ℕ) → P (record (world.begun number begin) { is_mark = true }) → ⊥) → (other seen : ℕ) (work : Work) → IsSealedBelow at m.session own other seen work → P work
+        → OtherSealed table m other seen work
+    the_other P never other seen work below has =
         let session = session_back at other opening below.session in
-        other_sealed other seen work session (ap (λ (s : Session). s.stand) (sym (others other below.another)) ∙ below.stand)
+        other_working P never other seen work session (ap (λ (s : Session). s.stand) (sym (others other below.another)) ∙ below.stand) has
 
     pub waits_to_settle : (other seen : ℕ) → IsInTheWay at m.session w own other seen → WaitsToSettle m (with_line (Some c) a t) other seen
     waits_to_settle other seen (calls.overwrites before after r reads ready may) =
-        let there = the_other other seen may.work may.is in
+        let there = the_other (λ x. may.claim ∈ x.claims) (λ number begin m. none_in_nil may.claim m) other seen may.work may.is may.claimed in
         let here : r ∈ w.reads = subst (λ (rs : List VersionRead). r ∈ rs) (sym reads) (∈-second before (r ∷ after) r (zero, refl)) in
         let over : WritesTable there.told (table r.oid) = subst (λ (n : ℕ). WritesTable there.told n) (ap table may.oid) (there.touches.claims may.claim.oid (claimed_at may.work.claims may.claimed.0 may.claim may.claimed.1)) in
         record {
@@ -152,7 +163,7 @@ module _ (table : ℕ → ℕ) (m : Moment) (v : View) (known : Known table m v)
           writes = inl over;
         }
     waits_to_settle other seen (calls.has_read before after d claims ready claims_ready first may) =
-        let there = the_other other seen may.work may.is in
+        let there = the_other (λ x. may.read ∈ x.reads) (λ number begin m. none_in_nil may.read m) other seen may.work may.is may.reads in
         let here : d ∈ w.claims = subst (λ (ds : List VersionWritten). d ∈ ds) (sym claims) (∈-second before (d ∷ after) d (zero, refl)) in
         let over : WritesTable t (table d.oid) = touches.claims d.oid (claimed_at w.claims here.0 d here.1) in
         record {

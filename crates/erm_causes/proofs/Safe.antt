@@ -1,5 +1,5 @@
 -- What a run so far owes of its snapshots: where each begins, and why it is safe, waits or isn't safe.
-use Rattle.std.proofs.Common.{◌≡◌, ◌≢◌, ℕ, suc, ◌+◌, ◌*◌, ◌<◌, ◌≤◌, List, [], ◌∷◌, take, drop, fold, slice_get, Option, Some, None, refl, sym, ap, ◌∙◌, subst, inl, inr, ⊎_elim, arith}
+use Rattle.std.proofs.Common.{◌≡◌, ◌≢◌, ℕ, suc, ◌+◌, ◌*◌, ◌<◌, ◌≤◌, List, [], ◌∷◌, take, drop, fold, slice_get, Option, Some, None, refl, sym, ap, ◌∙◌, subst, inl, inr, ⊎_elim, arith, Bool, true, false}
 use Rattle.std.proofs.lemmas.List.Sums.{sum_by_push}
 use Rattle.erm_model.specs.declared.limits.TheConstants.{GREATEST_BLOCK, LEAST_BLOCK}
 use Rattle.erm_model.specs.declared.history.TransactionRecord.{TransactionRecord}
@@ -12,7 +12,7 @@ use Rattle.erm_report.specs.declared.answer.Answer.TheVariants as answer
 use Rattle.erm_script.specs.declared.script.Command.TheVariants as command
 use Rattle.erm_script.specs.declared.script.ScriptLine.{ScriptLine}
 use Rattle.erm_world.specs.Laws.{IsCommitOf, IsSerializable}
-use Rattle.erm_world.specs.World.{Finished, IsCurrent, IsSession, IsWorking, Session, Stand, View, Work, work_at, work_of}
+use Rattle.erm_world.specs.World.{Finished, IsCurrent, IsSession, Session, Stand, View, Work, work_at, work_of}
 use Rattle.erm_world.specs.World as world
 use Rattle.erm_world.proofs.Commits.{tells_commits}
 use Rattle.erm_good_report.specs.GoodReport.{places_of}
@@ -33,19 +33,20 @@ use Rattle.erm_told.proofs.Executed.{hears}
 use Rattle.erm_told.proofs.Runs.{AtLine, at_line}
 use Rattle.erm_told.proofs.Timing.{Earlier, Later, all_earlier, all_later}
 use Rattle.erm_told.proofs.Untold.{drawn_there, place, there}
-use Rattle.erm_told.proofs.Watching.{watching}
+use Rattle.erm_told.proofs.Watching.{watching, marking_of}
 use Rattle.erm_told_limits.specs.Limits.{EndsAreInReach}
 use Rattle.erm_told_limits.proofs.At.{take_next}
 use Rattle.erm_told_order.specs.Told.{CoursesKeepSnapshots}
 use Rattle.erm_told_order.proofs.Courses.{nothing_elsewhere}
 use Rattle.erm_causes.specs.Laws.{CoursesHaveSafeSnapshots}
 use Rattle.erm_causes.proofs.AtPlaces.{AtPlace, all_printed, at_place, earlier_place, later_place, said_before, said_behind}
-use Rattle.erm_causes.proofs.Begins.{BegunAt, SafeAsked, asked, begin_of, begun_at, own_begin_is, opening_at, tells_at}
+use Rattle.erm_causes.proofs.Begins.{BegunAt, SafeAsked, asked, begun_at, own_begin_is, opening_at, tells_at, begin_by, sealed_numbered}
 use Rattle.erm_causes.proofs.Causes.{over_told}
 use Rattle.erm_causes.proofs.Early.{over_later}
-use Rattle.erm_causes.proofs.Fine.{still_session}
+use Rattle.erm_causes.proofs.Fine.{still_session, IsWorking, works_current}
 use Rattle.erm_causes.proofs.Logged.{some_session}
-use Rattle.erm_causes.proofs.Together.{commits_as, commits_stay}
+use Rattle.erm_causes.proofs.Together.{commits_as, commits_stay, ended_untold}
+use Rattle.erm_causes.specs.Touched.{IsUntold}
 
 -- WHAT IS TOLD of a session's transaction in progress
 record IsAtWork (seat : ℕ) (u : Transaction) (stand : Stand) : Type 0 where
@@ -59,19 +60,19 @@ at_work seat current u stand tells is = by stand (subst (λ (o : Option Transact
     by : (at : Stand) → TellsNow seat (Some u) at → IsAtWork seat u at
     by world.idle told = absurd told
     by (world.active w) told = record { work = w; works = refl; tells = told.0.work }
-    by (world.sealed w stamp) told = record { work = w; works = refl; tells = told.0.work }
+    by (world.sealed w stamp) told = record { work = w; works = (refl, told.1); tells = told.0.work }
     by (world.snapshot x) told = absurd told
 
 the_current : (seat : ℕ) (current : Option Transaction) (w : Work) (stand : Stand) → TellsNow seat current stand → IsWorking stand w → (u : Transaction) × (current ≡ Some u) × TellsWork seat u w
 the_current seat current w world.idle tells works = absurd works
 the_current seat None w (world.active x) tells works = absurd tells
-the_current seat None w (world.sealed x stamp) tells works = absurd tells
+the_current seat None w (world.sealed x stamp) tells works = absurd (let plain = works.1 in cc)
 the_current seat (Some u) w (world.active x) tells works = (u, refl, subst (λ (y : Work). TellsWork seat u y) works tells.0.work)
-the_current seat (Some u) w (world.sealed x stamp) tells works = (u, refl, subst (λ (y : Work). TellsWork seat u y) works tells.0.work)
+the_current seat (Some u) w (world.sealed x stamp) tells works = (u, refl, subst (λ (y : Work). TellsWork seat u y) works.0 tells.0.work)
 the_current seat current w (world.snapshot x) tells works = absurd works
 
 -- and of one that committed
-pub told_one : (seat : ℕ) (ts : List Transaction) (ss : List Snapshot) (fs : List Finished) (f : Finished) → TellsOver seat ts ss fs → (f.fate ≡ world.aborts → ⊥) → f ∈ fs
+pub told_one : (seat : ℕ) (ts : List Transaction) (ss : List Snapshot) (fs : List Finished) (f : Finished) → TellsOver seat ts ss fs → (IsUntold f → ⊥) → f ∈ fs
     → (t : Transaction) × (t ∈ ts) × TellsOne seat t f
 told_one seat ts ss [] f told never m = absurd (none_in_nil f m)
 told_one seat ts ss (g ∷ fs) f (inl (u, us, is, one, rest)) never m =
@@ -80,7 +81,7 @@ told_one seat ts ss (g ∷ fs) f (inl (u, us, is, one, rest)) never m =
     let found = told_one seat us ss fs f rest never later in (found.0, subst (λ (list : List Transaction). found.0 ∈ list) (sym is) (∈-behind u us found.0 found.1), found.2))
     (∈-cons f g fs m)
 told_one seat ts ss (g ∷ fs) f (inr (s, more, is, one, rest)) never m =
-    ⊎_elim (λ (here : g ≡ f). absurd (never (sym (ap (λ (x : Finished). x.fate) here) ∙ one.aborted))) (λ (later : f ∈ fs). told_one seat ts more fs f rest never later)
+    ⊎_elim (λ (here : g ≡ f). absurd (never (subst IsUntold here (ended_untold s g one)))) (λ (later : f ∈ fs). told_one seat ts more fs f rest never later)
     (∈-cons f g fs m)
 
 none_some : (o : Option Transaction) (u : Transaction) (P : Type 0) → o ≡ None → o ≡ Some u → P
@@ -241,7 +242,7 @@ module _ (tell : ExecutionsTell) (go : ExecutionsGoOn) (keep : ExecutionsKeepBeg
         let did = its_safe.did.0 in
         let kept : place.after.session q ≡ place.before.session q = did.2.others q another ∙ its_safe.others q another in
         let behind : IsSession place.after q = still_session place.before place.after q (after_opening i l (answer.Safe begin) at answered asks tt) session in
-        let above = did.3.begins q working.work behind (subst (λ (s : Session). IsWorking s.stand working.work) (sym kept) working.works) in
+        let above = did.3.begins q working.work behind (subst (λ (s : Session). IsCurrent s.stand working.work) (sym kept) (works_current (place.before.session q).stand working.work working.works)) in
         let own : did.0.begin ≡ (work_at its_safe.at l.session).begin = ap (λ (stand : Stand). (work_of stand).begin) (sym did.1) in
         omega (arith, above, own, its_safe.did.1, working.tells.begin)
 
@@ -262,6 +263,11 @@ module _ (tell : ExecutionsTell) (go : ExecutionsGoOn) (keep : ExecutionsKeepBeg
     abbrev x_waits : AtPlace v t (take i said) l (answer.WaitSeat other seen)
     x_waits = x i l (answer.WaitSeat other seen) at answered asks tt
 
+    last_session : IsSession x_waits.before other → IsSession t other
+    last_session session =
+        still_session v t other (opening_is tell go v t script answers run closed are)
+        (still_session x_waits.before v other (sym (before_opening i l (answer.WaitSeat other seen) at answered asks tt)) session)
+
     from_stand : (stand : Stand) (work : Work) → IsSession x_waits.before other → (x_waits.before.session other).stand ≡ stand → IsCurrent stand work → seen ≤ work.begin
         → BeginsFrom begins (m i l) other seen
     from_stand world.idle work session is current most = absurd current
@@ -270,17 +276,25 @@ module _ (tell : ExecutionsTell) (go : ExecutionsGoOn) (keep : ExecutionsKeepBeg
         (subst (λ (stand : Stand). TellsNow other (current_of (m i l) other) stand) is (now_of i l (answer.WaitSeat other seen) at answered asks tt other session)) current in
         inl (now.0, now.1, omega (arith, most, now.2.begin))
     from_stand (world.sealed w stamp) work session is current most =
-        let now = the_current other (current_of (m i l) other) work (world.sealed w stamp)
-        (subst (λ (stand : Stand). TellsNow other (current_of (m i l) other) stand) is (now_of i l (answer.WaitSeat other seen) at answered asks tt other session)) current in
-        inl (now.0, now.1, omega (arith, most, now.2.begin))
+        by_mark w.is_mark refl
+      where
+        by_mark : (marks : Bool) → w.is_mark ≡ marks → BeginsFrom begins (m i l) other seen
+        by_mark false plain =
+            let now = the_current other (current_of (m i l) other) work (world.sealed w stamp)
+            (subst (λ (stand : Stand). TellsNow other (current_of (m i l) other) stand) is (now_of i l (answer.WaitSeat other seen) at answered asks tt other session)) (current, plain) in
+            inl (now.0, now.1, omega (arith, most, now.2.begin))
+        by_mark true marks =
+            let tells = tells_at tell go keep v t run.opened lawful (take i said) l (answer.WaitSeat other seen) x_waits other session in
+            let own = marking_of (progress_of other (take i said)).snapshot w stamp marks (subst (λ (stand : Stand). TellsWatched (progress_of other (take i said)).snapshot stand) is tells.watched) in
+            let has = sealed_numbered go (move_of l (answer.WaitSeat other seen) ∷ x_waits.more) x_waits.before t other w stamp (x_waits.after, x_waits.did, x_waits.lawful, x_waits.onward) session is in
+            let begin = begin_by t other (lawful.numbered other (last_session session)) w.number w.begin has in
+            let same : begins other own.own.number ≡ w.begin = ap (λ (n : ℕ). begins other n) own.tells.snapshot.number_is ∙ begin in
+            inr (own.own, own.is, omega (arith, most, same, ap (λ (x : Work). x.begin) current))
     from_stand (world.snapshot y) work session is current most =
         let tells = tells_at tell go keep v t run.opened lawful (take i said) l (answer.WaitSeat other seen) x_waits other session in
         let own = watching (progress_of other (take i said)).snapshot y (subst (λ (stand : Stand). TellsWatched (progress_of other (take i said)).snapshot stand) is tells.watched) in
         let has = keep x_waits.before t (move_of l (answer.WaitSeat other seen) ∷ x_waits.more) (x_waits.after, x_waits.did, x_waits.lawful, x_waits.onward) other session y is in
-        let last : IsSession t other =
-        still_session v t other (opening_is tell go v t script answers run closed are)
-        (still_session x_waits.before v other (sym (before_opening i l (answer.WaitSeat other seen) at answered asks tt)) session) in
-        let begin = begin_of t other (lawful.numbered other last) (world.begun y.number y.begin) has in
+        let begin = begin_by t other (lawful.numbered other (last_session session)) y.number y.begin has in
         let same : begins other own.own.number ≡ y.begin = ap (λ (n : ℕ). begins other n) own.tells.snapshot.number_is ∙ begin in
         inr (own.own, own.is, omega (arith, most, same, ap (λ (w : Work). w.begin) current))
 
@@ -317,7 +331,7 @@ module _ (tell : ExecutionsTell) (go : ExecutionsGoOn) (keep : ExecutionsKeepBeg
         let over : f ∈ (x_unsafe.before.session other).over = subst (λ (s : Session). f ∈ s.over) (its.others other went.another) there in
         let p : Progress = progress_of other (take i said) in
         let tells = tells_at tell go keep v t run.opened lawful (take i said) l (answer.Unsafe other stamp) x_unsafe other session in
-        let found = told_one other p.over p.snapshots (x_unsafe.before.session other).over f tells.over (commits_stay own.stamp own.succ own.pred) over in
+        let found = told_one other p.over p.snapshots (x_unsafe.before.session other).over f tells.over (commits_stay f own.stamp own.succ own.pred refl) over in
         let begin = begin_at i l (answer.Unsafe other stamp) at answered asks tt in
         record {
           by = found.0;

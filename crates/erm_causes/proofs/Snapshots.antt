@@ -8,14 +8,14 @@ use Rattle.erm_report.specs.declared.answer.Answer.TheVariants as answer
 use Rattle.erm_script.specs.declared.script.Command.{Command}
 use Rattle.erm_script.specs.declared.script.Command.TheVariants as command
 use Rattle.erm_world.specs.Calls.{Becomes, DidAbort, IsDone}
-use Rattle.erm_world.specs.Safe.{DidBeginSafe, HasSnapshot, with_snapshot}
+use Rattle.erm_world.specs.Safe.{DidBeginSafe, HasSnapshot, with_snapshot, DidMark}
 use Rattle.erm_world.specs.Snapshots.{snapshot_not_active}
-use Rattle.erm_world.specs.World.{Session, Stand, View, Work, begun, phase_of, work_at, work_of}
+use Rattle.erm_world.specs.World.{Session, Stand, View, Work, begun, phase_of, work_at, work_of, marking}
 use Rattle.erm_world.specs.World as world
 use Rattle.erm_world.proofs.Saves.{becomes_then}
 use Rattle.erm_good_report.specs.Stamps.{begin_told}
 use Rattle.erm_good_report.specs.Transactions.{Aborts, Commits, Excludes, Progress, Transaction, heard, with_ending, with_line, with_seal}
-use Rattle.erm_lines.specs.Answers.{DidAskDurable, DidAskSafe, DidBeginAndAsk, DidOfSnapshot}
+use Rattle.erm_lines.specs.Answers.{DidAskDurable, DidAskSafe, DidBeginAndAsk, DidOfSnapshot, DidDecide}
 use Rattle.erm_lines.specs.Told.{TellsNow}
 use Rattle.erm_lines.proofs.Moved.{asked_still}
 use Rattle.erm_told.proofs.Sessions.{now_none, now_watching}
@@ -60,16 +60,17 @@ starts_watches v t seat a did =
     begun_watches v did.between t seat did.begin did.began
     (asked_watches did.between t seat a (record { number = length (v.session seat).over + 1; begin = did.begin; is_safe = false }, ap (λ (s : Session). s.stand) did.began.3.own) did.asked)
 
--- A LINE of a session that has one
-pub line_watches : (v t : View) (seat : ℕ) (c : Command) (a : Answer) → HasSnapshot v seat → DidOfSnapshot v seat c a t → Watches v seat t
-line_watches v t seat command.Safe a has did = asked_watches v t seat a has did
-line_watches v t seat (command.Get table key) (answer.Replied r) has did = looks did.same
-line_watches v t seat (command.Next table from) (answer.Replied r) has did = looks did.same
-line_watches v t seat (command.Scan table low high) (answer.Replied r) has did = looks did.same
-line_watches v t seat command.Commit answer.Ended has did = ended_bare v t seat has did
-line_watches v t seat command.Abort answer.Aborted has did = ended_bare v t seat has did
-line_watches v t seat command.Durable a has did = looks (asked_still v t seat a did)
-line_watches v t seat c a has did = absurd did
+-- A LINE of a session that has one, but for its mark
+pub line_watches : (v t : View) (seat : ℕ) (c : Command) (a : Answer) → HasSnapshot v seat → (c ≡ command.Mark → ⊥) → DidOfSnapshot v seat c a t → Watches v seat t
+line_watches v t seat command.Safe a has other did = asked_watches v t seat a has did
+line_watches v t seat (command.Get table key) (answer.Replied r) has other did = looks did.same
+line_watches v t seat (command.Next table from) (answer.Replied r) has other did = looks did.same
+line_watches v t seat (command.Scan table low high) (answer.Replied r) has other did = looks did.same
+line_watches v t seat command.Commit answer.Ended has other did = ended_bare v t seat has did
+line_watches v t seat command.Abort answer.Aborted has other did = ended_bare v t seat has did
+line_watches v t seat command.Durable a has other did = looks (asked_still v t seat a did)
+line_watches v t seat command.Mark a has other did = absurd (other refl)
+line_watches v t seat c a has other did = absurd did
 
 -- none of these begins a transaction
 asked_none : (v t : View) (seat : ℕ) (a : Answer) → DidAskSafe v seat a t → begin_told a ≡ None
@@ -87,6 +88,14 @@ durable_none v t seat (answer.NotFlushed flushed) did = refl
 durable_none v t seat answer.NoReceipt did = refl
 durable_none v t seat a did = absurd did
 
+decided_none : (v t : View) (seat : ℕ) (a : Answer) → DidDecide v seat a t → begin_told a ≡ None
+decided_none v t seat (answer.Committed stamp succ pred) did = refl
+decided_none v t seat (answer.Excluded stamp succ pred) did = refl
+decided_none v t seat (answer.Marked safe stamp) did = refl
+decided_none v t seat (answer.WaitSeat other seen) did = refl
+decided_none v t seat (answer.WaitRing flushed) did = refl
+decided_none v t seat a did = absurd did
+
 pub line_none : (v t : View) (seat : ℕ) (c : Command) (a : Answer) → DidOfSnapshot v seat c a t → begin_told a ≡ None
 line_none v t seat command.Safe a did = asked_none v t seat a did
 line_none v t seat (command.Get table key) (answer.Replied r) did = refl
@@ -95,6 +104,7 @@ line_none v t seat (command.Scan table low high) (answer.Replied r) did = refl
 line_none v t seat command.Commit answer.Ended did = refl
 line_none v t seat command.Abort answer.Aborted did = refl
 line_none v t seat command.Durable a did = durable_none v t seat a did
+line_none v t seat command.Mark a did = decided_none did.between t seat a did.decided
 line_none v t seat c a did = absurd did
 
 -- WHAT IS HEARD of a session without a transaction leaves it so, but for a begin.
@@ -114,6 +124,7 @@ pub leaves_none : (asked : Option Command) (a : Answer) → begin_told a ≡ Non
 leaves_none asked (answer.Began begin) never seat p none = absurd (cc)
 leaves_none asked (answer.Safe begin) never seat p none = (refl, none)
 leaves_none asked (answer.Unsafe other stamp) never seat p none = (over_none p.over (with_ending Aborts) p.current none, refl)
+leaves_none asked (answer.Marked safe stamp) never seat p none = (over_none p.over (with_ending Aborts) p.current none, refl)
 leaves_none asked answer.Ended never seat p none = (over_none p.over (with_ending Aborts) p.current none, refl)
 leaves_none asked (answer.Sealed stamp) never seat p none = (refl, now_lined (with_seal stamp) p.current none)
 leaves_none asked (answer.Committed stamp succ pred) never seat p none = (over_none p.over (with_ending (Commits stamp succ pred)) p.current none, refl)
@@ -130,6 +141,16 @@ leaves_none asked answer.NotSealed never seat p none = (refl, none)
 leaves_none asked answer.ReadOnly never seat p none = (refl, none)
 leaves_none asked answer.NotSafe never seat p none = (refl, none)
 leaves_none asked a never seat p none = (refl, now_lined (with_line asked a) p.current none)
+
+-- A MARK that is sealed is told as no transaction.
+pub marked_none : (seat : ℕ) (current : Option Transaction) (w : Work) (stamp : ℕ) → w.is_mark ≡ true → TellsNow seat current (world.sealed w stamp) → current ≡ None
+marked_none seat None w stamp marks tells = refl
+marked_none seat (Some t) w stamp marks tells = absurd (let plain = tells.1 in cc)
+
+pub mark_told : (v t : View) (seat stamp : ℕ) (current : Option Transaction) → DidMark v seat stamp t → TellsNow seat current (v.session seat).stand → TellsNow seat current (t.session seat).stand
+mark_told v t seat stamp current did tells =
+    let none = now_watching seat current did.snapshot (subst (λ (at : Stand). TellsNow seat current at) did.stands tells) in
+    subst (λ (s : Session). TellsNow seat current s.stand) (sym did.seals.own) (subst (λ (o : Option Transaction). TellsNow seat o (world.sealed (marking did.snapshot) stamp)) (sym none) refl)
 
 -- SUCH A SESSION is told to have no transaction, and has made nothing.
 pub none_told : (v : View) (seat : ℕ) (current : Option Transaction) → Starts v seat → TellsNow seat current (v.session seat).stand → current ≡ None

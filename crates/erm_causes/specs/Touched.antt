@@ -46,13 +46,28 @@ pub record TouchesOne (table : ℕ → ℕ) (h : History) (t : Transaction) (f :
   pub touches : Touches table t f.work
   pub closed : WasClosed h t.ending f.work
 
+-- it is a mark, which has done nothing
+abbrev pub IsBareMark : Work → Type 0
+IsBareMark w = w ≡ record (world.begun w.number w.begin) { is_mark = true }
+
+-- it was the mark of a safe snapshot
+pub record WasMark (f : Finished) : Type 0 where
+  pub bare : IsBareMark f.work
+  pub stamp : ℕ
+  pub safe : ℕ
+  pub ended : f.fate ≡ world.marked stamp safe
+
+-- what is told as no transaction, as a snapshot is: it was aborted, or is a mark
+abbrev pub IsUntold : Finished → Type 0
+IsUntold f = (f.fate ≡ world.aborts) ⊎ WasMark f
+
 -- What is over in the world is told, in turn, as the next transaction, which has its number, and this is so of the two; or it is told as none, as a
--- snapshot is, and was aborted.
+-- snapshot is.
 abbrev pub Together : (Transaction → Finished → Type 0) → List Transaction → List Finished → Type 0
 Together so ts [] = ts ≡ []
 Together so ts (f ∷ fs) =
     ((t : Transaction) × (us : List Transaction) × (ts ≡ t ∷ us) × (t.number ≡ f.work.number) × so t f × Together so us fs)
-    ⊎ ((f.fate ≡ world.aborts) × Together so ts fs)
+    ⊎ (IsUntold f × Together so ts fs)
 
 -- those that are over, in turn
 abbrev pub TouchesOver : (ℕ → ℕ) → History → List Transaction → List Finished → Type 0
@@ -62,6 +77,7 @@ TouchesOver table h ts fs = Together (TouchesOne table h) ts fs
 abbrev pub TouchesNow : (ℕ → ℕ) → Option Transaction → Stand → Type 0
 TouchesNow table None world.idle = Unit {0}
 TouchesNow table None (world.snapshot x) = Unit {0}
+TouchesNow table None (world.sealed w stamp) = IsBareMark w
 TouchesNow table (Some t) (world.active w) = Touches table t w
 TouchesNow table (Some t) (world.sealed w stamp) = Touches table t w
 TouchesNow table current stand = ⊥

@@ -222,7 +222,7 @@ pub record Marking (watched : Option Snapshot) (w : Work) : Type 0 where
   pub is : watched ≡ Some own
   pub tells : TellsMark own w
 
-marking_of : (watched : Option Snapshot) (w : Work) (stamp : ℕ) → w.is_mark ≡ true → TellsWatched watched (world.sealed w stamp) → Marking watched w
+pub marking_of : (watched : Option Snapshot) (w : Work) (stamp : ℕ) → w.is_mark ≡ true → TellsWatched watched (world.sealed w stamp) → Marking watched w
 marking_of None w stamp marks told = absurd (cc)
 marking_of (Some s) w stamp marks told = record { own = s; is = refl; tells = told }
 
