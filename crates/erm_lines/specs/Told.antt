@@ -50,11 +50,12 @@ abbrev pub fate_told : Option (ℕ × ℕ) → Fate
 fate_told None = world.aborts
 fate_told (Some mark) = world.marked mark.1 mark.0
 
--- one that is over: in the world it is a transaction that has done nothing, and was aborted, or a mark
+-- one that is over: in the world it is a transaction that has done nothing, and was aborted, or a mark, whose begin stamp is told
 pub record TellsEnded (s : Snapshot) (f : Finished) : Type 0 where
   pub snapshot : TellsSnapshot s f.work.number f.work.begin
   pub bare : f.work ≡ record (world.begun f.work.number f.work.begin) { is_mark = is_some s.mark }
   pub ended : f.fate ≡ fate_told s.mark
+  pub known : is_some s.mark ≡ true → is_some s.begin ≡ true
 
 -- What is over in the world is told, in turn, as the next transaction or as the next snapshot.
 abbrev pub TellsOver : ℕ → List Transaction → List Snapshot → List Finished → Type 0
