@@ -1,6 +1,6 @@
 //! What a session's phase gives to a command.
 ghost use Rattle.std.specs.Prelude.{◌≡◌, Some};
-ghost use Rattle.erm_good_report.specs.Phases.{NeedsAny, NeedsIdle, NeedsReader, NeedsSealed, NeedsSnapshot, NeedsWriter, refusal_for, refusal_of};
+ghost use Rattle.erm_good_report.specs.Phases.{NeedsAny, NeedsIdle, NeedsReader, NeedsSafe, NeedsSealed, NeedsSnapshot, NeedsWriter, refusal_for, refusal_of};
 ghost use Rattle.erm_lines.specs.Whole.{is_snapshot};
 
 use erm_model::Phase;
@@ -98,6 +98,19 @@ fn refusal_to_abort(phase: Phase) -> Option<Answer>
     }
 }
 
+// The refusal of one that marks a safe snapshot.
+fn refusal_to_mark(phase: Phase) -> Option<Answer>
+    ensures { result ≡ refusal_for (Some NeedsSafe) phase }
+{
+    match phase {
+        Phase::Idle => Some(Answer::NoTransaction),
+        Phase::Active => Some(Answer::NotSafe),
+        Phase::Sealed => Some(Answer::IsSealed),
+        Phase::Pending => Some(Answer::NotSafe),
+        Phase::Safe => None,
+    }
+}
+
 /// The refusal that a session's phase gives to a command, where it refuses it.
 pub fn refusal_of(phase: Phase, command: &Command) -> Option<Answer>
     ensures { result ≡ refusal_of phase command.now }
@@ -117,6 +130,7 @@ pub fn refusal_of(phase: Phase, command: &Command) -> Option<Answer>
         Command::Settle => refusal_to_settle(phase),
         Command::Commit => refusal_to_read(phase),
         Command::Abort => refusal_to_abort(phase),
+        Command::Mark => refusal_to_mark(phase),
         Command::Durable => None,
         Command::Flush => None,
         Command::Checkpoint => None,

@@ -53,21 +53,21 @@ ended_at seat ts ss (f ∷ fs) s (inr (r, more, is, one, rest)) m =
     (∈-cons s r more (subst (λ (list : List Snapshot). s ∈ list) is m))
 
 -- what stands in joined lists stands in one of them
-∈-flat_map : {X Y : Type 0} (f : X → List Y) (xs : List X) (y : Y) → y ∈ flat_map f xs → (x : X) × (x ∈ xs) × (y ∈ f x)
+pub ∈-flat_map : {X Y : Type 0} (f : X → List Y) (xs : List X) (y : Y) → y ∈ flat_map f xs → (x : X) × (x ∈ xs) × (y ∈ f x)
 ∈-flat_map f [] y m = absurd (none_in_nil y m)
 ∈-flat_map {X} {Y} f (x ∷ xs) y m =
     ⊎_elim (λ (here : y ∈ f x). (x, ∈-head x xs, here))
     (λ (later : y ∈ flat_map f xs). let found = ∈-flat_map f xs y later in (found.0, ∈-behind x xs found.0 found.1, found.2))
     (∈-either (f x) (flat_map f xs) y m)
 
-pairs_both : {X : Type 0} (R : X → X → Type 0) (xs ys : List X) → Pairs R xs → Pairs R ys → ((x y : X) → x ∈ xs → y ∈ ys → R x y) → Pairs R (xs ++ ys)
+pub pairs_both : {X : Type 0} (R : X → X → Type 0) (xs ys : List X) → Pairs R xs → Pairs R ys → ((x y : X) → x ∈ xs → y ∈ ys → R x y) → Pairs R (xs ++ ys)
 pairs_both R [] ys first second cross = second
 pairs_both {X} R (x ∷ xs) ys first second cross = (
   λ y m. ⊎_elim (λ (here : y ∈ xs). first.0 y here) (λ (there : y ∈ ys). cross x y (∈-head x xs) there) (∈-either xs ys y m),
   pairs_both R xs ys first.1 second (λ a b m n. cross a b (∈-behind x xs a m) n),
 )
 
-pairs_flat : {X Y : Type 0} (f : X → List Y) (R : Y → Y → Type 0) (xs : List X) → ((x : X) → x ∈ xs → Pairs R (f x))
+pub pairs_flat : {X Y : Type 0} (f : X → List Y) (R : Y → Y → Type 0) (xs : List X) → ((x : X) → x ∈ xs → Pairs R (f x))
     → Pairs (λ x y. (a b : Y) → a ∈ f x → b ∈ f y → R a b) xs → Pairs R (flat_map f xs)
 pairs_flat f R [] each cross = tt
 pairs_flat f R (x ∷ xs) each cross =
