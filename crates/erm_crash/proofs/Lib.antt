@@ -5,3 +5,8 @@ pub mod Flushed
 pub mod Saved
 pub mod Since
 pub mod Stays
+pub mod Commits
+pub mod Longer
+pub mod Older
+pub mod Places
+pub mod Shipped

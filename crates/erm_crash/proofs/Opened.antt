@@ -35,7 +35,7 @@ is_block at run low less = record {
 }
 
 module _ (sound : Rows → Type 0) where
-  at_opening : (state : State) (pair : Pair) (old new now : List Step) → IsSettled old → RecoversTo sound state pair (contents old) → sound state.rows → state.at < STOP → state.run < LAST_RUN
+  pub at_opening : (state : State) (pair : Pair) (old new now : List Step) → IsSettled old → RecoversTo sound state pair (contents old) → sound state.rows → state.at < STOP → state.run < LAST_RUN
       → (opens : Opens sound state pair old new) (m : IsMoment old new now) (before : List Step) → m.before ≡ before → (image : Image) → IsImage now image → TearsApart sound now image
       → RecoversTo sound state pair image ⊎ RecoversTo sound (opened state) pair image
   at_opening state pair old new now settled there meets low less opens m [] none image is tears =

@@ -40,14 +40,14 @@ grown step steps same =
 
 module _ (sound : Rows → Type 0) (respects : (a b : Rows) → SameRows a b → sound a ↔ sound b) where
   -- an image recovers to a state and meets such blocks, and what is pending is what the next opening waits for
-  record Stopped (Q : State → List Block → Type 0) (state : State) (now : List Step) (image : Image) : Type 0 where
+  pub record Stopped (Q : State → List Block → Type 0) (state : State) (now : List Step) (image : Image) : Type 0 where
     pub pair : Pair
     pub there : RecoversTo sound state pair image
     pub meets : Q (base pair) there.blocks
     pub stops : MayStop (base pair).at state.at now
 
   -- so it is where a crash tears the disk so
-  abbrev Torn : (State → List Block → Type 0) → State → List Step → Image → Type 0
+  abbrev pub Torn : (State → List Block → Type 0) → State → List Step → Image → Type 0
   Torn Q state now image = TearsApart sound now image → Stopped Q state now image
 
   -- from the slots that it shows
@@ -125,14 +125,14 @@ module _ (sound : Rows → Type 0) (respects : (a b : Rows) → SameRows a b →
         (λ image is tears. (put pair c, settled_image (RecoversMeeting sound Q state (put pair c)) (slot_written (other_file pair) bytes mid) image s.0.settled is (s.0.there, s.1))))
 
     -- and nothing of the log is pending meanwhile
-    part_keeps : (new : List Step) → WritesPart (other_file pair) bytes mid new → AtMoments (Torn Q state) mid new
+    pub part_keeps : (new : List Step) → WritesPart (other_file pair) bytes mid new → AtMoments (Torn Q state) mid new
     part_keeps new writes = still_torn Q state mid new (part_back new writes) (part_still pair bytes mid new (λ n. may.settled (Segment n)) writes)
 
     slot_keeps : AtMoments (Torn Q state) mid (slot_written (other_file pair) bytes mid)
     slot_keeps = still_torn Q state mid (slot_written (other_file pair) bytes mid) slot_back (moments_still pair bytes mid (λ n. may.settled (Segment n)))
 
     -- and segments were removed
-    all_keeps : (first end : ℕ) (new : List Step) → end ≤ (base (put pair c)).at / SEGMENT_WORDS
+    pub all_keeps : (first end : ℕ) (new : List Step) → end ≤ (base (put pair c)).at / SEGMENT_WORDS
         → RemovesPart first end (slot_written (other_file pair) bytes mid) new ⊎ RemovesAll first end (slot_written (other_file pair) bytes mid) new → AtMoments (Torn Q state) mid new
     all_keeps first end new low removes =
         let wrote : List Step = slot_written (other_file pair) bytes mid in

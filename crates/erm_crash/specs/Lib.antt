@@ -1,3 +1,5 @@
 pub mod Kept
 pub mod Moments
+pub mod Older
+pub mod Shipped
 pub mod Stops

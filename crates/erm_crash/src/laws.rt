@@ -10,7 +10,7 @@ ghost use Rattle.erm_world.specs.World.{View};
 ghost use Rattle.erm_ckpt.specs.declared.slot.Slot.{Slot as DiskSlot};
 ghost use Rattle.erm_ckpt.specs.declared.slot.Slots.{Slots as DiskSlots};
 ghost use Rattle.erm_ckpt.specs.declared.slot.TheConstants.{LOG_START};
-ghost use Rattle.erm_ckpt.specs.Recovered.{Pair, RecoversAt, State, best, slots_of};
+ghost use Rattle.erm_ckpt.specs.Recovered.{Pair, Recovers, RecoversAt, State, best, slots_of};
 ghost use Rattle.erm_ckpt.specs.States.{HoldsAll, RecoversTo};
 ghost use Rattle.erm_checkpoint.specs.Taken.{GoesOnTo, HoldsLog, SavesLogPast, Takes, slot_at_end, state_at};
 ghost use Rattle.erm_log_words.specs.Kept.{MayOpen};
@@ -18,6 +18,8 @@ ghost use Rattle.erm_log_words.specs.Words.{word_at};
 ghost use Rattle.erm_outside.specs.Disk.{Image, IsSettled, Step, contents};
 ghost use Rattle.erm_recover.specs.Opening.{Opens, opened};
 ghost use Rattle.erm_crash.specs.Kept.{IsJustOpened, KeepsBlocks, KeepsOpening, KeepsSince, LeavesLog};
+ghost use Rattle.erm_crash.specs.Older.{KeepsFound, KeepsOlder, MeetsOlder};
+ghost use Rattle.erm_crash.specs.Shipped.{GoesOnShipped, IsShipped};
 
 use erm_model::RowLaw;
 use erm_record::stored_words_tell_the_row;
@@ -104,6 +106,53 @@ pub fn kept_logs_go_on<L: RowLaw>()
         → now.opened ≡ before.opened → ((rest : List Block) × (now.gathered ≡ before.gathered ++ rest)) → now.flushed ≡ gathered_to now
         → KeepsBlocks L.law.meets (state_at now []) now.gathered before.flushed mid new
         → KeepsSince L.law.meets place now later old new }
+{}
+
+/// While a log is opened, recovery begins in each image where it began, and meets the blocks found, or these and the one that opens the log.
+pub fn openings_meet_the_blocks_found<L: RowLaw>()
+    ensures { (state : State) (pair : Pair) (found : List Block) (old new : List Step) → IsSettled old → RecoversTo L.law.meets state pair (contents old)
+        → Recovers L.law.meets (contents old) pair found → L.law.meets state.rows → state.at < STOP → state.run < LAST_RUN → Opens L.law.meets state pair old new
+        → KeepsFound L.law.meets state pair found old new }
+{}
+
+/// While a log is flushed, recovery meets in each image, of the blocks below a place that was flushed before, just those of the disk that it doesn't pass.
+pub fn flushes_keep_older_blocks<L: RowLaw>()
+    ensures { (before now : Log) (slots : DiskSlots) (found : List Block) (place : ℕ) (old new : List Step) → HoldsLog L.law.meets before slots old
+        → place ≤ before.flushed → MeetsOlder L.law.meets place found (contents old) → WritesFrom L.law.meets before.flushed now old new
+        → KeepsOlder L.law.meets place found old new }
+{}
+
+/// The same while a checkpoint is taken, of the blocks below the log's start.
+pub fn checkpoints_keep_older_blocks<L: RowLaw>()
+    ensures { (before now : Log) (slots : DiskSlots) (run : ℕ) (found : List Block) (place : ℕ) (old new : List Step) → HoldsLog L.law.meets before slots old
+        → place ≤ before.flushed → place ≤ now.opened.at → MeetsOlder L.law.meets place found (contents old)
+        → Takes L.law.meets before.flushed now slots (slot_at_end now run slots) old new → KeepsOlder L.law.meets place found old new }
+{
+    L::respects_rows();
+    stored_words_tell_the_row();
+}
+
+/// The same while a checkpoint is saved of a log that is flushed up to its place or past it.
+pub fn checkpoints_below_keep_older_blocks<L: RowLaw>()
+    ensures { (log : Log) (slots : DiskSlots) (slot : DiskSlot) (found : List Block) (place : ℕ) (old new : List Step) → IsLog L.law.meets log
+        → place ≤ log.opened.at → MeetsOlder L.law.meets place found (contents old) → SavesLogPast L.law.meets log slots slot old new
+        → KeepsOlder L.law.meets place found old new }
+{
+    L::respects_rows();
+    stored_words_tell_the_row();
+}
+
+/// What is so of these blocks at each moment from one list of steps to a second, and at each from there to a third, is so from the first to the third.
+pub fn older_blocks_go_on<L: RowLaw>()
+    ensures { (found : List Block) (place : ℕ) (a b c : List Step) → KeepsOlder L.law.meets place found a b → KeepsOlder L.law.meets place found b c
+        → KeepsOlder L.law.meets place found a c }
+{}
+
+/// A log that goes on behind one that keeps what its safe stamps promise keeps it too, where its own commits stay behind the place, and keep what it
+/// promises itself.
+pub fn logs_stay_shipped<L: RowLaw>()
+    ensures { (image : Image) (pair : Pair) (found blocks : List Block) (place : ℕ) → Recovers L.law.meets image pair blocks → IsShipped found
+        → GoesOnShipped found place blocks → IsShipped blocks }
 {}
 
 /// What recovers to a state may be opened: so may each image at each moment of which the other laws speak.

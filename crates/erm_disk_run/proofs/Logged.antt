@@ -19,7 +19,7 @@ use Rattle.erm_told_audit.proofs.Audits.{none_tell}
 use Rattle.erm_told_audit.proofs.Fronts.{front_tells}
 use Rattle.erm_told_crash.specs.Logged.{HasCommits}
 use Rattle.erm_told_log.proofs.Images.{image_meets}
-use Rattle.erm_told_log.proofs.Places.{met_within}
+use Rattle.erm_crash.proofs.Places.{met_within}
 use Rattle.erm_world.specs.Log.{IsLog, Log, place_behind}
 use Rattle.erm_disk_run.specs.Crashes.{KeepsTold, TellsCommits}
 

@@ -26,7 +26,7 @@ use Rattle.erm_node.specs.Sound.{sound_law}
 use Rattle.erm_world.specs.Log.{IsLog, Log, gathered_to}
 use Rattle.erm_world.proofs.Lists.{∈-after, ∈-before, ∈-parts}
 use Rattle.erm_told_log.specs.Tail.{MeetsRun, MeetsTail}
-use Rattle.erm_told_log.proofs.Places.{met_within}
+use Rattle.erm_crash.proofs.Places.{met_within}
 use Rattle.erm_told_crash.specs.Logged.{HasCommits}
 use Rattle.erm_told_audit.specs.Audits.{AuditTells}
 use Rattle.erm_told_audit.proofs.Audits.{audit_from}

@@ -18,7 +18,8 @@ use Rattle.erm_checkpoint.specs.Taken.{state_at}
 use Rattle.erm_world.specs.Log.{IsLog, Log, place_behind}
 use Rattle.erm_world.proofs.Lists.{∈-after}
 use Rattle.erm_told_log.specs.Tail.{BeginBelow, BeginFrom, MeetsRun, log_to}
-use Rattle.erm_told_log.proofs.Places.{Within, log_within, met_within, stand_within}
+use Rattle.erm_crash.proofs.Places.{Within, met_within, stand_within}
+use Rattle.erm_told_log.proofs.Places.{log_within}
 
 module _ (sound : Rows → Type 0) (log : Log) (place : ℕ) (image : Image) (is : IsLog sound log) (past : RecoversPast sound (state_at log []) log.gathered place image) where
   abbrev m : MeetsLast (state_at log []) past.front (base past.pair) past.there.blocks

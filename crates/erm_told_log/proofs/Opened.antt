@@ -4,16 +4,11 @@ use Rattle.erm_model.specs.Member.{◌∈◌}
 use Rattle.erm_model.specs.Rows.{Rows}
 use Rattle.erm_model.proofs.Members.{none_in_nil}
 use Rattle.erm_record.proofs.StoredRows.{stored_length-le, stored_whole}
-use Rattle.erm_block.specs.Block.{Entry, KeepsRulesOf}
 use Rattle.erm_block.specs.declared.block.Block.{Block}
-use Rattle.erm_block.specs.declared.block.Kind.{Kind}
-use Rattle.erm_block.specs.declared.block.Kind.TheVariants.{OldCommit, OldSkip, Open, Commit, Skip, Mark}
-use Rattle.erm_block.specs.LogList.{Continues, End, IsChain, IsLogList, end_after, end_of}
+use Rattle.erm_block.specs.LogList.{End, IsChain, IsLogList, end_of}
 use Rattle.erm_block.specs.Spelling.{spelling}
 use Rattle.erm_block.proofs.OneLogList.{same_log_list}
-use Rattle.erm_block.proofs.OneSpelling.{same_from_spelling}
-use Rattle.erm_block.proofs.Reading.{same_block}
-use Rattle.erm_log_disk.proofs.Chains.{moves, places_grow}
+use Rattle.erm_log_disk.proofs.Chains.{moves}
 use Rattle.erm_log_disk.proofs.Trail.{images_spare}
 use Rattle.erm_log_words.specs.Words.{Spares, word_at}
 use Rattle.erm_outside.specs.Disk.{IsImage, IsSettled, Step, changes_of, contents}
@@ -26,52 +21,17 @@ use Rattle.erm_ckpt.proofs.OneRecovery.{same_recovery}
 use Rattle.erm_checkpoint.specs.Taken.{HoldsLog}
 use Rattle.erm_recover.specs.Opening.{Opens, open_block, opened}
 use Rattle.erm_crash.specs.Kept.{IsJustOpened}
+use Rattle.erm_crash.proofs.Longer.{longer, only_open}
 use Rattle.erm_crash.proofs.Opened.{opened_holds}
+use Rattle.erm_crash.proofs.Places.{met_within}
 use Rattle.erm_world.specs.Log.{Log}
 use Rattle.erm_told_log.specs.Tail.{MeetsTail}
-use Rattle.erm_told_log.proofs.Places.{met_within, size_low}
-
--- a block of the next run opens it
-opens_run : (kind : Kind) (b : Block) (at run : ℕ) → b.kind ≡ kind → KeepsRulesOf kind b run → b.stamp ≡ at → b.run ≡ run + 1 → b ≡ open_block at run
-opens_run OldCommit b at run is rules stamp later = absurd (omega (arith, rules.run, later))
-opens_run OldSkip b at run is rules stamp later = absurd (omega (arith, rules.run, later))
-opens_run Open b at run is rules stamp later =
-    same_block b.kind b.run b.stamp b.succ b.seat b.number b.n b.size b.rows (open_block at run) is later stamp rules.no_succ rules.no_seat rules.no_number rules.no_count rules.size
-    (ap (λ (items : List Entry). record b.rows { items = items }) rules.no_rows)
-opens_run Commit b at run is rules stamp later = absurd (omega (arith, rules.run, later))
-opens_run Skip b at run is rules stamp later = absurd (omega (arith, rules.run, later))
-opens_run Mark b at run is rules stamp later = absurd (omega (arith, rules.run, later))
 
 first_of_none : (xs ys : List Block) → [] ≡ xs ++ ys → xs ≡ []
 first_of_none [] ys none = refl
 first_of_none (x ∷ xs) ys none = absurd (cc)
 
 module _ (sound : Rows → Type 0) where
-  -- blocks of so few words, behind which is the next run, are the one that opens it
-  only_open : (end : End) (blocks : List Block) → IsChain sound end blocks → (end_of end blocks).at ≡ end.at + 5 → (end_of end blocks).run ≡ end.run + 1 → blocks ≡ open_block end.at end.run ∷ []
-  only_open end [] chain at run = absurd (omega (arith, run))
-  only_open end (b ∷ []) (first, chain) at run =
-      ap (λ (x : Block). x ∷ []) (opens_run b.kind b end.at end.run refl first.stands.is.rules first.stands.is.stamp run)
-  only_open end (b ∷ c ∷ blocks) (first, (second, chain)) at run =
-      let one = size_low b end.at end.run first.stands.is in
-      let other = size_low c (end.at + b.size) b.run second.stands.is in
-      absurd (omega (arith, at, one, other, places_grow (end_after c (end_after b end)) blocks))
-
-  one_next : (end : End) (a b : Block) → Continues sound end a → Continues sound end b → a ≡ b
-  one_next end a b one other =
-      same_from_spelling stored_length-le stored_whole a b end.at end.run end.at end.run one.stands.spelled.0 other.stands.spelled.0 one.stands.is other.stands.is
-      (sym one.stands.spelled.1 ∙ other.stands.spelled.1)
-
-  -- the log list begins with each chain
-  longer : (end : End) (xs ys : List Block) → IsChain sound end xs → IsLogList sound end ys → (zs : List Block) × (ys ≡ xs ++ zs)
-  longer end [] ys chain list = (ys, refl)
-  longer end (x ∷ xs) [] chain list = absurd (omega (arith, list.longest (x ∷ xs) chain))
-  longer end (x ∷ xs) (y ∷ ys) (first, chain) list =
-      let same : y ≡ x = one_next end y x list.chain.0 first in
-      let moved : IsLogList sound end (x ∷ ys) = subst (λ (b : Block). IsLogList sound end (b ∷ ys)) same list in
-      let rest = longer (end_after x end) xs ys chain (record { chain = moved.chain.1; longest = λ others other. omega (arith, moved.longest (x ∷ others) (first, other)) }) in
-      (rest.0, ap (λ (b : Block). b ∷ ys) same ∙ ap (λ (bs : List Block). x ∷ bs) rest.1)
-
   module _ (state : State) (pair : Pair) (blocks : List Block) (log : Log) (old new : List Step) (settled : IsSettled old) (recovers : Recovers sound (contents old) pair blocks)
       (same : SameState (state_behind (base pair) blocks) state) (opens : Opens sound state pair old new) (just : IsJustOpened state log) (holds : HoldsAll sound (opened state) pair new)
       (begins : best pair ≡ None → (word : ℕ) × (word_at (contents new) LOG_START ≡ Some word)) where
@@ -109,7 +69,7 @@ module _ (sound : Rows → Type 0) where
         (subst (λ (n : ℕ). Spares n (state.at + length words) (contents old) (contents new)) (sym place) spares) recovers.list.chain
 
     long : (more : List Block) × (holds.there.blocks ≡ blocks ++ more)
-    long = longer (end_at (contents new) from) blocks holds.there.blocks chain holds.there.recovers.list
+    long = longer sound (end_at (contents new) from) blocks holds.there.blocks chain holds.there.recovers.list
 
     list : IsLogList sound (end_at (contents new) here) long.0
     list = list_behind sound (contents new) from blocks long.0 (subst (IsLogList sound (end_at (contents new) from)) long.1 holds.there.recovers.list)
@@ -125,7 +85,7 @@ module _ (sound : Rows → Type 0) where
 
     met : holds.there.blocks ≡ blocks ++ open_block state.at state.run ∷ []
     met = long.1 ∙ ap (λ (bs : List Block). blocks ++ bs)
-        (only_open (end_at (contents new) here) long.0 list.chain last next
+        (only_open sound (end_at (contents new) here) long.0 list.chain last next
         ∙ ap (λ (n : ℕ). open_block n here.run ∷ []) same.at ∙ ap (λ (n : ℕ). open_block state.at n ∷ []) same.run)
 
     pub opened_meets : MeetsTail sound (blocks ++ open_block state.at state.run ∷ []) log (slots_of pair) new

@@ -19,7 +19,8 @@ use Rattle.erm_checkpoint.proofs.Taken.{end_state, place_is, stands_from}
 use Rattle.erm_world.specs.Log.{IsLog, Log, gathered_to, place_behind}
 use Rattle.erm_world.proofs.Lists.{∈-after, ∈-before, ∈-parts}
 use Rattle.erm_told_log.specs.Tail.{BeginFrom, MeetsRun, MeetsTail}
-use Rattle.erm_told_log.proofs.Places.{log_within, met_within}
+use Rattle.erm_crash.proofs.Places.{met_within}
+use Rattle.erm_told_log.proofs.Places.{log_within}
 
 -- two lists that are joined to the same: the first of the one ends within that of the other
 abbrev EndsIn : List Block → List Block → List Block → List Block → Type 0
