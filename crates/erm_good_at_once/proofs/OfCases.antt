@@ -110,7 +110,7 @@ marks = record {
   differ = λ i j d less within. absurd (omega arith);
   causes = λ i l a s at answered is. each_place
       (λ i l a. (s : Snapshot) → (progress_of l.session (take i (said_of part (answer.NoTransaction ∷ [])))).snapshot ≡ Some s
-          → HasMarkCause (moment_in first_opening script_with_gap part (answer.NoTransaction ∷ []) [] i l) [] s l.command a)
+      → HasMarkCause (moment_in first_opening script_with_gap part (answer.NoTransaction ∷ []) [] i l) [] s l.command a)
       part (answer.NoTransaction ∷ []) ((λ s is. tt), tt) i l a at answered s is;
   stops = λ i place l a at answered is. each_place
       (λ i l a. (place : ℕ) → stop_told a ≡ Some place → StopsAtMarks (moment_in first_opening script_with_gap part (answer.NoTransaction ∷ []) [] i l) [] place)
