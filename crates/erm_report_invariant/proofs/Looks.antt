@@ -20,9 +20,8 @@ use Rattle.erm_script.specs.declared.script.Command.{Command}
 use Rattle.erm_script.specs.declared.script.Command.TheVariants as command
 use Rattle.erm_script.specs.declared.script.ScriptLine.{ScriptLine}
 use Rattle.erm_good_report.specs.GoodReport.{places_of, serial_of}
-use Rattle.erm_good_report.specs.Phases.{Closed, Closes, FitsPhase, FitsSnapshot, HasNoSnapshot, IsAnswerTo, NeedsWriter, PhasesAgree, phase_after, phase_after_wait, phase_of, refusal_for, refusal_of}
-use Rattle.erm_good_report.specs.Stamps.{IsWait}
-use Rattle.erm_good_report.specs.Transactions.{Progress, Said, Snapshot, ended_as, ended_of, exchange_of, heard, history_of, looks_of, next_number, nothing, op_of, own_snapshot, placed_at, progress_of, reply_in, said_of, snapshot_after, step_of, transactions_of, with_begin, with_end, with_look, works_on_map}
+use Rattle.erm_good_report.specs.Phases.{Closed, Closes, FitsPhase, FitsSnapshot, IsAnswerTo, NeedsWriter, PhasesAgree, phase_after, phase_after_wait, phase_of, refusal_for, refusal_of}
+use Rattle.erm_good_report.specs.Transactions.{Progress, Said, Snapshot, ended_as, ended_of, exchange_of, heard, history_of, looks_of, next_number, nothing, op_of, own_snapshot, placed_at, progress_of, reply_in, said_of, snapshot_after, step_of, transactions_of, with_begin, with_end, with_look, with_mark, works_on_map}
 use Rattle.erm_good_report.proofs.InReach.{either_part}
 use Rattle.erm_good_report.proofs.Phases.{answers_so}
 use Rattle.erm_invariant.specs.Commits.{AllKeep}
@@ -64,15 +63,23 @@ untold (Some op) (Some reply) none = absurd (let no : None ≡ Some reply = sym 
 quiet : (c : Command) (a : Answer) → reply_in a ≡ None → All Reads (added (Some c) a)
 quiet c a none = one_line c a (works_on_map c) (untold (op_of c) (reply_in a) none)
 
+-- in these phases a session has no snapshot; in another one it may have one, sealed with its mark too
+abbrev IsUnwatched : Phase → Type 0
+IsUnwatched Idle = Unit {0}
+IsUnwatched Active = Unit {0}
+IsUnwatched Sealed = ⊥
+IsUnwatched Pending = ⊥
+IsUnwatched Safe = ⊥
+
 -- one that is replied to is a look, or there is no snapshot
-writes_plain : (phase : Phase) → refusal_for (Some NeedsWriter) phase ≡ None → HasNoSnapshot phase
+writes_plain : (phase : Phase) → refusal_for (Some NeedsWriter) phase ≡ None → IsUnwatched phase
 writes_plain Idle free = tt
 writes_plain Active free = tt
-writes_plain Sealed free = tt
+writes_plain Sealed free = absurd (cc)
 writes_plain Pending free = absurd (cc)
 writes_plain Safe free = absurd (cc)
 
-replied : (c : Command) (r : Reply) (phase : Phase) → IsAnswerTo c (answer.Replied r) → refusal_of phase c ≡ None → HasNoSnapshot phase ⊎ All Reads (added (Some c) (answer.Replied r))
+replied : (c : Command) (r : Reply) (phase : Phase) → IsAnswerTo c (answer.Replied r) → refusal_of phase c ≡ None → IsUnwatched phase ⊎ All Reads (added (Some c) (answer.Replied r))
 replied (command.Get table key) r phase is free = inr (one_line (command.Get table key) (answer.Replied r) true tt)
 replied (command.Next table from) r phase is free = inr (one_line (command.Next table from) (answer.Replied r) true tt)
 replied (command.Scan table low high) r phase is free = inr (one_line (command.Scan table low high) (answer.Replied r) true tt)
@@ -93,7 +100,7 @@ went_back c told is = absurd is
 record Holds (phase : Phase) (past : List Snapshot) (own : Option Snapshot) : Type 0 where
   over : (s : Snapshot) → s ∈ past → OnlyReads s
   now : (s : Snapshot) → own ≡ Some s → OnlyReads s
-  none : HasNoSnapshot phase → own ≡ None
+  none : IsUnwatched phase → own ≡ None
 
 none_now : (s : Snapshot) → None ≡ Some s → OnlyReads s
 none_now s is = absurd (let no : None ≡ Some s = is in cc)
@@ -128,7 +135,7 @@ quits : (over : List Snapshot) (now : Option Snapshot) → ((s : Snapshot) → s
 quits over now was last = record { over = all_over over now was last; now = none_now; none = λ plain. refl }
 
 -- it goes on, in whichever phase, if there is none in one without
-goes : (phase later : Phase) (asked : Option Command) (a : Answer) (over : List Snapshot) (now : Option Snapshot) → All Reads (added asked a) → (HasNoSnapshot later → HasNoSnapshot phase) → Holds phase over now
+goes : (phase later : Phase) (asked : Option Command) (a : Answer) (over : List Snapshot) (now : Option Snapshot) → All Reads (added asked a) → (IsUnwatched later → IsUnwatched phase) → Holds phase over now
     → Holds later over (option_map (with_look asked a) now)
 goes phase later asked a over now more plain h = record {
   over = h.over;
@@ -137,43 +144,35 @@ goes phase later asked a over now more plain h = record {
 }
 
 -- or there is none
-absent : (phase : Phase) (asked : Option Command) (a : Answer) (over : List Snapshot) (now : Option Snapshot) → HasNoSnapshot phase → Holds phase over now → Holds phase over (option_map (with_look asked a) now)
+absent : (phase : Phase) (asked : Option Command) (a : Answer) (over : List Snapshot) (now : Option Snapshot) → IsUnwatched phase → Holds phase over now → Holds phase over (option_map (with_look asked a) now)
 absent phase asked a over now plain h =
     let none : option_map (with_look asked a) now ≡ None = ap (option_map (with_look asked a)) (h.none plain) in
     record { over = h.over; now = λ s is. none_now s (sym none ∙ is); none = λ so. none }
 
-begins_plain : (c : Command) (begin : ℕ) (phase : Phase) → IsAnswerTo c (answer.Began begin) → refusal_of phase c ≡ None → HasNoSnapshot phase
+begins_plain : (c : Command) (begin : ℕ) (phase : Phase) → IsAnswerTo c (answer.Began begin) → refusal_of phase c ≡ None → IsUnwatched phase
 begins_plain command.Begin begin Idle is free = tt
-begins_plain command.Begin begin Active is free = tt
-begins_plain command.Begin begin Sealed is free = tt
+begins_plain command.Begin begin Active is free = absurd (cc)
+begins_plain command.Begin begin Sealed is free = absurd (cc)
 begins_plain command.Begin begin Pending is free = absurd (cc)
 begins_plain command.Begin begin Safe is free = absurd (cc)
 begins_plain c begin phase is free = absurd is
-
-seals_plain : (c : Command) (stamp : ℕ) (phase : Phase) → IsAnswerTo c (answer.Sealed stamp) → refusal_of phase c ≡ None → HasNoSnapshot phase
-seals_plain command.Seal stamp phase is free = writes_plain phase free
-seals_plain c stamp phase is free = absurd is
-
--- a commit that waits is one of a transaction
-waits_plain : (a : Answer) (phase : Phase) → IsWait a → FitsPhase phase command.Commit a → FitsSnapshot phase command.Commit a → HasNoSnapshot phase
-waits_plain a Idle is fits looks = tt
-waits_plain a Active is fits looks = tt
-waits_plain a Sealed is fits looks = tt
-waits_plain a Pending is fits looks = absurd (subst IsWait fits is)
-waits_plain a Safe is fits looks = absurd (subst IsWait looks is)
 
 -- where a `safe` waits its snapshot is pending
 waits : (c : Command) (seat seen : ℕ) (phase : Phase) (p : Progress) → FitsPhase phase c (answer.WaitSeat seat seen) → FitsSnapshot phase c (answer.WaitSeat seat seen) → Holds phase p.snapshots p.snapshot
     → Holds (phase_after_wait (Some c) phase) p.snapshots (snapshot_after (answer.WaitSeat seat seen) (Some c) p)
 waits command.Commit seat seen phase p fits looks h =
-    goes phase Sealed (Some command.Commit) (answer.WaitSeat seat seen) p.snapshots p.snapshot (quiet command.Commit (answer.WaitSeat seat seen) refl) (λ none. waits_plain (answer.WaitSeat seat seen) phase tt fits looks) h
+    goes phase Sealed (Some command.Commit) (answer.WaitSeat seat seen) p.snapshots p.snapshot (quiet command.Commit (answer.WaitSeat seat seen) refl) (λ none. absurd none) h
+waits command.Mark seat seen phase p fits looks h =
+    goes phase Sealed (Some command.Mark) (answer.WaitSeat seat seen) p.snapshots p.snapshot (quiet command.Mark (answer.WaitSeat seat seen) refl) (λ none. absurd none) h
 waits command.Safe seat seen phase p fits looks h = record { over = h.over; now = own_now p (λ s. s) (λ s reads. reads) h.now; none = λ none. absurd none }
 waits c seat seen phase p fits looks h = goes phase phase (Some c) (answer.WaitSeat seat seen) p.snapshots p.snapshot (quiet c (answer.WaitSeat seat seen) refl) (λ none. none) h
 
 waits_ring : (c : Command) (flushed : ℕ) (phase : Phase) (p : Progress) → FitsPhase phase c (answer.WaitRing flushed) → FitsSnapshot phase c (answer.WaitRing flushed) → Holds phase p.snapshots p.snapshot
     → Holds (phase_after_wait (Some c) phase) p.snapshots (option_map (with_look (Some c) (answer.WaitRing flushed)) p.snapshot)
 waits_ring command.Commit flushed phase p fits looks h =
-    goes phase Sealed (Some command.Commit) (answer.WaitRing flushed) p.snapshots p.snapshot (quiet command.Commit (answer.WaitRing flushed) refl) (λ none. waits_plain (answer.WaitRing flushed) phase tt fits looks) h
+    goes phase Sealed (Some command.Commit) (answer.WaitRing flushed) p.snapshots p.snapshot (quiet command.Commit (answer.WaitRing flushed) refl) (λ none. absurd none) h
+waits_ring command.Mark flushed phase p fits looks h =
+    goes phase Sealed (Some command.Mark) (answer.WaitRing flushed) p.snapshots p.snapshot (quiet command.Mark (answer.WaitRing flushed) refl) (λ none. absurd none) h
 waits_ring command.Safe flushed phase p fits looks h =
     goes phase Pending (Some command.Safe) (answer.WaitRing flushed) p.snapshots p.snapshot (quiet command.Safe (answer.WaitRing flushed) refl) (λ none. absurd none) h
 waits_ring c flushed phase p fits looks h = goes phase phase (Some c) (answer.WaitRing flushed) p.snapshots p.snapshot (quiet c (answer.WaitRing flushed) refl) (λ none. none) h
@@ -201,9 +200,9 @@ module _ (q : ℕ) where
   hears c (answer.Safe begin) phase p fits looks h = record { over = h.over; now = own_now p (with_begin begin) (λ s reads. reads) h.now; none = λ none. absurd none }
   hears c (answer.Unsafe seat stamp) phase p fits looks h = quits p.snapshots (Some (own_snapshot p)) h.over (own_now p (λ s. s) (λ s reads. reads) h.now)
   hears c answer.Ended phase p fits looks h = quits p.snapshots (option_map with_end p.snapshot) h.over (mapped with_end (λ s reads. reads) p.snapshot h.now)
-  hears c (answer.Sealed stamp) phase p fits looks h =
-      let own = answers_so phase c (answer.Sealed stamp) refl fits in
-      record { over = h.over; now = h.now; none = λ none. h.none (seals_plain c stamp phase own.1 own.0) }
+  hears c (answer.Sealed stamp) phase p fits looks h = record { over = h.over; now = h.now; none = λ none. absurd none }
+  hears c (answer.Marked safe stamp) phase p fits looks h =
+      quits p.snapshots (option_map (with_mark safe stamp) p.snapshot) h.over (mapped (with_mark safe stamp) (λ s reads. reads) p.snapshot h.now)
   hears c (answer.Committed stamp succ pred) phase p fits looks h = quits p.snapshots p.snapshot h.over h.now
   hears c (answer.Excluded stamp succ pred) phase p fits looks h = quits p.snapshots p.snapshot h.over h.now
   hears c (answer.ExcludedEarly succ pred) phase p fits looks h = quits p.snapshots _ h.over (looks_on c (answer.ExcludedEarly succ pred) p refl h.now)
@@ -258,6 +257,8 @@ module _ (q : ℕ) where
   closes Active answer.Aborted p ok h = record { over = closed p h; now = none_now }
   closes Sealed (answer.Committed stamp succ pred) p ok h = record { over = closed p h; now = none_now }
   closes Sealed (answer.Excluded stamp succ pred) p ok h = record { over = closed p h; now = none_now }
+  closes Sealed (answer.Marked safe stamp) p ok h =
+      record { over = all_over p.snapshots (option_map (with_mark safe stamp) p.snapshot) h.over (mapped (with_mark safe stamp) (λ s reads. reads) p.snapshot h.now); now = none_now }
   closes Pending answer.Aborted p ok h = record { over = closed p h; now = none_now }
   closes Safe answer.Aborted p ok h = record { over = closed p h; now = none_now }
   closes phase a p ok h = absurd ok
