@@ -15,7 +15,7 @@ use Rattle.erm_script.specs.declared.script.Command.{Command}
 use Rattle.erm_script.specs.declared.script.Command.TheVariants as command
 use Rattle.erm_script.specs.declared.script.ScriptLine.{ScriptLine}
 use Rattle.erm_good_report.specs.Phases.{asks_safe}
-use Rattle.erm_good_report.specs.Transactions.{Exchange, Ending, Commits, Excludes, Aborts, Snapshot, Transaction, Progress, heard, ended, ended_as, goes_on, looks_of, next_number, own_snapshot, placed_at, rank_stamp, snapshot_after, with_end, with_line, with_look, with_ending, with_seal, committed_as, committed_of, history_of, step_of, steps_of, reply_in, op_of, exchange_of}
+use Rattle.erm_good_report.specs.Transactions.{Exchange, Ending, Commits, Excludes, Aborts, Snapshot, Transaction, Progress, heard, ended, ended_as, goes_on, looks_of, next_number, own_snapshot, placed_at, rank_stamp, snapshot_after, with_end, with_line, with_look, with_mark, with_ending, with_seal, committed_as, committed_of, history_of, step_of, steps_of, reply_in, op_of, exchange_of}
 use Rattle.erm_summary.specs.declared.hearing.Begun.{Begun}
 use Rattle.erm_summary.specs.declared.hearing.Session.{Session}
 use Rattle.erm_summary.specs.declared.hearing.Watched.{Watched}
@@ -193,46 +193,47 @@ module _ (script : List ScriptLine) (answers : List Answer) where
   -- a session goes on as before by an answer that ends nothing, begins nothing and is no reply
   pub heard_quietly : (a : Answer) (asked : Option Command) (p : Progress) (s : Session) → ((x : ℕ) → a ≡ answer.Began x → ⊥) → ((x : Reply) → a ≡ answer.Replied x → ⊥) → ((x y z : ℕ) → a ≡ answer.Committed x y z → ⊥) → ((x y z : ℕ) → a ≡ answer.Excluded x y z → ⊥) →
       (a ≡ answer.Aborted → ⊥) → ((x y : ℕ) → a ≡ answer.Owned x y → ⊥) → ((x : ℕ) → a ≡ answer.Newer x → ⊥) → ((x y : ℕ) → a ≡ answer.ExcludedEarly x y → ⊥) →
-      ((x : ℕ) → a ≡ answer.Safe x → ⊥) → ((x y : ℕ) → a ≡ answer.WaitSeat x y → ⊥) → ((x y : ℕ) → a ≡ answer.Unsafe x y → ⊥) → (a ≡ answer.Ended → ⊥) → ((x : ℕ) → a ≡ answer.Saved x → ⊥) → ((x : ℕ) → a ≡ answer.Back x → ⊥) → Follows script answers p s → Follows script answers (heard s.seat asked a p) s
-  heard_quietly (answer.Began x) asked p s begins replies commits excludes aborts owned newer early safe waits unsafe ends saved back f = absurd (begins x refl)
-  heard_quietly (answer.Safe x) asked p s begins replies commits excludes aborts owned newer early safe waits unsafe ends saved back f = absurd (safe x refl)
-  heard_quietly (answer.Replied x) asked p s begins replies commits excludes aborts owned newer early safe waits unsafe ends saved back f = absurd (replies x refl)
-  heard_quietly (answer.Sealed x) asked p s begins replies commits excludes aborts owned newer early safe waits unsafe ends saved back f = seals x p s f
-  heard_quietly (answer.Committed x y z) asked p s begins replies commits excludes aborts owned newer early safe waits unsafe ends saved back f = absurd (commits x y z refl)
-  heard_quietly (answer.Excluded x y z) asked p s begins replies commits excludes aborts owned newer early safe waits unsafe ends saved back f = absurd (excludes x y z refl)
-  heard_quietly answer.Aborted asked p s begins replies commits excludes aborts owned newer early safe waits unsafe ends saved back f = absurd (aborts refl)
-  heard_quietly answer.Ended asked p s begins replies commits excludes aborts owned newer early safe waits unsafe ends saved back f = absurd (ends refl)
-  heard_quietly answer.NotIdle asked p s begins replies commits excludes aborts owned newer early safe waits unsafe ends saved back f = f
-  heard_quietly answer.NoTransaction asked p s begins replies commits excludes aborts owned newer early safe waits unsafe ends saved back f = f
-  heard_quietly answer.IsSealed asked p s begins replies commits excludes aborts owned newer early safe waits unsafe ends saved back f = f
-  heard_quietly answer.NotSealed asked p s begins replies commits excludes aborts owned newer early safe waits unsafe ends saved back f = f
-  heard_quietly answer.ReadOnly asked p s begins replies commits excludes aborts owned newer early safe waits unsafe ends saved back f = f
-  heard_quietly answer.NotSafe asked p s begins replies commits excludes aborts owned newer early safe waits unsafe ends saved back f = f
-  heard_quietly (answer.WaitSeat x y) asked p s begins replies commits excludes aborts owned newer early safe waits unsafe ends saved back f = absurd (waits x y refl)
-  heard_quietly (answer.Unsafe x y) asked p s begins replies commits excludes aborts owned newer early safe waits unsafe ends saved back f = absurd (unsafe x y refl)
-  heard_quietly (answer.Owned x y) asked p s begins replies commits excludes aborts owned newer early safe waits unsafe ends saved back f = absurd (owned x y refl)
-  heard_quietly (answer.Newer x) asked p s begins replies commits excludes aborts owned newer early safe waits unsafe ends saved back f = absurd (newer x refl)
-  heard_quietly (answer.ExcludedEarly x y) asked p s begins replies commits excludes aborts owned newer early safe waits unsafe ends saved back f = absurd (early x y refl)
-  heard_quietly (answer.Cut x) asked p s begins replies commits excludes aborts owned newer early safe waits unsafe ends saved back f = goes_on_quietly asked (answer.Cut x) p s refl refl f
-  heard_quietly (answer.Saved x) asked p s begins replies commits excludes aborts owned newer early safe waits unsafe ends saved back f = absurd (saved x refl)
-  heard_quietly (answer.Back x) asked p s begins replies commits excludes aborts owned newer early safe waits unsafe ends saved back f = absurd (back x refl)
-  heard_quietly (answer.Durable x) asked p s begins replies commits excludes aborts owned newer early safe waits unsafe ends saved back f = goes_on_quietly asked (answer.Durable x) p s refl refl f
-  heard_quietly (answer.Flushed x) asked p s begins replies commits excludes aborts owned newer early safe waits unsafe ends saved back f = goes_on_quietly asked (answer.Flushed x) p s refl refl f
-  heard_quietly (answer.Empty x) asked p s begins replies commits excludes aborts owned newer early safe waits unsafe ends saved back f = goes_on_quietly asked (answer.Empty x) p s refl refl f
-  heard_quietly (answer.Checkpointed x) asked p s begins replies commits excludes aborts owned newer early safe waits unsafe ends saved back f = goes_on_quietly asked (answer.Checkpointed x) p s refl refl f
-  heard_quietly (answer.LogEnd x) asked p s begins replies commits excludes aborts owned newer early safe waits unsafe ends saved back f = goes_on_quietly asked (answer.LogEnd x) p s refl refl f
-  heard_quietly answer.NumbersEnd asked p s begins replies commits excludes aborts owned newer early safe waits unsafe ends saved back f = goes_on_quietly asked answer.NumbersEnd p s refl refl f
-  heard_quietly (answer.WaitRing x) asked p s begins replies commits excludes aborts owned newer early safe waits unsafe ends saved back f = goes_on_quietly asked (answer.WaitRing x) p s refl refl f
-  heard_quietly answer.ReadsFull asked p s begins replies commits excludes aborts owned newer early safe waits unsafe ends saved back f = goes_on_quietly asked answer.ReadsFull p s refl refl f
-  heard_quietly answer.WritesFull asked p s begins replies commits excludes aborts owned newer early safe waits unsafe ends saved back f = goes_on_quietly asked answer.WritesFull p s refl refl f
-  heard_quietly (answer.CellsFull x) asked p s begins replies commits excludes aborts owned newer early safe waits unsafe ends saved back f = goes_on_quietly asked (answer.CellsFull x) p s refl refl f
-  heard_quietly (answer.OidsFull x) asked p s begins replies commits excludes aborts owned newer early safe waits unsafe ends saved back f = goes_on_quietly asked (answer.OidsFull x) p s refl refl f
-  heard_quietly answer.SavesFull asked p s begins replies commits excludes aborts owned newer early safe waits unsafe ends saved back f = goes_on_quietly asked answer.SavesFull p s refl refl f
-  heard_quietly (answer.NoSave x) asked p s begins replies commits excludes aborts owned newer early safe waits unsafe ends saved back f = goes_on_quietly asked (answer.NoSave x) p s refl refl f
-  heard_quietly (answer.NotFlushed x) asked p s begins replies commits excludes aborts owned newer early safe waits unsafe ends saved back f = goes_on_quietly asked (answer.NotFlushed x) p s refl refl f
-  heard_quietly answer.NoReceipt asked p s begins replies commits excludes aborts owned newer early safe waits unsafe ends saved back f = goes_on_quietly asked answer.NoReceipt p s refl refl f
-  heard_quietly (answer.Unfilled x) asked p s begins replies commits excludes aborts owned newer early safe waits unsafe ends saved back f = goes_on_quietly asked (answer.Unfilled x) p s refl refl f
-  heard_quietly answer.DiskFault asked p s begins replies commits excludes aborts owned newer early safe waits unsafe ends saved back f = goes_on_quietly asked answer.DiskFault p s refl refl f
+      ((x : ℕ) → a ≡ answer.Safe x → ⊥) → ((x y : ℕ) → a ≡ answer.WaitSeat x y → ⊥) → ((x y : ℕ) → a ≡ answer.Unsafe x y → ⊥) → (a ≡ answer.Ended → ⊥) → ((x y : ℕ) → a ≡ answer.Marked x y → ⊥) → ((x : ℕ) → a ≡ answer.Saved x → ⊥) → ((x : ℕ) → a ≡ answer.Back x → ⊥) → Follows script answers p s → Follows script answers (heard s.seat asked a p) s
+  heard_quietly (answer.Began x) asked p s begins replies commits excludes aborts owned newer early safe waits unsafe ends marked saved back f = absurd (begins x refl)
+  heard_quietly (answer.Safe x) asked p s begins replies commits excludes aborts owned newer early safe waits unsafe ends marked saved back f = absurd (safe x refl)
+  heard_quietly (answer.Replied x) asked p s begins replies commits excludes aborts owned newer early safe waits unsafe ends marked saved back f = absurd (replies x refl)
+  heard_quietly (answer.Sealed x) asked p s begins replies commits excludes aborts owned newer early safe waits unsafe ends marked saved back f = seals x p s f
+  heard_quietly (answer.Committed x y z) asked p s begins replies commits excludes aborts owned newer early safe waits unsafe ends marked saved back f = absurd (commits x y z refl)
+  heard_quietly (answer.Excluded x y z) asked p s begins replies commits excludes aborts owned newer early safe waits unsafe ends marked saved back f = absurd (excludes x y z refl)
+  heard_quietly answer.Aborted asked p s begins replies commits excludes aborts owned newer early safe waits unsafe ends marked saved back f = absurd (aborts refl)
+  heard_quietly answer.Ended asked p s begins replies commits excludes aborts owned newer early safe waits unsafe ends marked saved back f = absurd (ends refl)
+  heard_quietly (answer.Marked x y) asked p s begins replies commits excludes aborts owned newer early safe waits unsafe ends marked saved back f = absurd (marked x y refl)
+  heard_quietly answer.NotIdle asked p s begins replies commits excludes aborts owned newer early safe waits unsafe ends marked saved back f = f
+  heard_quietly answer.NoTransaction asked p s begins replies commits excludes aborts owned newer early safe waits unsafe ends marked saved back f = f
+  heard_quietly answer.IsSealed asked p s begins replies commits excludes aborts owned newer early safe waits unsafe ends marked saved back f = f
+  heard_quietly answer.NotSealed asked p s begins replies commits excludes aborts owned newer early safe waits unsafe ends marked saved back f = f
+  heard_quietly answer.ReadOnly asked p s begins replies commits excludes aborts owned newer early safe waits unsafe ends marked saved back f = f
+  heard_quietly answer.NotSafe asked p s begins replies commits excludes aborts owned newer early safe waits unsafe ends marked saved back f = f
+  heard_quietly (answer.WaitSeat x y) asked p s begins replies commits excludes aborts owned newer early safe waits unsafe ends marked saved back f = absurd (waits x y refl)
+  heard_quietly (answer.Unsafe x y) asked p s begins replies commits excludes aborts owned newer early safe waits unsafe ends marked saved back f = absurd (unsafe x y refl)
+  heard_quietly (answer.Owned x y) asked p s begins replies commits excludes aborts owned newer early safe waits unsafe ends marked saved back f = absurd (owned x y refl)
+  heard_quietly (answer.Newer x) asked p s begins replies commits excludes aborts owned newer early safe waits unsafe ends marked saved back f = absurd (newer x refl)
+  heard_quietly (answer.ExcludedEarly x y) asked p s begins replies commits excludes aborts owned newer early safe waits unsafe ends marked saved back f = absurd (early x y refl)
+  heard_quietly (answer.Cut x) asked p s begins replies commits excludes aborts owned newer early safe waits unsafe ends marked saved back f = goes_on_quietly asked (answer.Cut x) p s refl refl f
+  heard_quietly (answer.Saved x) asked p s begins replies commits excludes aborts owned newer early safe waits unsafe ends marked saved back f = absurd (saved x refl)
+  heard_quietly (answer.Back x) asked p s begins replies commits excludes aborts owned newer early safe waits unsafe ends marked saved back f = absurd (back x refl)
+  heard_quietly (answer.Durable x) asked p s begins replies commits excludes aborts owned newer early safe waits unsafe ends marked saved back f = goes_on_quietly asked (answer.Durable x) p s refl refl f
+  heard_quietly (answer.Flushed x) asked p s begins replies commits excludes aborts owned newer early safe waits unsafe ends marked saved back f = goes_on_quietly asked (answer.Flushed x) p s refl refl f
+  heard_quietly (answer.Empty x) asked p s begins replies commits excludes aborts owned newer early safe waits unsafe ends marked saved back f = goes_on_quietly asked (answer.Empty x) p s refl refl f
+  heard_quietly (answer.Checkpointed x) asked p s begins replies commits excludes aborts owned newer early safe waits unsafe ends marked saved back f = goes_on_quietly asked (answer.Checkpointed x) p s refl refl f
+  heard_quietly (answer.LogEnd x) asked p s begins replies commits excludes aborts owned newer early safe waits unsafe ends marked saved back f = goes_on_quietly asked (answer.LogEnd x) p s refl refl f
+  heard_quietly answer.NumbersEnd asked p s begins replies commits excludes aborts owned newer early safe waits unsafe ends marked saved back f = goes_on_quietly asked answer.NumbersEnd p s refl refl f
+  heard_quietly (answer.WaitRing x) asked p s begins replies commits excludes aborts owned newer early safe waits unsafe ends marked saved back f = goes_on_quietly asked (answer.WaitRing x) p s refl refl f
+  heard_quietly answer.ReadsFull asked p s begins replies commits excludes aborts owned newer early safe waits unsafe ends marked saved back f = goes_on_quietly asked answer.ReadsFull p s refl refl f
+  heard_quietly answer.WritesFull asked p s begins replies commits excludes aborts owned newer early safe waits unsafe ends marked saved back f = goes_on_quietly asked answer.WritesFull p s refl refl f
+  heard_quietly (answer.CellsFull x) asked p s begins replies commits excludes aborts owned newer early safe waits unsafe ends marked saved back f = goes_on_quietly asked (answer.CellsFull x) p s refl refl f
+  heard_quietly (answer.OidsFull x) asked p s begins replies commits excludes aborts owned newer early safe waits unsafe ends marked saved back f = goes_on_quietly asked (answer.OidsFull x) p s refl refl f
+  heard_quietly answer.SavesFull asked p s begins replies commits excludes aborts owned newer early safe waits unsafe ends marked saved back f = goes_on_quietly asked answer.SavesFull p s refl refl f
+  heard_quietly (answer.NoSave x) asked p s begins replies commits excludes aborts owned newer early safe waits unsafe ends marked saved back f = goes_on_quietly asked (answer.NoSave x) p s refl refl f
+  heard_quietly (answer.NotFlushed x) asked p s begins replies commits excludes aborts owned newer early safe waits unsafe ends marked saved back f = goes_on_quietly asked (answer.NotFlushed x) p s refl refl f
+  heard_quietly answer.NoReceipt asked p s begins replies commits excludes aborts owned newer early safe waits unsafe ends marked saved back f = goes_on_quietly asked answer.NoReceipt p s refl refl f
+  heard_quietly (answer.Unfilled x) asked p s begins replies commits excludes aborts owned newer early safe waits unsafe ends marked saved back f = goes_on_quietly asked (answer.Unfilled x) p s refl refl f
+  heard_quietly answer.DiskFault asked p s begins replies commits excludes aborts owned newer early safe waits unsafe ends marked saved back f = goes_on_quietly asked answer.DiskFault p s refl refl f
 
   -- it gives its transaction up by each other answer that ends it, but for a commit
   abbrev pub EndsAside : Answer → Type 0
@@ -473,3 +474,30 @@ module _ (script : List ScriptLine) (answers : List Answer) where
       let still : p.snapshot ≡ option_map with_end p.snapshot = nothing ∙ sym (ap (option_map with_end) nothing) in
       ends_aside Aborts (record p { snapshot = option_map with_end p.snapshot }) s (λ t. refl)
       (record { over = f.over; commits = f.commits; current = f.current; ended = f.ended; watched = subst (λ (o : Option Snapshot). IsWatching script answers o s.watched) still f.watched })
+
+  -- ---- one that ended with a mark is over, and has its place, as one that ended
+  marked_ended : (safe stamp seat : ℕ) (o : Option Snapshot)
+      → filter_map (ended_as seat) (option_to_list (option_map (with_mark safe stamp) o)) ≡ filter_map (ended_as seat) (option_to_list (option_map with_end o))
+  marked_ended safe stamp seat None = refl
+  marked_ended safe stamp seat (Some x) = refl
+
+  marked_count : (safe stamp : ℕ) (o : Option Snapshot) → length (option_to_list (option_map (with_mark safe stamp) o)) ≡ length (option_to_list (option_map with_end o))
+  marked_count safe stamp None = refl
+  marked_count safe stamp (Some x) = refl
+
+  pub heard_marked : (safe stamp : ℕ) (p : Progress) (s : Session) → Follows script answers (ended Aborts (record p { snapshot = option_map with_end p.snapshot })) s
+      → Follows script answers (ended Aborts (record p { snapshot = option_map (with_mark safe stamp) p.snapshot })) s
+  heard_marked safe stamp p s f =
+      let marked = option_to_list (option_map (with_mark safe stamp) p.snapshot) in
+      let plain = option_to_list (option_map with_end p.snapshot) in
+      let last = option_to_list (option_map (with_ending Aborts) p.current) in
+      record {
+        over = ap (λ (n : ℕ). length (p.over ++ last) + n) (length-append p.snapshots marked ∙ ap (λ (n : ℕ). length p.snapshots + n) (marked_count safe stamp p.snapshot) ∙ sym (length-append p.snapshots plain)) ∙ f.over;
+        commits = f.commits;
+        current = f.current;
+        ended =
+            filter_map-append (ended_as s.seat) p.snapshots marked
+            ∙ ap (λ more. filter_map (ended_as s.seat) p.snapshots ++ more) (marked_ended safe stamp s.seat p.snapshot)
+            ∙ sym (filter_map-append (ended_as s.seat) p.snapshots plain) ∙ f.ended;
+        watched = f.watched;
+      }

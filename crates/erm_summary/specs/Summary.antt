@@ -14,7 +14,7 @@ use Rattle.erm_report.specs.declared.line.Line.TheVariants as line
 use Rattle.erm_report.specs.Printable.{FitsTypes}
 use Rattle.erm_script.specs.Script.{name_of}
 use Rattle.erm_script.specs.declared.script.ScriptLine.{ScriptLine}
-use Rattle.erm_good_report.specs.GoodReport.{IsGoodReport, OwesToAnswers, Report, places_of, report_lines, serial_of}
+use Rattle.erm_good_report.specs.GoodReport.{IsGoodReport, MarksOwe, OwesToAnswers, Report, places_of, report_lines, serial_of}
 use Rattle.erm_good_report.specs.Opening.{Mode, Opening}
 use Rattle.erm_good_report.specs.Phases.{Closed, ClosesAgree}
 use Rattle.erm_good_report.specs.Transactions.{said_of, transactions_of}
@@ -54,12 +54,12 @@ pub record Summarizes (opening : Opening) (names : List (List ℕ)) (script : Li
   pub ascends : AscendByKey report.pairs
   pub state : from_entries (entries_of report.pairs) ≡ state_after report.order opening.map
 
--- A summary's lines are a good report, of its answers and closed sessions, where their numbers and values fit their types, the answers and the
--- closed sessions owe what they owe, and the commits and ended snapshots, whose stamps differ, can be run in each serial order.
+-- A summary's lines are a good report, of its answers and closed sessions, where their numbers and values fit their types, the answers, the
+-- closed sessions and the marks owe what they owe, and the commits and ended snapshots, whose stamps differ, can be run in each serial order.
 abbrev pub SummariesAreGood : Type 0
 SummariesAreGood = (mode : Mode) (opening : Opening) (names : List (List ℕ)) (script : List ScriptLine) (answers : List Answer) (closed : List Closed) (lines : List Line) →
     Summarizes opening names script answers closed lines → All FitsTypes lines → length answers ≡ length script → ClosesAgree (length names) (said_of script answers) closed →
-    OwesToAnswers mode opening script answers (transactions_of (length names) (places_of script answers closed)) →
+    OwesToAnswers mode opening script answers (transactions_of (length names) (places_of script answers closed)) → MarksOwe mode opening (length names) script answers closed →
     StampsDiffer rank_of (serial_of (length names) (places_of script answers closed)) →
     ((order : List Committed) → IsSerialOrder rank_of (serial_of (length names) (places_of script answers closed)) order → RunsInOrder order opening.map (state_after order opening.map)) →
     (good : IsGoodReport mode opening names script lines) × (good.report.answers ≡ answers) × (good.report.closed ≡ closed)

@@ -87,6 +87,7 @@ impl Session {
                 Ok(())
             }
             Answer::Ended => self.end_watch(),
+            Answer::Marked { .. } => self.end_watch(),
             Answer::Replied(_) | Answer::Saved { .. } | Answer::Back { .. } => self.reply(place),
             Answer::Committed { stamp, succ, pred } => self.commit(*stamp, *succ, *pred),
             Answer::Excluded { .. }

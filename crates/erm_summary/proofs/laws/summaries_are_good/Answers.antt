@@ -1,13 +1,13 @@
 use Rattle.std.proofs.Common.{◌≡◌, List, length, subst, sym, ap, ◌∙◌}
 use Rattle.erm_model.specs.Committed.{RunsInOrder}
 use Rattle.erm_report.specs.declared.answer.Answer.{Answer}
-use Rattle.erm_good_report.specs.GoodReport.{IsGoodReport, OwesToAnswers, OrderAgrees, places_of, serial_of}
+use Rattle.erm_good_report.specs.GoodReport.{IsGoodReport, MarksOwe, OwesToAnswers, OrderAgrees, places_of, serial_of}
 use Rattle.erm_good_report.specs.Phases.{Closed, ClosesAgree}
 use Rattle.erm_good_report.specs.Transactions.{said_of, transactions_of}
 use Rattle.erm_summary.proofs.laws.summaries_are_good.Goals as goal
 
 pub returns : goal.returns
-returns c mode opening names script answers closed lines s fits each closes owes differ runs =
+returns c mode opening names script answers closed lines s fits each closes owes marks differ runs =
     let same_answers : answers ≡ s.report.answers = sym s.answers_ok in
     let same_closed : closed ≡ s.report.closed = sym s.closed_ok in
     let serial = s.serial differ in
@@ -25,6 +25,9 @@ returns c mode opening names script answers closed lines s fits each closes owes
       owes =
           subst (λ (a : List Answer). OwesToAnswers mode opening script a (transactions_of (length names) (places_of script a s.report.closed))) same_answers
           (subst (λ (k : List Closed). OwesToAnswers mode opening script answers (transactions_of (length names) (places_of script answers k))) same_closed owes);
+      marks =
+          subst (λ (a : List Answer). MarksOwe mode opening (length names) script a s.report.closed) same_answers
+          (subst (λ (k : List Closed). MarksOwe mode opening (length names) script answers k) same_closed marks);
       order =
           subst (λ (a : List Answer). OrderAgrees (serial_of (length names) (places_of script a s.report.closed)) opening.map s.report) same_answers
           (subst (λ (k : List Closed). OrderAgrees (serial_of (length names) (places_of script answers k)) opening.map s.report) same_closed agrees);
