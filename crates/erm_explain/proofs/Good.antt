@@ -12,7 +12,7 @@ use Rattle.erm_script.specs.declared.script.ScriptLine.{ScriptLine}
 use Rattle.erm_script.specs.Keywords.{names_session}
 use Rattle.erm_script.specs.Script.{keyword_of}
 use Rattle.erm_good_report.specs.Causes.{HasNoWindow, NamesTable, WritesTable}
-use Rattle.erm_good_report.specs.GoodReport.{OwesToAnswers, places_of}
+use Rattle.erm_good_report.specs.GoodReport.{MarksOwe, OwesToAnswers, places_of}
 use Rattle.erm_good_report.specs.Opening.{InTurn, Opening}
 use Rattle.erm_good_report.specs.Phases.{Closed, FitsPhase, IsAnswerTo, phase_of}
 use Rattle.erm_good_report.specs.Refusals.{HasNoWindowBefore, HasRefusalCause, IsNewerBy, IsOwn, IsOwnedBy, Moment, moment_at}
@@ -132,6 +132,7 @@ window_of all t u stamp succ pred begin lines shut = record {
 
 module _ (opening : Opening) (script : List ScriptLine) (answers : List Answer) (sessions : ℕ) (closed : List Closed)
     (owes : OwesToAnswers InTurn opening script answers (transactions_of sessions (places_of script answers closed)))
+    (marks : MarksOwe InTurn opening sessions script answers closed)
     (few : (l : ScriptLine) → l ∈ script → l.session ≤ sessions)
     (alone : (i : ℕ) (l : ScriptLine) → slice_get script i ≡ Some l → l.session ≡ 0 → names_session (keyword_of l.command) ≡ false) where
   abbrev all : List Transaction
@@ -164,7 +165,7 @@ module _ (opening : Opening) (script : List ScriptLine) (answers : List Answer) 
     some = elim (cases_eq l.session 0) as (λ _. 0 < l.session) [ inl none ↦ absurd (not_alone none) | inr other ↦ omega (arith, other) ]
 
     own : InTransaction (progress_of l.session (first place))
-    own = has_one l.command a (phase_of l.session (first place)) (progress_of l.session (first place)) needs fits (owes.phases.snapshots place l a at told) (in_place script answers owes.phases place l.session)
+    own = has_one l.command a (phase_of l.session (first place)) (progress_of l.session (first place)) needs fits (owes.phases.snapshots place l a at told) (marks.settles place l a at told) (in_place script answers owes.phases place l.session)
 
     abbrev its : Transaction
     its = with_line (Some l.command) a own.0

@@ -11,7 +11,7 @@ use Rattle.erm_script.specs.declared.script.Command.{Command}
 use Rattle.erm_script.specs.declared.script.Command.TheVariants as command
 use Rattle.erm_script.specs.declared.script.ScriptLine.{ScriptLine}
 use Rattle.erm_good_report.specs.Phases.{asks_safe}
-use Rattle.erm_good_report.specs.Transactions.{Exchange, Progress, Snapshot, Transaction, ended, goes_on, heard, own_snapshot, snapshot_after, with_end, with_ending, with_line, with_look, works_on_map}
+use Rattle.erm_good_report.specs.Transactions.{Exchange, Progress, Snapshot, Transaction, ended, goes_on, heard, own_snapshot, snapshot_after, with_end, with_ending, with_line, with_look, with_mark, works_on_map}
 use Rattle.erm_good_report.specs.Transactions as report
 use Rattle.erm_explain.specs.declared.books.Books.{Books}
 use Rattle.erm_explain.specs.declared.told.Ending.{Ending}
@@ -327,6 +327,12 @@ pub ended_so : (script : List ScriptLine) (answers : List Answer) (books : Books
 ended_so script answers books s true ending p has = other_ended script answers books s ending p (option_map with_end p.snapshot) (sym (count_map with_end p.snapshot)) has
 ended_so script answers books s false ending p has = has
 
+pub marked_so : (script : List ScriptLine) (answers : List Answer) (books : Books) (s : ℕ) (b : Bool) (safe stamp : ℕ) (ending : report.Ending) (p : Progress)
+    → HasProgress script answers books s (cond b (ended ending p) p) → HasProgress script answers books s (cond b (ended ending (record p { snapshot = option_map (with_mark safe stamp) p.snapshot })) p)
+marked_so script answers books s true safe stamp ending p has =
+    other_ended script answers books s ending p (option_map (with_mark safe stamp) p.snapshot) (sym (count_map (with_mark safe stamp) p.snapshot)) has
+marked_so script answers books s false safe stamp ending p has = has
+
 pub refused_so : (script : List ScriptLine) (answers : List Answer) (books : Books) (s : ℕ) (b : Bool) (c : Command) (a : Answer) (p : Progress)
     → HasProgress script answers books s (cond b (ended report.Aborts (record p { current = option_map (with_line (Some c) a) p.current })) p)
     → HasProgress script answers books s
@@ -348,25 +354,26 @@ pub goes_besides : (script : List ScriptLine) (answers : List Answer) (books : B
     → ((x y z : ℕ) → a ≡ answer.Committed x y z → ⊥) → ((x y z : ℕ) → a ≡ answer.Excluded x y z → ⊥) → ((x y : ℕ) → a ≡ answer.ExcludedEarly x y → ⊥)
     → ((x y : ℕ) → a ≡ answer.Owned x y → ⊥) → ((x : ℕ) → a ≡ answer.Newer x → ⊥) → (a ≡ answer.Aborted → ⊥)
     → (a ≡ answer.NotIdle → ⊥) → (a ≡ answer.NoTransaction → ⊥) → (a ≡ answer.IsSealed → ⊥) → (a ≡ answer.NotSealed → ⊥) → (a ≡ answer.ReadOnly → ⊥) → (a ≡ answer.NotSafe → ⊥)
-    → ((x : ℕ) → a ≡ answer.Safe x → ⊥) → ((x y : ℕ) → a ≡ answer.WaitSeat x y → ⊥) → ((x y : ℕ) → a ≡ answer.Unsafe x y → ⊥) → (a ≡ answer.Ended → ⊥)
+    → ((x : ℕ) → a ≡ answer.Safe x → ⊥) → ((x y : ℕ) → a ≡ answer.WaitSeat x y → ⊥) → ((x y : ℕ) → a ≡ answer.Unsafe x y → ⊥) → (a ≡ answer.Ended → ⊥) → ((x y : ℕ) → a ≡ answer.Marked x y → ⊥)
     → HasProgress script answers books s (record p { current = option_map (with_line (Some c) a) p.current }) → HasProgress script answers books s (heard session (Some c) a p)
-goes_besides script answers books s session k (answer.Began x) p began sealed committed excluded early owned newer aborted a b c d e f safe waits unsafe ends has = absurd (began x refl)
-goes_besides script answers books s session k (answer.Sealed x) p began sealed committed excluded early owned newer aborted a b c d e f safe waits unsafe ends has = absurd (sealed x refl)
-goes_besides script answers books s session k (answer.Committed x y z) p began sealed committed excluded early owned newer aborted a b c d e f safe waits unsafe ends has = absurd (committed x y z refl)
-goes_besides script answers books s session k (answer.Excluded x y z) p began sealed committed excluded early owned newer aborted a b c d e f safe waits unsafe ends has = absurd (excluded x y z refl)
-goes_besides script answers books s session k (answer.ExcludedEarly x y) p began sealed committed excluded early owned newer aborted a b c d e f safe waits unsafe ends has = absurd (early x y refl)
-goes_besides script answers books s session k (answer.Owned x y) p began sealed committed excluded early owned newer aborted a b c d e f safe waits unsafe ends has = absurd (owned x y refl)
-goes_besides script answers books s session k (answer.Newer x) p began sealed committed excluded early owned newer aborted a b c d e f safe waits unsafe ends has = absurd (newer x refl)
-goes_besides script answers books s session k answer.Aborted p began sealed committed excluded early owned newer aborted a b c d e f safe waits unsafe ends has = absurd (aborted refl)
-goes_besides script answers books s session k answer.NotIdle p began sealed committed excluded early owned newer aborted a b c d e f safe waits unsafe ends has = absurd (a refl)
-goes_besides script answers books s session k answer.NoTransaction p began sealed committed excluded early owned newer aborted a b c d e f safe waits unsafe ends has = absurd (b refl)
-goes_besides script answers books s session k answer.IsSealed p began sealed committed excluded early owned newer aborted a b c d e f safe waits unsafe ends has = absurd (c refl)
-goes_besides script answers books s session k answer.NotSealed p began sealed committed excluded early owned newer aborted a b c d e f safe waits unsafe ends has = absurd (d refl)
-goes_besides script answers books s session k answer.ReadOnly p began sealed committed excluded early owned newer aborted a b c d e f safe waits unsafe ends has = absurd (e refl)
-goes_besides script answers books s session k answer.NotSafe p began sealed committed excluded early owned newer aborted a b c d e f safe waits unsafe ends has = absurd (f refl)
-goes_besides script answers books s session k (answer.Safe x) p began sealed committed excluded early owned newer aborted a b c d e f safe waits unsafe ends has = absurd (safe x refl)
-goes_besides script answers books s session k (answer.WaitSeat x y) p began sealed committed excluded early owned newer aborted a b c d e f safe waits unsafe ends has = absurd (waits x y refl)
-goes_besides script answers books s session k (answer.Unsafe x y) p began sealed committed excluded early owned newer aborted a b c d e f safe waits unsafe ends has = absurd (unsafe x y refl)
-goes_besides script answers books s session k answer.Ended p began sealed committed excluded early owned newer aborted a b c d e f safe waits unsafe ends has = absurd (ends refl)
-goes_besides script answers books s session k x p began sealed committed excluded early owned newer aborted a b c d e f safe waits unsafe ends has =
+goes_besides script answers books s session k (answer.Began x) p began sealed committed excluded early owned newer aborted a b c d e f safe waits unsafe ends marked has = absurd (began x refl)
+goes_besides script answers books s session k (answer.Sealed x) p began sealed committed excluded early owned newer aborted a b c d e f safe waits unsafe ends marked has = absurd (sealed x refl)
+goes_besides script answers books s session k (answer.Committed x y z) p began sealed committed excluded early owned newer aborted a b c d e f safe waits unsafe ends marked has = absurd (committed x y z refl)
+goes_besides script answers books s session k (answer.Excluded x y z) p began sealed committed excluded early owned newer aborted a b c d e f safe waits unsafe ends marked has = absurd (excluded x y z refl)
+goes_besides script answers books s session k (answer.ExcludedEarly x y) p began sealed committed excluded early owned newer aborted a b c d e f safe waits unsafe ends marked has = absurd (early x y refl)
+goes_besides script answers books s session k (answer.Owned x y) p began sealed committed excluded early owned newer aborted a b c d e f safe waits unsafe ends marked has = absurd (owned x y refl)
+goes_besides script answers books s session k (answer.Newer x) p began sealed committed excluded early owned newer aborted a b c d e f safe waits unsafe ends marked has = absurd (newer x refl)
+goes_besides script answers books s session k answer.Aborted p began sealed committed excluded early owned newer aborted a b c d e f safe waits unsafe ends marked has = absurd (aborted refl)
+goes_besides script answers books s session k answer.NotIdle p began sealed committed excluded early owned newer aborted a b c d e f safe waits unsafe ends marked has = absurd (a refl)
+goes_besides script answers books s session k answer.NoTransaction p began sealed committed excluded early owned newer aborted a b c d e f safe waits unsafe ends marked has = absurd (b refl)
+goes_besides script answers books s session k answer.IsSealed p began sealed committed excluded early owned newer aborted a b c d e f safe waits unsafe ends marked has = absurd (c refl)
+goes_besides script answers books s session k answer.NotSealed p began sealed committed excluded early owned newer aborted a b c d e f safe waits unsafe ends marked has = absurd (d refl)
+goes_besides script answers books s session k answer.ReadOnly p began sealed committed excluded early owned newer aborted a b c d e f safe waits unsafe ends marked has = absurd (e refl)
+goes_besides script answers books s session k answer.NotSafe p began sealed committed excluded early owned newer aborted a b c d e f safe waits unsafe ends marked has = absurd (f refl)
+goes_besides script answers books s session k (answer.Safe x) p began sealed committed excluded early owned newer aborted a b c d e f safe waits unsafe ends marked has = absurd (safe x refl)
+goes_besides script answers books s session k (answer.WaitSeat x y) p began sealed committed excluded early owned newer aborted a b c d e f safe waits unsafe ends marked has = absurd (waits x y refl)
+goes_besides script answers books s session k (answer.Unsafe x y) p began sealed committed excluded early owned newer aborted a b c d e f safe waits unsafe ends marked has = absurd (unsafe x y refl)
+goes_besides script answers books s session k answer.Ended p began sealed committed excluded early owned newer aborted a b c d e f safe waits unsafe ends marked has = absurd (ends refl)
+goes_besides script answers books s session k (answer.Marked x y) p began sealed committed excluded early owned newer aborted a b c d e f safe waits unsafe ends marked has = absurd (marked x y refl)
+goes_besides script answers books s session k x p began sealed committed excluded early owned newer aborted a b c d e f safe waits unsafe ends marked has =
     other_snapshot script answers books s (record p { current = option_map (with_line (Some k) x) p.current }) (option_map (with_look (Some k) x) p.snapshot) (sym (is_some_map (with_look (Some k) x) p.snapshot)) has

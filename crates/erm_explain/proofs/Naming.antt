@@ -55,6 +55,7 @@ over_heard session asked (answer.Newer stamp) p t within = ∈-front p.over _ t 
 over_heard session asked answer.Aborted p t within = ∈-front p.over _ t within
 over_heard session asked (answer.Unsafe seat stamp) p t within = ∈-front p.over _ t within
 over_heard session asked answer.Ended p t within = ∈-front p.over _ t within
+over_heard session asked (answer.Marked safe stamp) p t within = ∈-front p.over _ t within
 over_heard session asked a p t within = within
 
 over_hears : (seat : ℕ) (s : Said) (p : Progress) (t : Transaction) → t ∈ p.over → t ∈ (cond (s.session == seat) (heard seat s.asked s.answer p) p).over

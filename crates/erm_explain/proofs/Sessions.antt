@@ -16,10 +16,12 @@ use Rattle.erm_script.specs.declared.script.Command.TheVariants as command
 use Rattle.erm_script.specs.declared.script.ScriptLine.{ScriptLine}
 use Rattle.erm_script.specs.Keywords.{names_session}
 use Rattle.erm_script.specs.Script.{AreNumbered, AreSpelled, IsSpelled, keyword_of}
-use Rattle.erm_good_report.specs.Phases.{FitsPhase, FitsSnapshot, IsAnswerTo, PhasesAgree, phase_after, phase_after_wait, phase_of, refusal_in}
+use Rattle.erm_good_report.specs.Marks.{FitsSealed, IsOfSealed}
+use Rattle.erm_good_report.specs.Phases.{FitsPhase, FitsSnapshot, IsAnswerTo, IsMarkedOrWaits, IsSettled, PhasesAgree, phase_after, phase_after_wait, phase_of, refusal_in, refusal_of}
 use Rattle.erm_good_report.specs.Transactions as report
-use Rattle.erm_good_report.specs.Transactions.{Ending, Progress, Said, Transaction, begun, ended, goes_on, heard, nothing, own_snapshot, progress_of, reply_in, said_of, transactions_of, with_end, with_ending, with_line, with_seal}
+use Rattle.erm_good_report.specs.Transactions.{Ending, Progress, Said, Snapshot, Transaction, begun, ended, goes_on, heard, nothing, own_snapshot, progress_of, reply_in, said_of, transactions_of, with_begin, with_end, with_ending, with_line, with_look, with_mark, with_seal}
 use Rattle.erm_good_report.specs.Windows.{IsReplied}
+use Rattle.erm_good_report.proofs.Phases.{answers_so}
 use Rattle.erm_explain.proofs.Hearing.{progress_next, said_by, said_next}
 
 -- ---- scripts
@@ -57,7 +59,6 @@ alone_of_log g names (n ∷ ns) (k ∷ ks) spelled (suc i) l at alone = alone_of
 
 abbrev pub NeedsTransaction : Answer → Type 0
 NeedsTransaction (answer.Sealed stamp) = Unit {0}
-NeedsTransaction (answer.WaitRing flushed) = Unit {0}
 NeedsTransaction (answer.Owned seat number) = Unit {0}
 NeedsTransaction (answer.Newer stamp) = Unit {0}
 NeedsTransaction (answer.Excluded stamp succ pred) = Unit {0}
@@ -74,7 +75,6 @@ pub record NoneAlone (a : Answer) : Type 0 where
 
 pub none_alone : (a : Answer) → NeedsTransaction a → NoneAlone a
 none_alone (answer.Sealed stamp) needs = record { begin = λ x. x; safe = λ x. x; durable = λ x. x; flush = λ x. x; checkpoint = λ x. x }
-none_alone (answer.WaitRing flushed) needs = record { begin = λ x. x; safe = λ x. x; durable = λ x. x; flush = λ x. x; checkpoint = λ x. x }
 none_alone (answer.Owned seat number) needs = record { begin = λ x. x; safe = λ x. x; durable = λ x. x; flush = λ x. x; checkpoint = λ x. x }
 none_alone (answer.Newer stamp) needs = record { begin = λ x. x; safe = λ x. x; durable = λ x. x; flush = λ x. x; checkpoint = λ x. x }
 none_alone (answer.Excluded stamp succ pred) needs = record { begin = λ x. x; safe = λ x. x; durable = λ x. x; flush = λ x. x; checkpoint = λ x. x }
@@ -84,7 +84,6 @@ none_alone a needs = absurd needs
 -- they are no refusals by a phase, and no replies
 pub no_refusal : (a : Answer) → NeedsTransaction a → refusal_in a ≡ None
 no_refusal (answer.Sealed stamp) needs = refl
-no_refusal (answer.WaitRing flushed) needs = refl
 no_refusal (answer.Owned seat number) needs = refl
 no_refusal (answer.Newer stamp) needs = refl
 no_refusal (answer.Excluded stamp succ pred) needs = refl
@@ -93,7 +92,6 @@ no_refusal a needs = absurd needs
 
 no_reply : (a : Answer) → NeedsTransaction a → reply_in a ≡ None
 no_reply (answer.Sealed stamp) needs = refl
-no_reply (answer.WaitRing flushed) needs = refl
 no_reply (answer.Owned seat number) needs = refl
 no_reply (answer.Newer stamp) needs = refl
 no_reply (answer.Excluded stamp succ pred) needs = refl
@@ -118,6 +116,7 @@ none_idle command.Seal a needs fits = subst NeedsTransaction fits needs
 none_idle command.Settle a needs fits = subst NeedsTransaction fits needs
 none_idle command.Commit a needs fits = subst NeedsTransaction fits needs
 none_idle command.Abort a needs fits = subst NeedsTransaction fits needs
+none_idle command.Mark a needs fits = subst NeedsTransaction fits needs
 none_idle command.Durable a needs fits = (none_alone a needs).durable fits
 none_idle command.Flush a needs fits = (none_alone a needs).flush fits
 none_idle command.Checkpoint a needs fits = (none_alone a needs).checkpoint fits
@@ -125,12 +124,17 @@ none_idle command.Checkpoint a needs fits = (none_alone a needs).checkpoint fits
 -- nor has a snapshot, whose phase refuses what a transaction is asked, and whose looks are replied
 aborted : (a : Answer) → NeedsTransaction a → IsAnswerTo command.Abort a → ⊥
 aborted (answer.Sealed stamp) needs fits = fits
-aborted (answer.WaitRing flushed) needs fits = fits
 aborted (answer.Owned seat number) needs fits = fits
 aborted (answer.Newer stamp) needs fits = fits
 aborted (answer.Excluded stamp succ pred) needs fits = fits
 aborted (answer.ExcludedEarly succ pred) needs fits = fits
 aborted a needs fits = needs
+
+-- nor is a mark answered so
+marked_none : (a : Answer) → NeedsTransaction a → IsMarkedOrWaits a → ⊥
+marked_none (answer.Marked safe stamp) needs fits = needs
+marked_none (answer.WaitRing flushed) needs fits = needs
+marked_none a needs fits = fits
 
 none_pending : (c : Command) (a : Answer) → NeedsTransaction a → FitsPhase Pending c a → ⊥
 none_pending command.Begin a needs fits = subst NeedsTransaction fits needs
@@ -147,6 +151,7 @@ none_pending command.Seal a needs fits = subst NeedsTransaction fits needs
 none_pending command.Settle a needs fits = subst NeedsTransaction fits needs
 none_pending command.Commit a needs fits = subst NeedsTransaction fits needs
 none_pending command.Abort a needs fits = aborted a needs fits
+none_pending command.Mark a needs fits = subst NeedsTransaction fits needs
 none_pending command.Durable a needs fits = (none_alone a needs).durable fits
 none_pending command.Flush a needs fits = (none_alone a needs).flush fits
 none_pending command.Checkpoint a needs fits = (none_alone a needs).checkpoint fits
@@ -166,72 +171,128 @@ none_safe command.Seal a needs fits looks = subst NeedsTransaction fits needs
 none_safe command.Settle a needs fits looks = subst NeedsTransaction fits needs
 none_safe command.Commit a needs fits looks = subst NeedsTransaction looks needs
 none_safe command.Abort a needs fits looks = aborted a needs fits
+none_safe command.Mark a needs fits looks = marked_none a needs fits
 none_safe command.Durable a needs fits looks = (none_alone a needs).durable fits
 none_safe command.Flush a needs fits looks = (none_alone a needs).flush fits
 none_safe command.Checkpoint a needs fits looks = (none_alone a needs).checkpoint fits
 
--- ---- a session that isn't idle is in a transaction
+-- nor is what is sealed, where it is the mark of a snapshot
+settled_none : (x : Snapshot) (a : Answer) → NeedsTransaction a → IsSettled a → IsOfSealed (Some x) a → ⊥
+settled_none x (answer.Excluded stamp succ pred) needs fits of = of
+settled_none x (answer.Committed stamp succ pred) needs fits of = needs
+settled_none x (answer.Marked safe stamp) needs fits of = needs
+settled_none x (answer.WaitSeat seat seen) needs fits of = needs
+settled_none x (answer.WaitRing flushed) needs fits of = needs
+settled_none x a needs fits of = fits
+
+none_sealed : (c : Command) (x : Snapshot) (a : Answer) → NeedsTransaction a → FitsPhase Sealed c a → FitsSealed (Some x) c a → ⊥
+none_sealed command.Begin x a needs fits of = subst NeedsTransaction fits needs
+none_sealed command.Safe x a needs fits of = subst NeedsTransaction fits needs
+none_sealed (command.Get table key) x a needs fits of = subst NeedsTransaction fits needs
+none_sealed (command.Put table key value) x a needs fits of = subst NeedsTransaction fits needs
+none_sealed (command.Del table key) x a needs fits of = subst NeedsTransaction fits needs
+none_sealed (command.Next table from) x a needs fits of = subst NeedsTransaction fits needs
+none_sealed (command.Scan table low high) x a needs fits of = subst NeedsTransaction fits needs
+none_sealed (command.Tidy table key) x a needs fits of = subst NeedsTransaction fits needs
+none_sealed command.Save x a needs fits of = subst NeedsTransaction fits needs
+none_sealed (command.Back n) x a needs fits of = subst NeedsTransaction fits needs
+none_sealed command.Seal x a needs fits of = subst NeedsTransaction fits needs
+none_sealed command.Settle x a needs fits of = settled_none x a needs fits of
+none_sealed command.Commit x a needs fits of = subst NeedsTransaction fits needs
+none_sealed command.Abort x a needs fits of = subst NeedsTransaction fits needs
+none_sealed command.Mark x a needs fits of = subst NeedsTransaction fits needs
+none_sealed command.Durable x a needs fits of = (none_alone a needs).durable fits
+none_sealed command.Flush x a needs fits of = (none_alone a needs).flush fits
+none_sealed command.Checkpoint x a needs fits of = (none_alone a needs).checkpoint fits
+
+-- ---- a session that is active is in a transaction, one that is safe has a snapshot, and one that is sealed the one or the other
 
 abbrev pub InTransaction : Progress → Type 0
 InTransaction p = (t : Transaction) × (p.current ≡ Some t)
 
+abbrev pub InSnapshot : Progress → Type 0
+InSnapshot p = (x : Snapshot) × (p.snapshot ≡ Some x)
+
 abbrev pub IsIn : Phase → Progress → Type 0
 IsIn Idle p = Unit {0}
 IsIn Active p = InTransaction p
-IsIn Sealed p = InTransaction p
+IsIn Sealed p = InTransaction p ⊎ InSnapshot p
 IsIn Pending p = Unit {0}
-IsIn Safe p = Unit {0}
+IsIn Safe p = InSnapshot p
 
-stays_in : (phase : Phase) (p : Progress) → InTransaction p → IsIn phase p
-stays_in Idle p is = tt
-stays_in Active p is = is
-stays_in Sealed p is = is
-stays_in Pending p is = tt
-stays_in Safe p is = tt
-
-pub has_one : (c : Command) (a : Answer) (phase : Phase) (p : Progress) → NeedsTransaction a → FitsPhase phase c a → FitsSnapshot phase c a → IsIn phase p → InTransaction p
-has_one c a Idle p needs fits looks is = absurd (none_idle c a needs fits)
-has_one c a Active p needs fits looks is = is
-has_one c a Sealed p needs fits looks is = is
-has_one c a Pending p needs fits looks is = absurd (none_pending c a needs fits)
-has_one c a Safe p needs fits looks is = absurd (none_safe c a needs fits looks)
+pub has_one : (c : Command) (a : Answer) (phase : Phase) (p : Progress) → NeedsTransaction a → FitsPhase phase c a → FitsSnapshot phase c a → FitsSealed p.snapshot c a → IsIn phase p → InTransaction p
+has_one c a Idle p needs fits looks of is = absurd (none_idle c a needs fits)
+has_one c a Active p needs fits looks of is = is
+has_one c a Sealed p needs fits looks of (inl is) = is
+has_one c a Sealed p needs fits looks of (inr watched) = absurd (none_sealed c watched.0 a needs fits (subst (λ (o : Option Snapshot). FitsSealed o c a) watched.1 of))
+has_one c a Pending p needs fits looks of is = absurd (none_pending c a needs fits)
+has_one c a Safe p needs fits looks of is = absurd (none_safe c a needs fits looks)
 
 on : (c : Command) (a : Answer) (p : Progress) → InTransaction p → InTransaction (goes_on (Some c) a p)
 on c a p is = (with_line (Some c) a is.0, ap (option_map (with_line (Some c) a)) is.1)
 
+watches_on : (c : Command) (seat seen : ℕ) (p : Progress) → InSnapshot p → InSnapshot (goes_on (Some c) (answer.WaitSeat seat seen) p)
+watches_on command.Safe seat seen p is = (own_snapshot p, refl)
+watches_on c seat seen p is = (with_look (Some c) (answer.WaitSeat seat seen) is.0, ap (option_map (with_look (Some c) (answer.WaitSeat seat seen))) is.1)
+
+watched_on : (c : Command) (a : Answer) (p : Progress) → InSnapshot p → InSnapshot (goes_on (Some c) a p)
+watched_on c (answer.WaitSeat seat seen) p is = watches_on c seat seen p is
+watched_on c a p is = (with_look (Some c) a is.0, ap (option_map (with_look (Some c) a)) is.1)
+
+either_on : (c : Command) (a : Answer) (p : Progress) → InTransaction p ⊎ InSnapshot p → InTransaction (goes_on (Some c) a p) ⊎ InSnapshot (goes_on (Some c) a p)
+either_on c a p (inl is) = inl (on c a p is)
+either_on c a p (inr is) = inr (watched_on c a p is)
+
 on_in : (phase : Phase) (c : Command) (a : Answer) (p : Progress) → IsIn phase p → IsIn phase (goes_on (Some c) a p)
 on_in Idle c a p is = tt
 on_in Active c a p is = on c a p is
-on_in Sealed c a p is = on c a p is
+on_in Sealed c a p is = either_on c a p is
 on_in Pending c a p is = tt
-on_in Safe c a p is = tt
+on_in Safe c a p is = watched_on c a p is
 
--- a wait: a commit that waits is that of a transaction
+-- a wait: a commit that waits is that of a transaction, and a mark that of a snapshot
 abbrev NoWait : Answer → Type 0
 NoWait (answer.WaitSeat seat seen) = ⊥
+NoWait (answer.WaitRing flushed) = ⊥
 NoWait a = Unit {0}
 
-commit_waits : (seat seen : ℕ) (phase : Phase) (p : Progress) → FitsPhase phase command.Commit (answer.WaitSeat seat seen) → FitsSnapshot phase command.Commit (answer.WaitSeat seat seen) → IsIn phase p → InTransaction p
-commit_waits seat seen Idle p fits looks is = absurd (subst NoWait (sym fits) tt)
-commit_waits seat seen Active p fits looks is = is
-commit_waits seat seen Sealed p fits looks is = is
-commit_waits seat seen Pending p fits looks is = absurd (subst NoWait (sym fits) tt)
-commit_waits seat seen Safe p fits looks is = absurd (subst NoWait (sym looks) tt)
+commit_waits : (a : Answer) (phase : Phase) (p : Progress) → (NoWait a → ⊥) → FitsPhase phase command.Commit a → FitsSnapshot phase command.Commit a → IsIn phase p → InTransaction p
+commit_waits a Idle p waits fits looks is = absurd (waits (subst NoWait (sym fits) tt))
+commit_waits a Active p waits fits looks is = is
+commit_waits a Sealed p waits fits looks is = absurd (waits (subst NoWait (sym fits) tt))
+commit_waits a Pending p waits fits looks is = absurd (waits (subst NoWait (sym fits) tt))
+commit_waits a Safe p waits fits looks is = absurd (waits (subst NoWait (sym looks) tt))
 
-in_waits : (c : Command) (seat seen : ℕ) (phase : Phase) (p : Progress) → FitsPhase phase c (answer.WaitSeat seat seen) → FitsSnapshot phase c (answer.WaitSeat seat seen) → IsIn phase p
-    → IsIn (phase_after_wait (Some c) phase) (goes_on (Some c) (answer.WaitSeat seat seen) p)
-in_waits command.Commit seat seen phase p fits looks is = on command.Commit (answer.WaitSeat seat seen) p (commit_waits seat seen phase p fits looks is)
-in_waits command.Safe seat seen phase p fits looks is = tt
-in_waits c seat seen phase p fits looks is = on_in phase c (answer.WaitSeat seat seen) p is
+mark_waits : (a : Answer) (phase : Phase) (p : Progress) → (NoWait a → ⊥) → FitsPhase phase command.Mark a → IsIn phase p → InSnapshot p
+mark_waits a Idle p waits fits is = absurd (waits (subst NoWait (sym fits) tt))
+mark_waits a Active p waits fits is = absurd (waits (subst NoWait (sym fits) tt))
+mark_waits a Sealed p waits fits is = absurd (waits (subst NoWait (sym fits) tt))
+mark_waits a Pending p waits fits is = absurd (waits (subst NoWait (sym fits) tt))
+mark_waits a Safe p waits fits is = is
+
+in_waits : (c : Command) (a : Answer) (phase : Phase) (p : Progress) → (NoWait a → ⊥) → FitsPhase phase c a → FitsSnapshot phase c a → IsIn phase p → IsIn (phase_after_wait (Some c) phase) (goes_on (Some c) a p)
+in_waits command.Commit a phase p waits fits looks is = inl (on command.Commit a p (commit_waits a phase p waits fits looks is))
+in_waits command.Mark a phase p waits fits looks is = inr (watched_on command.Mark a p (mark_waits a phase p waits fits is))
+in_waits command.Safe a phase p waits fits looks is = tt
+in_waits c a phase p waits fits looks is = on_in phase c a p is
+
+-- a seal is one of a transaction in progress
+seal_one : (c : Command) (stamp : ℕ) (phase : Phase) (p : Progress) → IsAnswerTo c (answer.Sealed stamp) → refusal_of phase c ≡ None → IsIn phase p → InTransaction p
+seal_one command.Seal stamp Idle p may free is = absurd (cc)
+seal_one command.Seal stamp Active p may free is = is
+seal_one command.Seal stamp Sealed p may free is = absurd (cc)
+seal_one command.Seal stamp Pending p may free is = absurd (cc)
+seal_one command.Seal stamp Safe p may free is = absurd (cc)
+seal_one c stamp phase p may free is = absurd may
 
 in_heard : (s : ℕ) (c : Command) (a : Answer) (phase : Phase) (p : Progress) → FitsPhase phase c a → FitsSnapshot phase c a → IsIn phase p → IsIn (phase_after (Some c) a phase) (heard s (Some c) a p)
 in_heard s c (answer.Began begin) phase p fits looks is = (begun s begin p, refl)
-in_heard s c (answer.Safe begin) phase p fits looks is = tt
+in_heard s c (answer.Safe begin) phase p fits looks is = (with_begin begin (own_snapshot p), refl)
 in_heard s c (answer.Sealed stamp) phase p fits looks is =
-    let it = has_one c (answer.Sealed stamp) phase p tt fits looks is in (with_seal stamp it.0, ap (option_map (with_seal stamp)) it.1)
-in_heard s c (answer.WaitSeat seat seen) phase p fits looks is = in_waits c seat seen phase p fits looks is
-in_heard s c (answer.WaitRing flushed) phase p fits looks is =
-    stays_in (phase_after_wait (Some c) phase) (goes_on (Some c) (answer.WaitRing flushed) p) (on c (answer.WaitRing flushed) p (has_one c (answer.WaitRing flushed) phase p tt fits looks is))
+    let may = answers_so phase c (answer.Sealed stamp) refl fits in
+    let it = seal_one c stamp phase p may.1 may.0 is in inl (with_seal stamp it.0, ap (option_map (with_seal stamp)) it.1)
+in_heard s c (answer.WaitSeat seat seen) phase p fits looks is = in_waits c (answer.WaitSeat seat seen) phase p (λ x. x) fits looks is
+in_heard s c (answer.WaitRing flushed) phase p fits looks is = in_waits c (answer.WaitRing flushed) phase p (λ x. x) fits looks is
 in_heard s c (answer.Committed stamp succ pred) phase p fits looks is = tt
 in_heard s c (answer.Excluded stamp succ pred) phase p fits looks is = tt
 in_heard s c (answer.ExcludedEarly succ pred) phase p fits looks is = tt
@@ -240,6 +301,7 @@ in_heard s c (answer.Newer stamp) phase p fits looks is = tt
 in_heard s c (answer.Unsafe seat stamp) phase p fits looks is = tt
 in_heard s c answer.Aborted phase p fits looks is = tt
 in_heard s c answer.Ended phase p fits looks is = tt
+in_heard s c (answer.Marked safe stamp) phase p fits looks is = tt
 in_heard s c answer.NotIdle phase p fits looks is = is
 in_heard s c answer.NoTransaction phase p fits looks is = is
 in_heard s c answer.IsSealed phase p fits looks is = is
@@ -259,6 +321,7 @@ none_begun s asked (answer.Began begin) p never none = absurd (never tt)
 none_begun s asked (answer.Safe begin) p never none = none
 none_begun s asked (answer.Unsafe seat stamp) p never none = refl
 none_begun s asked answer.Ended p never none = refl
+none_begun s asked (answer.Marked safe stamp) p never none = refl
 none_begun s asked (answer.Sealed stamp) p never none = ap (option_map (with_seal stamp)) none
 none_begun s asked (answer.Committed stamp succ pred) p never none = refl
 none_begun s asked (answer.Excluded stamp succ pred) p never none = refl
@@ -411,6 +474,7 @@ of_heard s asked answer.NotSafe p are = are
 of_heard s asked (answer.Safe begin) p are = record { over = are.over; current = are.current }
 of_heard s asked (answer.Unsafe seat stamp) p are = of_ended s report.Aborts (record p { snapshot = Some (own_snapshot p) }) (record { over = are.over; current = are.current })
 of_heard s asked answer.Ended p are = of_ended s report.Aborts (record p { snapshot = option_map with_end p.snapshot }) (record { over = are.over; current = are.current })
+of_heard s asked (answer.Marked safe stamp) p are = of_ended s report.Aborts (record p { snapshot = option_map (with_mark safe stamp) p.snapshot }) (record { over = are.over; current = are.current })
 of_heard s asked a p are = of_on s asked a p are
 
 of_hears : (s : ℕ) (x : Said) (p : Progress) (b : Bool) → AreOf s p → AreOf s (cond b (heard s x.asked x.answer p) p)

@@ -79,6 +79,7 @@ impl Books {
                 self.end(session, Ending::Aborts)?;
             }
             Answer::Ended => self.end(session, Ending::Aborts)?,
+            Answer::Marked { .. } => self.end(session, Ending::Aborts)?,
             Answer::Sealed(stamp) => self.seal(session, stamp),
             Answer::Committed { stamp, succ, pred } => {
                 self.end(session, Ending::Commits { stamp, succ, pred })?;

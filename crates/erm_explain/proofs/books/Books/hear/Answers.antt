@@ -3,7 +3,7 @@ use Rattle.std.specs.Option.{option_map}
 use Rattle.erm_report.specs.declared.answer.Answer.TheVariants as answer
 use Rattle.erm_good_report.specs.Transactions.{Aborts, Excludes, Progress, ended, goes_on, own_snapshot, with_begin, with_line}
 use Rattle.erm_explain.specs.Books.{HasProgress}
-use Rattle.erm_explain.proofs.Moving.{begun_so, ended_so, goes_besides, heard_so, looked, refused_so, twice, waits_still, went_on}
+use Rattle.erm_explain.proofs.Moving.{begun_so, ended_so, goes_besides, heard_so, looked, marked_so, refused_so, twice, waits_still, went_on}
 use Rattle.erm_explain.proofs.books.Books.hear.Goals as goal
 
 pub returns-in-Began-clause-heard : goal.returns-in-Began-clause-heard
@@ -54,7 +54,7 @@ returns-in_ok-note-in_default-clause-heard c script answers at told s p has =
     let o = c.in_default in
     heard_so script answers c.note-in_default.new.self s (line.session == s) line.session line.command c.args.answer.now p
     (goes_besides script answers c.note-in_default.new.self s line.session line.command c.args.answer.now p o.not-Began o.not-Sealed o.not-Committed o.not-Excluded o.not-ExcludedEarly o.not-Owned o.not-Newer
-    o.not-Aborted o.not-NotIdle o.not-NoTransaction o.not-IsSealed o.not-NotSealed o.not-ReadOnly o.not-NotSafe o.not-Safe o.not-WaitSeat o.not-Unsafe o.not-Ended)
+    o.not-Aborted o.not-NotIdle o.not-NoTransaction o.not-IsSealed o.not-NotSealed o.not-ReadOnly o.not-NotSafe o.not-Safe o.not-WaitSeat o.not-Unsafe o.not-Ended o.not-Marked)
     (c.in_ok-note-in_default.ensures.notes script answers c.args.answer.now at told s p has)
 
 pub returns-in-Safe-clause-heard : goal.returns-in-Safe-clause-heard
@@ -93,3 +93,8 @@ pub returns-in_ok-end-in-Ended-clause-heard : goal.returns-in_ok-end-in-Ended-cl
 returns-in_ok-end-in-Ended-clause-heard c script answers at told s p has =
     rw c.in-Ended.is
     (ended_so script answers c.end-in-Ended.new.self s (c.args.line.now.session == s) Aborts p (c.in_ok-end-in-Ended.ensures.ends script answers s p has))
+
+pub returns-in_ok-end-in-Marked-clause-heard : goal.returns-in_ok-end-in-Marked-clause-heard
+returns-in_ok-end-in-Marked-clause-heard c script answers at told s p has =
+    rw c.in-Marked.is
+    (marked_so script answers c.end-in-Marked.new.self s (c.args.line.now.session == s) c.in-Marked.safe c.in-Marked.stamp Aborts p (c.in_ok-end-in-Marked.ensures.ends script answers s p has))
