@@ -62,9 +62,9 @@ impl<L: RowLaw> Lists<L> {
         outcome(&self.state.seat(seat).current)
     }
 
-    /// Decides a sealed transaction by the Serial Safety Net, or a mark, which has no versions to pass. It commits where its predecessor stamp lies below its successor
+    /// Decides a sealed transaction by the Serial Safety Net. It commits where its predecessor stamp lies below its successor
     /// stamp, and else is excluded, and leaves nothing. Or it waits, and stays sealed: for room in the ring, or for the first
-    /// other session that may count and isn't decided.
+    /// other session that may count and isn't decided. A mark has no versions to pass, and waits for the ring alone.
     pub fn settle(&mut self, seat: Seat) -> Result<Outcome, Wait>
         requires stands { Stands L.law self.old }
         requires session { IsSession (lists_view self.old) seat }

@@ -1,5 +1,5 @@
 //! A world of one session over rows in memory.
-ghost use Rattle.std.specs.Prelude.{[], ◌≡◌, ◌+◌, ◌<◌, ◌≤◌, ℕ, vec_capacity, vec_len};
+ghost use Rattle.std.specs.Prelude.{[], ◌≡◌, ◌+◌, ◌<◌, ◌≤◌, ℕ, false, vec_capacity, vec_len};
 ghost use Rattle.erm_model.specs.declared.limits.TheConstants.{OID_LIMIT, READ_LIMIT, SAVES, STOP, WRITE_LIMIT};
 ghost use Rattle.erm_model.specs.declared.outcome.Phase.TheVariants.{Active, Pending, Safe, Sealed};
 ghost use Rattle.erm_model.specs.Rows.{rows_of};

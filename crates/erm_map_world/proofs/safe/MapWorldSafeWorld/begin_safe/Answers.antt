@@ -21,3 +21,9 @@ invariant_of-self-clause-room_pending g c = λ pending.
     let s = c.begin.new.self in
     let one = the_first (map_of c.args.self.now) c.args.seat c.requires.session in
     s.room_active (begun_active g.L.RowLaw.law (map_of s) s.phase (work_in s.work) c.args.seat c.in_ok-begin.begin (view_of c.args.self.now) one c.in_ok-begin.ensures.ok)
+
+pub invariant_of-self-clause-below_stop_pending : goal.invariant_of-self-clause-below_stop_pending
+invariant_of-self-clause-below_stop_pending g c = λ pending.
+    let s = c.begin.new.self in
+    let one = the_first (map_of c.args.self.now) c.args.seat c.requires.session in
+    s.below_stop (begun_active g.L.RowLaw.law (map_of s) s.phase (work_in s.work) c.args.seat c.in_ok-begin.begin (view_of c.args.self.now) one c.in_ok-begin.ensures.ok)

@@ -18,3 +18,8 @@ pub invariant_of-self-clause-room_safe : goal.invariant_of-self-clause-room_safe
 invariant_of-self-clause-room_safe g c = λ safe.
     let s = c.args.self.now in
     s.room_pending (phase_is g.L.RowLaw.law (map_of s) s.phase (work_in s.work) c.args._seat c.requires.session Pending c.requires.pending)
+
+pub invariant_of-self-clause-below_stop_safe : goal.invariant_of-self-clause-below_stop_safe
+invariant_of-self-clause-below_stop_safe g c = λ safe.
+    let s = c.args.self.now in
+    s.below_stop_pending (phase_is g.L.RowLaw.law (map_of s) s.phase (work_in s.work) c.args._seat c.requires.session Pending c.requires.pending)
