@@ -35,7 +35,7 @@ use Rattle.erm_world.specs.Log.{IsLog, Log}
 use Rattle.erm_world.proofs.Lists.{∈-after, ∈-before, ∈-parts}
 use Rattle.erm_recover.specs.Opening.{Opens, open_block, opened}
 use Rattle.erm_crash.specs.Moments.{AtMoments, IsMoment, TearsApart}
-use Rattle.erm_crash.specs.Older.{KeepsFound, KeepsOlder, MeetsFound, MeetsOlder}
+use Rattle.erm_crash.specs.Older.{KeepsFound, KeepsMeeting, MeetsFound, MeetsOlder}
 use Rattle.erm_crash.proofs.Longer.{longer, only_open}
 use Rattle.erm_crash.proofs.Moments.{joined, last_write, parts_of, weaker}
 use Rattle.erm_crash.proofs.Opened.{at_opening}
@@ -106,7 +106,7 @@ module _ (sound : Rows → Type 0) where
   -- ---- flushes
 
   pub flush_older : (l m : Log) (slots : Slots) (found : List Block) (low : ℕ) (old new : List Step) → HoldsLog sound l slots old → low ≤ l.flushed → MeetsOlder sound low found (contents old)
-      → WritesFrom sound l.flushed m old new → KeepsOlder sound low found old new
+      → WritesFrom sound l.flushed m old new → KeepsMeeting sound low found old new
   flush_older l m slots found low old new h le before w = (
     (w.writes.more, w.writes.steps),
     λ now moment image is_image tears.
@@ -133,7 +133,7 @@ module _ (sound : Rows → Type 0) where
   )
 
   stopped_older : (low : ℕ) (found : List Block) (state : State) (respects : (a b : Rows) → SameRows a b → sound a ↔ sound b) (old new : List Step)
-      → AtMoments (Torn sound respects (Older low found) state) old new → KeepsOlder sound low found old new
+      → AtMoments (Torn sound respects (Older low found) state) old new → KeepsMeeting sound low found old new
   stopped_older low found state respects old new kept =
       weaker _ _ old new
       (λ now image torn tears pair blocks there.
@@ -151,7 +151,7 @@ module _
       (stand_within sound (start_of m) ((front ++ blocks) ++ rest) all b (∈-before (front ++ blocks) rest b (∈-after front blocks b within))).above
 
   save_older : (m : Log) (slots : Slots) (slot : Slot) (found : List Block) (low : ℕ) (mid new : List Step) → low ≤ m.opened.at → MeetsOlder sound low found (contents mid)
-      → SavesLog sound m slots slot mid new → KeepsOlder sound low found mid new
+      → SavesLog sound m slots slot mid new → KeepsMeeting sound low found mid new
   save_older m slots slot found low mid new le before s =
       let here : State = state_at m s.holds.front in
       let pair : Pair = s.holds.pair in
@@ -172,7 +172,7 @@ module _
       ])
 
   pub past_older : (m : Log) (slots : Slots) (slot : Slot) (found : List Block) (low : ℕ) (mid new : List Step) → IsLog sound m → low ≤ m.opened.at → MeetsOlder sound low found (contents mid)
-      → SavesLogPast sound m slots slot mid new → KeepsOlder sound low found mid new
+      → SavesLogPast sound m slots slot mid new → KeepsMeeting sound low found mid new
   past_older m slots slot found low mid new is le before s =
       let p = s.holds in
       let h = p.holds in
@@ -197,11 +197,11 @@ module _
       ])
 
   pub checkpoint_older : (l m : Log) (slots : Slots) (slot : Slot) (found : List Block) (low : ℕ) (old new : List Step) → HoldsLog sound l slots old → low ≤ l.flushed → low ≤ m.opened.at
-      → MeetsOlder sound low found (contents old) → Takes sound l.flushed m slots slot old new → KeepsOlder sound low found old new
+      → MeetsOlder sound low found (contents old) → Takes sound l.flushed m slots slot old new → KeepsMeeting sound low found old new
   checkpoint_older l m slots slot found low old new h le start before takes =
-      let flushed : KeepsOlder sound low found old takes.mid = flush_older sound l m slots found low old takes.mid h le before takes.flushes in
+      let flushed : KeepsMeeting sound low found old takes.mid = flush_older sound l m slots found low old takes.mid h le before takes.flushes in
       elim takes.saves [
-        | inl none ↦ subst (KeepsOlder sound low found old) (sym none) flushed
+        | inl none ↦ subst (KeepsMeeting sound low found old) (sym none) flushed
         | inr saves ↦
             let mid : List Step = takes.mid in
             let w = takes.flushes in
@@ -219,7 +219,7 @@ module _
 
 -- ---- moments that go on
 
-pub older_goes_on : (sound : Rows → Type 0) (found : List Block) (low : ℕ) (a b c : List Step) → KeepsOlder sound low found a b → KeepsOlder sound low found b c → KeepsOlder sound low found a c
+pub older_goes_on : (sound : Rows → Type 0) (found : List Block) (low : ℕ) (a b c : List Step) → KeepsMeeting sound low found a b → KeepsMeeting sound low found b c → KeepsMeeting sound low found a c
 older_goes_on sound found low a b c first second = joined _ a b c first second
 
 -- ---- openings

@@ -14,8 +14,8 @@ MeetsOlder sound place found image =
     (pair : Pair) (blocks : List Block) → Recovers sound image pair blocks → (b : Block) → b.stamp < place → (b ∈ blocks) ↔ ((b ∈ found) × ((base pair).at ≤ b.stamp))
 
 -- at each moment it does in each image
-abbrev pub KeepsOlder : (Rows → Type 0) → ℕ → List Block → List Step → List Step → Type 0
-KeepsOlder sound place found old new = AtMoments (λ now image. TearsApart sound now image → MeetsOlder sound place found image) old new
+abbrev pub KeepsMeeting : (Rows → Type 0) → ℕ → List Block → List Step → List Step → Type 0
+KeepsMeeting sound place found old new = AtMoments (λ now image. TearsApart sound now image → MeetsOlder sound place found image) old new
 
 -- while a log is opened recovery begins where it began, and meets the blocks found, or these and the one that opens the log
 abbrev pub MeetsFound : (Rows → Type 0) → State → Pair → List Block → Image → Type 0

@@ -18,7 +18,7 @@ ghost use Rattle.erm_log_words.specs.Words.{word_at};
 ghost use Rattle.erm_outside.specs.Disk.{Image, IsSettled, Step, contents};
 ghost use Rattle.erm_recover.specs.Opening.{Opens, opened};
 ghost use Rattle.erm_crash.specs.Kept.{IsJustOpened, KeepsBlocks, KeepsOpening, KeepsSince, LeavesLog};
-ghost use Rattle.erm_crash.specs.Older.{KeepsFound, KeepsOlder, MeetsOlder};
+ghost use Rattle.erm_crash.specs.Older.{KeepsFound, KeepsMeeting, MeetsOlder};
 ghost use Rattle.erm_crash.specs.Shipped.{GoesOnShipped, IsShipped};
 
 use erm_model::RowLaw;
@@ -119,14 +119,14 @@ pub fn openings_meet_the_blocks_found<L: RowLaw>()
 pub fn flushes_keep_older_blocks<L: RowLaw>()
     ensures { (before now : Log) (slots : DiskSlots) (found : List Block) (place : ℕ) (old new : List Step) → HoldsLog L.law.meets before slots old
         → place ≤ before.flushed → MeetsOlder L.law.meets place found (contents old) → WritesFrom L.law.meets before.flushed now old new
-        → KeepsOlder L.law.meets place found old new }
+        → KeepsMeeting L.law.meets place found old new }
 {}
 
 /// The same while a checkpoint is taken, of the blocks below the log's start.
 pub fn checkpoints_keep_older_blocks<L: RowLaw>()
     ensures { (before now : Log) (slots : DiskSlots) (run : ℕ) (found : List Block) (place : ℕ) (old new : List Step) → HoldsLog L.law.meets before slots old
         → place ≤ before.flushed → place ≤ now.opened.at → MeetsOlder L.law.meets place found (contents old)
-        → Takes L.law.meets before.flushed now slots (slot_at_end now run slots) old new → KeepsOlder L.law.meets place found old new }
+        → Takes L.law.meets before.flushed now slots (slot_at_end now run slots) old new → KeepsMeeting L.law.meets place found old new }
 {
     L::respects_rows();
     stored_words_tell_the_row();
@@ -136,7 +136,7 @@ pub fn checkpoints_keep_older_blocks<L: RowLaw>()
 pub fn checkpoints_below_keep_older_blocks<L: RowLaw>()
     ensures { (log : Log) (slots : DiskSlots) (slot : DiskSlot) (found : List Block) (place : ℕ) (old new : List Step) → IsLog L.law.meets log
         → place ≤ log.opened.at → MeetsOlder L.law.meets place found (contents old) → SavesLogPast L.law.meets log slots slot old new
-        → KeepsOlder L.law.meets place found old new }
+        → KeepsMeeting L.law.meets place found old new }
 {
     L::respects_rows();
     stored_words_tell_the_row();
@@ -144,8 +144,8 @@ pub fn checkpoints_below_keep_older_blocks<L: RowLaw>()
 
 /// What is so of these blocks at each moment from one list of steps to a second, and at each from there to a third, is so from the first to the third.
 pub fn older_blocks_go_on<L: RowLaw>()
-    ensures { (found : List Block) (place : ℕ) (a b c : List Step) → KeepsOlder L.law.meets place found a b → KeepsOlder L.law.meets place found b c
-        → KeepsOlder L.law.meets place found a c }
+    ensures { (found : List Block) (place : ℕ) (a b c : List Step) → KeepsMeeting L.law.meets place found a b → KeepsMeeting L.law.meets place found b c
+        → KeepsMeeting L.law.meets place found a c }
 {}
 
 /// A log that goes on behind one that keeps what its safe stamps promise keeps it too, where its own commits stay behind the place, and keep what it

@@ -62,8 +62,8 @@ pub record StandsFirst (log : Option LogPlace) (bytes : List ℕ) (part : Part) 
   pub may : MayCome log part
   pub spelled : (more : List ℕ) × (words_in bytes ≡ part_words part ++ more)
 
--- whether a block of the kind of this number may have so many words: an Open block and a mark five, a commit of whole rows seventeen more for each row, one of
--- rows up to their last word as many as there may be; a block that is passed over has those of a commit
+-- whether a block of the kind of this number may have so many words: an Open block and a mark five, a commit of whole rows seventeen more for each row,
+-- one of rows up to their last word as many as there may be; a block that is passed over has those of a commit
 abbrev pub has_size : ℕ → ℕ → Bool
 has_size code size =
     if (code == 3) || (code == 6) then size == LEAST_BLOCK else
