@@ -65,7 +65,7 @@ no_flush v t seat a did = in_either ⊥ v t seat command.Flush a (λ plain done.
 no_checkpoint : (v t : View) (seat : ℕ) (a : Answer) → DidIn (phase_at v seat) v seat command.Checkpoint a t → ⊥
 no_checkpoint v t seat a did = in_either ⊥ v t seat command.Checkpoint a (λ plain done. done) (λ has done. done) did
 
-not_flushed : (v t : View) (seat : ℕ) (c : Command) (place : ℕ) → IsAnswerTo c (answer.Flushed place) → DidIn (phase_at v seat) v seat c (answer.Flushed place) t → ⊥
+pub not_flushed : (v t : View) (seat : ℕ) (c : Command) (place : ℕ) → IsAnswerTo c (answer.Flushed place) → DidIn (phase_at v seat) v seat c (answer.Flushed place) t → ⊥
 not_flushed v t seat command.Flush place fits did = no_flush v t seat (answer.Flushed place) did
 not_flushed v t seat c place fits did = fits
 
@@ -73,7 +73,7 @@ not_empty : (v t : View) (seat : ℕ) (c : Command) (place : ℕ) → IsAnswerTo
 not_empty v t seat command.Flush place fits did = no_flush v t seat (answer.Empty place) did
 not_empty v t seat c place fits did = fits
 
-not_unfilled : (v t : View) (seat : ℕ) (c : Command) (place : ℕ) → IsAnswerTo c (answer.Unfilled place) → DidIn (phase_at v seat) v seat c (answer.Unfilled place) t → ⊥
+pub not_unfilled : (v t : View) (seat : ℕ) (c : Command) (place : ℕ) → IsAnswerTo c (answer.Unfilled place) → DidIn (phase_at v seat) v seat c (answer.Unfilled place) t → ⊥
 not_unfilled v t seat command.Flush place fits did = no_flush v t seat (answer.Unfilled place) did
 not_unfilled v t seat command.Checkpoint place fits did = no_checkpoint v t seat (answer.Unfilled place) did
 not_unfilled v t seat c place fits did = fits

@@ -14,6 +14,7 @@ pub mod Held
 pub mod Lines
 pub mod Logged
 pub mod Made
+pub mod Marks
 pub mod Moments
 pub mod Moves
 pub mod Numbers

@@ -21,12 +21,12 @@ use Rattle.erm_world.specs.World as world
 use Rattle.erm_good_report.specs.Opening.{InTurn, Opening}
 use Rattle.erm_good_report.specs.Phases.{Closed, IsAnswerTo, phase_after, refusal_in}
 use Rattle.erm_good_report.specs.Phases as report
-use Rattle.erm_good_report.specs.Refusals.{HasLogCause, HasUnfilledCause, IsAboveAll, IsSealedWith, IsUndecidedAt, Moment, NoneIsSealed, flushed_at, flushed_told, last_commit, moment_at, stamp_committed, IsLeastOpen}
+use Rattle.erm_good_report.specs.Refusals.{HasLogCause, HasUnfilledCause, IsAboveAll, IsSealedWith, IsUndecidedAt, Moment, NoneIsSealed, flushed_at, flushed_told, last_commit, moment_at, stamp_committed, IsLeastOpen, IsLeastUndecided}
 use Rattle.erm_good_report.specs.Transactions.{Aborts, Commits, Ending, Excludes, Progress, Said, Snapshot, Transaction, Unfinished, heard, nothing, progress_of, stamp_of, stamp_of_ending}
 use Rattle.erm_lines.specs.Answers.{DidAskDurable, DidIn, DidLine, IsCommitted, IsLastCommit}
 use Rattle.erm_lines.specs.Executions.{AreClosed, DidLog, DidLogLine, IsCourse, IsDecidedTo, IsExecution, IsOpeningOf, IsPendingAt, line_moves, move_of, said_in}
 use Rattle.erm_lines.specs.Laws.{ExecutionsGoOn, ExecutionsTell}
-use Rattle.erm_lines.specs.Told.{EndsAs, Tells, TellsCurrent, TellsOver, TellsNow, TellsWatched}
+use Rattle.erm_lines.specs.Told.{EndsAs, Tells, TellsCurrent, TellsOver, TellsNow, TellsWatched, TellsMark}
 use Rattle.erm_lines.proofs.Moved.{moved, said_move}
 use Rattle.erm_told.proofs.Ended.{reported}
 use Rattle.erm_told.proofs.Endings.{ending_stamp}
@@ -211,7 +211,7 @@ module _ (tell : ExecutionsTell) (go : ExecutionsGoOn) (v t : View) (script : Li
   first_session : (q : ℕ) → IsSession b q → IsSession v q
   first_session q session = still_session b v q (sym opening_is_first) session
 
-  told_there : (q : ℕ) → IsSession b q → Tells q (progress_of q m.before) (b.session q) × (report.phase_of q m.before ≡ phase_at b q)
+  pub told_there : (q : ℕ) → IsSession b q → Tells q (progress_of q m.before) (b.session q) × (report.phase_of q m.before ≡ phase_at b q)
   told_there q session = line_tells tell go v t script answers run closed are i l a at answered q (first_session q session)
 
   nothing_there : (q : ℕ) → (IsSession b q → ⊥) → (progress_of q m.before ≡ nothing) × (report.phase_of q m.before ≡ Idle)
@@ -219,20 +219,20 @@ module _ (tell : ExecutionsTell) (go : ExecutionsGoOn) (v t : View) (script : Li
       subst (KeepsNothing q) (said_first i script answers)
       (lines_nothing (take i script) (take i answers) v b start q (λ session. none (still_session v b q opening_is_first session)))
 
-  flushed_there : b.flushed ≡ flushed_at m
+  pub flushed_there : b.flushed ≡ flushed_at m
   flushed_there =
       sym (ap (λ (said : List Said). fold (λ (place : ℕ) (s : Said). flushed_told place s.answer) (opening.stamp + LEAST_BLOCK) said) (sym (said_first i script answers))
       ∙ ap (λ (place : ℕ). fold (λ (p : ℕ) (s : Said). flushed_told p s.answer) place (said_in (line_moves (take i script) (take i answers)))) (sym (run.opened.flushed ∙ starts.stamp))
       ∙ lines_told (take i script) (take i answers) v b start)
 
   -- a session that is told to be sealed is
-  record SealedThere (q : ℕ) : Type 0 where
-    session : IsSession b q
-    work : Work
-    stamp : ℕ
-    stand : (b.session q).stand ≡ world.sealed work stamp
+  pub record SealedThere (q : ℕ) : Type 0 where
+    pub session : IsSession b q
+    pub work : Work
+    pub stamp : ℕ
+    pub stand : (b.session q).stand ≡ world.sealed work stamp
 
-  sealed_there : (q : ℕ) → report.phase_of q m.before ≡ Sealed → SealedThere q
+  pub sealed_there : (q : ℕ) → report.phase_of q m.before ≡ Sealed → SealedThere q
   sealed_there q sealed = by (some_session b q)
     where
       by : IsSession b q ⊎ (IsSession b q → ⊥) → SealedThere q
@@ -258,23 +258,39 @@ module _ (tell : ExecutionsTell) (go : ExecutionsGoOn) (v t : View) (script : Li
       told_is (stamp_of u) s sealed.stamp told
       (is.1.stamp_is u within (of_session ∙ ap (λ (z : Transaction). z.session) same) (number ∙ ap (λ (z : Transaction). z.number) same))
 
+  -- a mark that is sealed, as it is told
+  pub record MarkThere (q : ℕ) (w : Work) : Type 0 where
+    pub snapshot : Snapshot
+    pub current : (progress_of q m.before).snapshot ≡ Some snapshot
+    pub tells : TellsMark snapshot w
+    pub sealed : report.phase_of q m.before ≡ Sealed
+
+  pub mark_there : (q : ℕ) → IsSession b q → (w : Work) (s : ℕ) → (b.session q).stand ≡ world.sealed w s → w.is_mark ≡ true → MarkThere q w
+  mark_there q session w s stand marks =
+      let told = told_there q session in
+      let own = marking_of (progress_of q m.before).snapshot w s marks (subst (λ (at : Stand). TellsWatched (progress_of q m.before).snapshot at) stand told.0.watched) in
+      record { snapshot = own.own; current = own.is; tells = own.tells; sealed = told.1 ∙ ap world.phase_of stand }
+
+  -- no transaction that isn't decided has a lesser stamp than what is sealed with the least one
+  least_of : (place : ℕ) → ((s : ℕ) → IsPendingAt b s → place ≤ s) → (other : ℕ) → IsUndecidedAt m other → place ≤ other
+  least_of place least other undecided =
+      let sealed = sealed_there undecided.session undecided.sealed.sealed in
+      let same = stamp_there undecided.session sealed undecided.transaction undecided.whole other undecided.sealed.current undecided.of undecided.same.0 undecided.same.1 undecided.told in
+      omega (arith, same, least sealed.stamp (record { seat = undecided.session; session = sealed.session; work = sealed.work; sealed = sealed.stand }))
+
+  pub least_at : (place : ℕ) (is : IsPendingAt b place) → ((s : ℕ) → IsPendingAt b s → place ≤ s) → is.work.is_mark ≡ false → IsLeastUndecided m place
+  least_at place is least plain =
+      let here = sealed_as is.seat is.session is.work place is.sealed plain in
+      record { session = is.seat; transaction = here.0; sealed = here.1; least = least_of place least }
+
   least_undecided : (place : ℕ) → IsPendingAt b place → ((s : ℕ) → IsPendingAt b s → place ≤ s) → IsLeastOpen m place
   least_undecided place is least = by is.work.is_mark refl
     where
-      below : (other : ℕ) → IsUndecidedAt m other → place ≤ other
-      below other undecided =
-          let sealed = sealed_there undecided.session undecided.sealed.sealed in
-          let same = stamp_there undecided.session sealed undecided.transaction undecided.whole other undecided.sealed.current undecided.of undecided.same.0 undecided.same.1 undecided.told in
-          omega (arith, same, least sealed.stamp (record { seat = undecided.session; session = sealed.session; work = sealed.work; sealed = sealed.stand }))
-
       by : (marks : Bool) → is.work.is_mark ≡ marks → IsLeastOpen m place
-      by false plain =
-          let here = sealed_as is.seat is.session is.work place is.sealed plain in
-          inl (record { session = is.seat; transaction = here.0; sealed = here.1; least = below })
+      by false plain = inl (least_at place is least plain)
       by true marks =
-          let told = told_there is.seat is.session in
-          let own = marking_of (progress_of is.seat m.before).snapshot is.work place marks (subst (λ (at : Stand). TellsWatched (progress_of is.seat m.before).snapshot at) is.sealed told.0.watched) in
-          inr (record { session = is.seat; snapshot = own.own; current = own.is; sealed = told.1 ∙ ap world.phase_of is.sealed; least = below })
+          let own = mark_there is.seat is.session is.work place is.sealed marks in
+          inr (record { session = is.seat; snapshot = own.snapshot; current = own.current; sealed = own.sealed; least = least_of place least })
 
   below_tail : (q : ℕ) (w : Work) (s : ℕ) → IsSession b q → HasStamp b q w s → s < b.tail
   below_tail q w s session has = (lawful.stamps q w s session has).1
@@ -296,7 +312,7 @@ module _ (tell : ExecutionsTell) (go : ExecutionsGoOn) (v t : View) (script : Li
           let same = stamp_there q sealed y u stamp current within of_session number told in
           omega (arith, same, below_tail q sealed.work sealed.stamp sealed.session (inr sealed.stand))
 
-  none_sealed : ((s : ℕ) → IsPendingAt b s → b.tail ≤ s) → NoneIsSealed m
+  pub none_sealed : ((s : ℕ) → IsPendingAt b s → b.tail ≤ s) → NoneIsSealed m
   none_sealed least q phase =
       let sealed = sealed_there q phase in
       let above = least sealed.stamp (record { seat = q; session = sealed.session; work = sealed.work; sealed = sealed.stand }) in

@@ -4,7 +4,7 @@
 #![tactic(auto)]
 
 ghost use Rattle.erm_causes.specs.Laws.{CoursesHaveSafeSnapshots, RunsDrawInReach, RunsRefuseForOthers, RunsTellLog, RunsTellSaves, RunsTouchTables};
-ghost use Rattle.erm_lines.specs.Laws.{PartsHaveCauses, PartsHaveSafeSnapshots, PartsRefuseWithCause, RunsAreSerialWithSnapshots, RunsHaveCauses, RunsHaveSafeSnapshots, RunsRefuseWithCause};
+ghost use Rattle.erm_lines.specs.Laws.{CoursesHaveMarks, PartsHaveCauses, PartsHaveMarks, PartsHaveSafeSnapshots, PartsRefuseWithCause, RunsAreSerialWithSnapshots, RunsHaveCauses, RunsHaveMarks, RunsHaveSafeSnapshots, RunsRefuseWithCause};
 
 /// Each object of a run has one table: that of the line that made it, or that whose tree reached it at the opening. Each
 /// transaction that the report tells has a line of the table of each object that it read, and one that writes in the table of each
@@ -134,6 +134,29 @@ pub fn parts_have_safe_snapshots()
     ensures { PartsHaveSafeSnapshots }
 {
     courses_have_safe_snapshots();
+}
+
+/// Each outcome of what a run so far has sealed is that of a mark just where its session has a snapshot. Each mark told tells its stamps, apart from
+/// all others, and where one waits for room, or a flush comes to one, that has its cause.
+pub fn courses_have_marks()
+    ensures { CoursesHaveMarks }
+{
+    erm_told::executions_tell_sessions();
+    erm_told::executions_go_on();
+}
+
+/// So it is in a whole run.
+pub fn runs_have_marks()
+    ensures { RunsHaveMarks }
+{
+    courses_have_marks();
+}
+
+/// And in one that was cut off.
+pub fn parts_have_marks()
+    ensures { PartsHaveMarks }
+{
+    courses_have_marks();
 }
 
 /// Run in the serial order of all, the commits that a report tells and its safe snapshots that ended give their replies.

@@ -38,7 +38,7 @@ part_so_far v t script answers part = record {
   closes = refl;
 }
 
-none_closed : AreClosed [] []
+pub none_closed : AreClosed [] []
 none_closed = record { ascend = all_pairs (λ (a b : Closed). a.session < b.session) [] tt; only = λ c m. absurd (none_in_nil c m); all = λ c m. absurd (none_in_nil c m) }
 
 -- a fact of each run so far is one of whole runs, and of those that were cut off

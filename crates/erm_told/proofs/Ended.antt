@@ -27,14 +27,14 @@ pub all_moves : (v t : View) (script : List ScriptLine) (answers : List Answer) 
 all_moves v t script answers run = executed_both (line_moves script answers) run.closing v run.between t run.lines run.closes
 
 -- one that was sealed has its stamp still
-has_still : (v : View) (seat : ℕ) (w : Work) (stamp : ℕ) → IsStillSealed w stamp (v.session seat) → HasStamp v seat w stamp
+pub has_still : (v : View) (seat : ℕ) (w : Work) (stamp : ℕ) → IsStillSealed w stamp (v.session seat) → HasStamp v seat w stamp
 has_still v seat w stamp (inl still) = inr still
 has_still v seat w stamp (inr (f, rest, front, over, work, stamped)) =
     inl (f, subst (λ (fs : List Finished). f ∈ fs) (sym over) (∈-second front (f ∷ rest) f (∈-head f rest)), work, stamped)
 
 -- OF A SESSION one transaction has a number, and so one stamp.
 module _ (v : View) (lawful : IsSerializable sound_law v) (seat : ℕ) (session : IsSession v seat) where
-  one_number : (f g : Finished) → f ∈ (v.session seat).over → g ∈ (v.session seat).over → f.work.number ≡ g.work.number → f ≡ g
+  pub one_number : (f g : Finished) → f ∈ (v.session seat).over → g ∈ (v.session seat).over → f.work.number ≡ g.work.number → f ≡ g
   one_number f g m n same =
       let numbered = (lawful.numbered seat session).over in
       let first = numbered m.0 f m.1 in
@@ -56,7 +56,7 @@ module _ (v : View) (lawful : IsSerializable sound_law v) (seat : ℕ) (session 
       let within = slice_get_within (v.session seat).over over.0 f over.1 in
       absurd (omega (arith, first, last, within, same))
 
-  one_stamp : (w x : Work) (m n : ℕ) → HasStamp v seat w m → HasStamp v seat x n → w.number ≡ x.number → m ≡ n
+  pub one_stamp : (w x : Work) (m n : ℕ) → HasStamp v seat w m → HasStamp v seat x n → w.number ≡ x.number → m ≡ n
   one_stamp w x m n (inl (f, over, work, stamped)) (inl (g, then_over, then_work, then_stamped)) same =
       let number : f.work.number ≡ g.work.number = ap (λ (u : Work). u.number) work ∙ same ∙ sym (ap (λ (u : Work). u.number) then_work) in
       the_number m n (sym stamped ∙ ap (λ (h : Finished). world.stamp_of h.fate) (one_number f g over then_over number) ∙ then_stamped)

@@ -179,7 +179,7 @@ module _ (v : View) (said : List Said) (tells : (seat : ℕ) → IsSession v sea
   now : (seat : ℕ) → IsSession v seat → (t : Transaction) → (progress_of seat said).current ≡ Some t → TellsNow seat (Some t) (v.session seat).stand
   now seat session t is = subst (λ (o : Option Transaction). TellsNow seat o (v.session seat).stand) is (tells seat session).now
 
-  in_seat : (seat : ℕ) (t : Transaction) → IsSession v seat → t ∈ of_seat seat → IsToldIn v seat t
+  pub in_seat : (seat : ℕ) (t : Transaction) → IsSession v seat → t ∈ of_seat seat → IsToldIn v seat t
   in_seat seat t session m =
       ⊎_elim
       (λ (over : t ∈ (progress_of seat said).over).

@@ -6,3 +6,4 @@ pub mod Ends
 pub mod Safe
 pub mod Among
 pub mod Courses
+pub mod Marks
