@@ -24,7 +24,7 @@ use Rattle.erm_machine.proofs.Listed.{∈-cons, ∈-filter, ∈-first, ∈-head}
 use Rattle.erm_block.specs.declared.block.Block.{Block}
 use Rattle.erm_block.specs.Block.{Entry}
 use Rattle.erm_block.proofs.Reading.{same_block}
-use Rattle.erm_core_blocks.specs.Spelled.{HasBlock, kind_of}
+use Rattle.erm_core_blocks.specs.Spelled.{HasBlock, kind_of, turn_of}
 use Rattle.erm_core_view.specs.Views.{IsBetween, IsQuiet}
 use Rattle.erm_core_view.proofs.Lives.{one_attempt}
 use Rattle.erm_log_list.specs.LogOf.{AreBlocksIn, IsBlockIn, IsDecidedUpTo, ranges_below}
@@ -175,7 +175,7 @@ module _ (sessions : ℕ) (c : Core) (sound : Sound c) (quiet : IsQuiet sessions
       in
       let of = is.is_of in
       ap (λ (a : Attempt). block_of c.shared.run r.seat a) (sym same)
-      ∙ same_block (kind_of is.attempt.decision) c.shared.run is.attempt.stamp is.attempt.succ r.seat is.attempt.number _ is.attempt.size _ b (sym of.kind_is) (sym of.run_is) (sym of.stamp)
+      ∙ same_block (kind_of is.attempt.decision) c.shared.run is.attempt.stamp (turn_of is.attempt.decision is.attempt) r.seat is.attempt.number _ is.attempt.size _ b (sym of.kind_is) (sym of.run_is) (sym of.stamp)
       (sym of.succ) (sym of.of_seat) (sym of.number) (sym of.count) (sym of.size) (ap (λ (es : List Entry). let v : ArrayVec Entry = record { items = es } in v) (sym of.rows))
 
   pub blocks_are : (rs : List Span) (bs : List Block) → ((r : Span) → r ∈ rs → r ∈ c.shared.log) → AreBlocksIn c rs bs → bs ≡ blocks_in c.shared.run (λ q. (c.seats q).over) rs
