@@ -190,6 +190,7 @@ module _ {v : View} {sessions : ℕ} {said : List Said} (told : IsToldBy v sessi
         omega (arith, ends.1, excluded_of orderly t it s u p is table key gets was next stamp next_succ writer (omega (arith, before, ends.0)))
     excluded_with (world.commits s u p) is own succ pred ends table key stamp next_succ next gets was writer before = absurd ends
     excluded_with world.aborts is own succ pred ends table key stamp next_succ next gets was writer before = absurd ends
+    excluded_with (world.marked s safe) is own succ pred ends table key stamp next_succ next gets was writer before = absurd ends
 
     high_at : t ∈ all → (ending : Ending) → t.ending ≡ ending → IsHighAt ending all t
     high_at m Unfinished is = tt

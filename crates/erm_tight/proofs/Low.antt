@@ -55,6 +55,7 @@ module _ {v : View} {sessions : ℕ} {said : List Said} (told : IsToldBy v sessi
         low_of s (ap stamp_of is) pred (subst (λ (n : ℕ). AreBelow it.one.work n) (sym ends.2) bounded)
     low_commit (world.excluded s u p) is stamp succ pred ends = absurd ends
     low_commit world.aborts is stamp succ pred ends = absurd ends
+    low_commit (world.marked s safe) is stamp succ pred ends = absurd ends
 
     low_excluded : (fate : Fate) → it.one.fate ≡ fate → (stamp succ pred : ℕ) → EndsAs (Excludes (Some stamp) succ pred) fate → IsLowEnd all t pred
     low_excluded (world.excluded s u p) is stamp succ pred ends =
@@ -62,6 +63,7 @@ module _ {v : View} {sessions : ℕ} {said : List Said} (told : IsToldBy v sessi
         low_of s (ap stamp_of is) pred (subst (λ (n : ℕ). AreBelow it.one.work n) (sym ends.2) bounded)
     low_excluded (world.commits s u p) is stamp succ pred ends = absurd ends
     low_excluded world.aborts is stamp succ pred ends = absurd ends
+    low_excluded (world.marked s safe) is stamp succ pred ends = absurd ends
 
     low_at : (ending : Ending) → t.ending ≡ ending → IsLowAt ending all t
     low_at Unfinished is = tt

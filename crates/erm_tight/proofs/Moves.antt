@@ -1,5 +1,5 @@
 -- Each move of an execution leaves all sessions so that their transactions' lines tell what they touched.
-use Rattle.std.proofs.Common.{◌≡◌, ℕ, Bool, true, cond, length, List, [], ◌∷◌, ◌++◌, Option, Some, None, inl, inr, refl, sym, ap, ◌∙◌, subst, ne_eqb}
+use Rattle.std.proofs.Common.{◌≡◌, ℕ, Bool, true, cond, length, List, [], ◌∷◌, ◌++◌, Option, Some, None, inl, inr, refl, sym, ap, ◌∙◌, subst, ne_eqb, false}
 use Rattle.std.specs.Option.{option_map, option_to_list}
 use Rattle.std.proofs.lemmas.Bool.Decides.{eqb_tells}
 use Rattle.erm_model.specs.declared.history.VersionWritten.{VersionWritten}
@@ -11,7 +11,7 @@ use Rattle.erm_world.specs.Calls.{DidSeal, IsDone, Works}
 use Rattle.erm_world.specs.Going.{Extends}
 use Rattle.erm_world.specs.Laws.{IsSerializable}
 use Rattle.erm_world.specs.Snapshots.{snapshot_not_active}
-use Rattle.erm_world.specs.World.{Fate, Finished, IsSession, Session, Stand, View, Work, phase_at, phase_of, stamp_of, work_at, work_of}
+use Rattle.erm_world.specs.World.{Fate, Finished, IsSession, Session, Stand, View, Work, phase_at, phase_of, stamp_of, work_at, work_of, marking}
 use Rattle.erm_world.specs.World as world
 use Rattle.erm_world.proofs.Saves.{begins_without}
 use Rattle.erm_maps.specs.Runs.{IsAnswered, IsRunOf, Kept, going_back, kept_at}
@@ -30,16 +30,16 @@ use Rattle.erm_lines.proofs.Saved.{IsRunAt, kept_back, kept_saving, saved_runs, 
 use Rattle.erm_causes.proofs.Answered.{done_turned, operated_turned}
 use Rattle.erm_causes.proofs.Fine.{Turned, number_told, still_session, turned_then}
 use Rattle.erm_causes.proofs.Lines.{made_at_once, named_works}
-use Rattle.erm_causes.proofs.Moves.{AllTold, IsMoveInRange, heard_move, heard_one, itself_turned, move_told, own_turned, seal_told, savepoint_turned, session_before, watched_turned, work_now}
+use Rattle.erm_causes.proofs.Moves.{AllTold, IsMoveInRange, heard_move, heard_one, itself_turned, move_told, own_turned, seal_told, savepoint_turned, session_before, watched_turned, work_now, mark_turned}
 use Rattle.erm_causes.proofs.Operated.{GoesOnBy, operated}
 use Rattle.erm_causes.proofs.Saved.{AtSavepoint, asked_back, asked_save, saves_of}
 use Rattle.erm_causes.proofs.Saved as savepoint
 use Rattle.erm_told_limits.proofs.Ran.{active_with, ran}
-use Rattle.erm_causes.specs.Touched.{Together}
+use Rattle.erm_causes.specs.Touched.{Together, IsBareMark}
 use Rattle.erm_causes.proofs.Together.{together_one_more, together_untold}
 use Rattle.erm_causes.proofs.Tables.{AreMovesInRange, heard_moves}
 use Rattle.erm_causes.proofs.Quiet.{HasNow, SameLines, SameNow, now_works}
-use Rattle.erm_causes.proofs.Snapshots.{LeavesNone, Watches, none_told}
+use Rattle.erm_causes.proofs.Snapshots.{LeavesNone, Watches, none_told, mark_told, marked_none}
 use Rattle.erm_causes.proofs.Snapshots as snapshots
 use Rattle.erm_tight.proofs.Lines.{Called, called}
 use Rattle.erm_tight.proofs.Lines as called
@@ -50,6 +50,8 @@ use Rattle.erm_tight.proofs.Saved.{Goes, goes_back, goes_nothing, goes_saving, g
 use Rattle.erm_tight.proofs.Stays.{kept_from, saved_same, stays_of}
 use Rattle.erm_tight.proofs.Went.{leaves}
 use Rattle.erm_tight.proofs.Whole.{KeyLaws}
+use Rattle.erm_world.specs.Safe.{DidMark}
+use Rattle.erm_told.proofs.Sessions.{now_watching}
 
 -- one that is over tells it where it was sealed, and its versions are bounded
 pub record MarkedOne (t : Transaction) (f : Finished) : Type 0 where
@@ -67,6 +69,7 @@ Saves = List (List VersionWritten)
 abbrev pub MarkedNow : Option Transaction → Saves → Stand → Type 0
 MarkedNow None held world.idle = Unit {0}
 MarkedNow None held (world.snapshot x) = Unit {0}
+MarkedNow None held (world.sealed w stamp) = IsBareMark w
 MarkedNow (Some t) held (world.active w) = Goes t.lines (record { work = w; saves = held }) × ((steps : List Step) × IsRunOf (record { work = w; saves = held }) steps)
 MarkedNow (Some t) held (world.sealed w stamp) = Marks t.lines w
 MarkedNow current held stand = ⊥
@@ -99,14 +102,17 @@ pub record HasMarks (current : Option Transaction) (w : Work) : Type 0 where
 
 pub now_has : (current : Option Transaction) (held : Saves) (stand : Stand) (w : Work) → MarkedNow current held stand → HasNow stand w → HasMarks current w
 now_has None held world.idle w now (inl active) = cc
-now_has None held world.idle w now (inr (stamp, sealed)) = cc
+now_has None held world.idle w now (inr (stamp, sealed, plain)) = cc
 now_has None held (world.active u) w now has = absurd now
-now_has None held (world.sealed u stamp) w now has = absurd now
+now_has None held (world.sealed u stamp) w now (inl active) = cc
+now_has None held (world.sealed u stamp) w now (inr (other, sealed, plain)) =
+    let same : u ≡ w = work_now (world.sealed u stamp) w (inr (other, sealed, plain)) in
+    let no : true ≡ false = sym (ap (λ (x : Work). x.is_mark) now) ∙ ap (λ (x : Work). x.is_mark) same ∙ plain in absurd (cc)
 now_has (Some t) held world.idle w now has = absurd now
 now_has (Some t) held (world.active u) w now has = record { told = t; is = refl; marks = subst (λ (x : Work). Marks t.lines x) (work_now (world.active u) w has) now.0.marks }
 now_has (Some t) held (world.sealed u stamp) w now has = record { told = t; is = refl; marks = subst (λ (x : Work). Marks t.lines x) (work_now (world.sealed u stamp) w has) now }
 now_has None held (world.snapshot s) w now (inl active) = cc
-now_has None held (world.snapshot s) w now (inr (stamp, sealed)) = cc
+now_has None held (world.snapshot s) w now (inr (stamp, sealed, plain)) = cc
 now_has (Some t) held (world.snapshot s) w now has = absurd now
 
 -- the active one
@@ -120,7 +126,7 @@ pub record IsGoing (current : Option Transaction) (k : Kept) : Type 0 where
 pub now_active : (current : Option Transaction) (held : Saves) (stand : Stand) → MarkedNow current held stand → phase_of stand ≡ Active → IsGoing current (record { work = work_of stand; saves = held })
 now_active None held world.idle now active = cc
 now_active None held (world.active w) now active = absurd now
-now_active None held (world.sealed w stamp) now active = absurd now
+now_active None held (world.sealed w stamp) now active = cc
 now_active (Some t) held world.idle now active = absurd now
 now_active (Some t) held (world.active w) now active = record { told = t; is = refl; goes = now.0; steps = now.1.0; run = now.1.1 }
 now_active (Some t) held (world.sealed w stamp) now active = cc
@@ -134,6 +140,13 @@ seal_marked v t seat stamp p active did marked =
       over = marked.over;
       now = subst (λ (r : Option Transaction). MarkedNow r (t.saves seat) (world.sealed (work_at v seat) stamp)) (sym going.is) going.goes.marks;
     })
+
+mark_marked : (v t : View) (seat stamp : ℕ) (p : Progress) → DidMark v seat stamp t → TellsNow seat p.current (v.session seat).stand → IsMarked p (v.saves seat) (v.session seat)
+    → IsMarked p (t.saves seat) (t.session seat)
+mark_marked v t seat stamp p did tells marked =
+    let none = now_watching seat p.current did.snapshot (subst (λ (at : Stand). TellsNow seat p.current at) did.stands tells) in
+    subst (λ (s : Session). IsMarked p (t.saves seat) s) (sym did.seals.own)
+    (record { over = marked.over; now = subst (λ (o : Option Transaction). MarkedNow o (t.saves seat) (world.sealed (marking did.snapshot) stamp)) (sym none) refl })
 
 begun_marked : (v t : View) (seat number begin : ℕ) (p : Progress) (told : Transaction) → told.lines ≡ [] → IsRunOf (record { work = world.begun number begin; saves = [] }) []
     → (v.session seat).stand ≡ world.idle → Works v seat (world.begun number begin) t
@@ -183,7 +196,20 @@ watched_marked v t seat asked a p (snapshots.ends number begin did) hears none m
     let f : Finished = record { work = world.begun number begin; fate = world.aborts } in
     subst (λ (s : Session). IsMarked (heard seat asked a p) (t.saves seat) s) (sym did.own)
     (none_marked (heard seat asked a p) (t.saves seat) (record { over = (v.session seat).over ++ f ∷ []; stand = world.idle }) p.over heard_is.0 heard_is.1
-    (together_untold MarkedOne p.over (v.session seat).over f marked.over refl) tt)
+    (together_untold MarkedOne p.over (v.session seat).over f marked.over (inl refl)) tt)
+
+-- a mark is over
+over_marked : (v t : View) (seat : ℕ) (asked : Option Command) (a : Answer) (p : Progress) (w : Work) (own : ℕ) → (v.session seat).stand ≡ world.sealed w own → w.is_mark ≡ true
+    → IsDone v seat w (world.marked own w.begin) t → LeavesNone asked a → TellsNow seat p.current (v.session seat).stand → IsMarked p (v.saves seat) (v.session seat)
+    → IsMarked (heard seat asked a p) (t.saves seat) (t.session seat)
+over_marked v t seat asked a p w own stand marks did hears tells marked =
+    let none : p.current ≡ None = marked_none seat p.current w own marks (subst (λ (at : Stand). TellsNow seat p.current at) stand tells) in
+    let bare : IsBareMark w = subst (λ (o : Option Transaction). MarkedNow o (v.saves seat) (world.sealed w own)) none (subst (λ (at : Stand). MarkedNow p.current (v.saves seat) at) stand marked.now) in
+    let heard_is = hears seat p none in
+    let f : Finished = record { work = w; fate = world.marked own w.begin } in
+    subst (λ (s : Session). IsMarked (heard seat asked a p) (t.saves seat) s) (sym did.own)
+    (none_marked (heard seat asked a p) (t.saves seat) (record { over = (v.session seat).over ++ f ∷ []; stand = world.idle }) p.over heard_is.0 heard_is.1
+    (together_untold MarkedOne p.over (v.session seat).over f marked.over (inr (record { bare = bare; stamp = own; safe = w.begin; ended = refl }))) tt)
 
 quiet_marked : NoneRuns → (v : View) (seat : ℕ) (asked : Option Command) (a : Answer) (t : View) (p : Progress) → IsSerializable sound_law t
     → TellsNow seat p.current (v.session seat).stand → Quiet v seat asked a t → IsMarked p (v.saves seat) (v.session seat)
@@ -200,6 +226,7 @@ quiet_marked run v seat asked a t p holds tells (quiet.done w fate ending now di
     subst (λ (q : Progress). IsMarked q (t.saves seat) (t.session seat)) (sym (hears seat p)) (done_marked v t seat w fate ending p now did (bounded holds) tells marked)
 quiet_marked run v seat asked a t p holds tells (quiet.watched starts did hears) marked =
     watched_marked v t seat asked a p did hears (none_told v seat p.current starts tells) marked
+quiet_marked run v seat asked a t p holds tells (quiet.marked w own stand marks did hears) marked = over_marked v t seat asked a p w own stand marks did hears tells marked
 
 quiet_turned : (v : View) (seat : ℕ) (asked : Option Command) (a : Answer) (t : View) → Quiet v seat asked a t → Turned v seat t
 quiet_turned v seat asked a t (quiet.still is hears) = itself_turned v t seat is
@@ -207,11 +234,14 @@ quiet_turned v seat asked a t (quiet.begins number begin idle at works hears) = 
 quiet_turned v seat asked a t (quiet.seals stamp active did hears) = own_turned v t seat (world.sealed (work_at v seat) stamp) did.own did.others did.saves did.opening
 quiet_turned v seat asked a t (quiet.done w fate ending now did bounded decides hears) = done_turned v t seat w fate did
 quiet_turned v seat asked a t (quiet.watched starts did hears) = watched_turned v t seat did
+quiet_turned v seat asked a t (quiet.marked w own stand marks did hears) = done_turned v t seat w (world.marked own w.begin) did
 
 lined_turned : (v t : View) (seat : ℕ) (c : Command) (a : Answer) → Lined v seat c a t → Turned v seat t
 lined_turned v t seat c a (quiet.quiet did) = quiet_turned v seat (Some c) a t did
 lined_turned v t seat c a (quiet.sealed_first stamp between active sealed did) =
     turned_then v between t seat (own_turned v between seat (world.sealed (work_at v seat) stamp) sealed.own sealed.others sealed.saves sealed.opening) (quiet_turned between seat (Some c) a t did)
+lined_turned v t seat c a (quiet.marked_first stamp between sealed did) =
+    turned_then v between t seat (mark_turned v between seat stamp sealed) (quiet_turned between seat (Some c) a t did)
 lined_turned v t seat c a (quiet.named k names active did) = operated_turned v t seat c a active (operated v t seat c active a did)
 lined_turned v t seat c a (quiet.saves is active did) = savepoint_turned v t seat (asked_save v t seat a did)
 lined_turned v t seat c a (quiet.backs n is active did) = savepoint_turned v t seat (asked_back v t seat n a did)
@@ -336,6 +366,9 @@ module _ (laws : KeyLaws) (run : NoneRuns) (stay : (w u : Work) (steps : List St
     lined_marked seat c a session range (quiet.sealed_first stamp between active sealed did) =
         quiet_marked run between seat (Some c) a t (p seat) holds (seal_told v between seat stamp (p seat) active sealed (told seat session).tells.now) did
         (seal_marked v between seat stamp (p seat) active sealed (marked seat session))
+    lined_marked seat c a session range (quiet.marked_first stamp between sealed did) =
+        quiet_marked run between seat (Some c) a t (p seat) holds (mark_told v between seat stamp (p seat).current sealed (told seat session).tells.now) did
+        (mark_marked v between seat stamp (p seat) sealed (told seat session).tells.now (marked seat session))
     lined_marked seat c a session range (quiet.named k names active did) =
         called_marked v t seat c a k session active names holds (p seat) (told seat session).tells.now (marked seat session) (called laws v t seat c k names range active a did)
     lined_marked seat c a session range (quiet.saves is active did) =

@@ -7,12 +7,12 @@ use Rattle.erm_model.specs.History.{Makes}
 use Rattle.erm_model.specs.Member.{◌∈◌}
 use Rattle.erm_model.specs.RowTransaction.{ClaimedBy, Event, did_claim, did_make, did_read, did_write}
 use Rattle.erm_node.specs.Sound.{sound_law}
-use Rattle.erm_world.specs.Calls.{DidClaim, DidSeal, HasNoNewer}
+use Rattle.erm_world.specs.Calls.{DidClaim, DidSeal, HasNoNewer, Seals}
 use Rattle.erm_world.specs.Calls as calls
 use Rattle.erm_world.specs.Face.{Answered}
 use Rattle.erm_world.specs.Laws.{IsCommitOf, IsSerializable}
 use Rattle.erm_world.specs.Saves.{AreSavesOf}
-use Rattle.erm_world.specs.World.{Finished, IsSession, Session, View, Work, history_of, phase_at, phase_of, stamp_of, work_at, work_of}
+use Rattle.erm_world.specs.World.{Finished, IsSession, Session, View, Work, history_of, phase_at, phase_of, stamp_of, work_at, work_of, marking, Stand}
 use Rattle.erm_world.specs.World as world
 use Rattle.erm_world.proofs.Commits.{tells_commits}
 use Rattle.erm_world.proofs.Txns.{went}
@@ -34,6 +34,7 @@ use Rattle.erm_tight.proofs.Newest.{IsNewestMaker, newest_maker}
 use Rattle.erm_tight.proofs.Quiet.{Lined, Quiet, closed_quiet, lined}
 use Rattle.erm_tight.proofs.Quiet as quiet
 use Rattle.erm_tight.proofs.Undecided.{AreApart, IsOrderly, aborted_orderly, active_orderly, done_orderly, flushed_orderly, none_claimed, sealed_orderly, snapshot_orderly}
+use Rattle.erm_model.specs.declared.history.VersionWritten.{VersionWritten}
 
 -- CLAIMED. Nobody else made a version of a claimed object from the begin on.
 module _ (v : View) (seat : ℕ) (session : IsSession v seat) (active : phase_at v seat ≡ Active) (before : IsOrderly v) where
@@ -99,7 +100,7 @@ AreStampedBelow v = (q stamp : ℕ) (f : Finished) → IsSession v q → f ∈ (
 
 is_now : (v : View) (seat : ℕ) (w : Work) → HasNow (v.session seat).stand w → work_at v seat ≡ w
 is_now v seat w (inl active) = ap work_of active
-is_now v seat w (inr (stamp, sealed)) = ap work_of sealed
+is_now v seat w (inr (stamp, sealed, plain)) = ap work_of sealed
 
 watched_orderly : (v t : View) (seat : ℕ) → Watches v seat t → IsOrderly v → IsOrderly t
 watched_orderly v t seat (snapshots.looks is) before = subst IsOrderly (sym is) before
@@ -112,17 +113,20 @@ quiet_orderly v seat asked a t session apart below (quiet.begins number begin id
     active_orderly v t seat (world.begun number begin) works.others works.opening (ap (λ (s : Session). s.over) works.own) (ap (λ (s : Session). s.stand) works.own) before
     (λ x u claimed within makes. absurd (none_claimed x claimed))
     (λ stamp f within is. omega (arith, below seat stamp f session within is, at))
-quiet_orderly v seat asked a t session apart below (quiet.seals stamp active did hears) before = sealed_orderly v t seat stamp did session before below
+quiet_orderly v seat asked a t session apart below (quiet.seals stamp active did hears) before =
+    sealed_orderly v t seat stamp (work_at v seat) did (λ x u is within makes. before.claimed seat x u session is within makes) before below
 quiet_orderly v seat asked a t session apart below (quiet.done w fate ending now did bounded decides hears) before =
     done_orderly v t seat w fate (is_now v seat w now) did session apart before decides
 quiet_orderly v seat asked a t session apart below (quiet.watched starts did hears) before = watched_orderly v t seat did before
+quiet_orderly v seat asked a t session apart below (quiet.marked w own stand marks did hears) before =
+    done_orderly v t seat w (world.marked own w.begin) (ap work_of stand) did session apart before tt
 
--- a seal leaves what was claimed, and the stamps of those that are over
-module _ (v t : View) (seat own : ℕ) (did : DidSeal v seat own t) where
-  same_work : (q : ℕ) → work_at t q ≡ work_at v q
-  same_work q = elim (cases_eq q seat) as (λ _. work_at t q ≡ work_at v q) [
-    | inl is ↦ subst (λ (n : ℕ). work_at t n ≡ work_at v n) (sym is) (ap (λ (s : Session). work_of s.stand) did.own)
-    | inr another ↦ ap (λ (s : Session). work_of s.stand) (did.others q another)
+-- a seal, also one of a mark, leaves what was claimed, and the stamps of those that are over
+module _ (v t : View) (seat own : ℕ) (w : Work) (did : Seals v seat w own t) (kept : w.claims ≡ (work_at v seat).claims) where
+  same_claims : (q : ℕ) → (work_at t q).claims ≡ (work_at v q).claims
+  same_claims q = elim (cases_eq q seat) as (λ _. (work_at t q).claims ≡ (work_at v q).claims) [
+    | inl is ↦ subst (λ (n : ℕ). (work_at t n).claims ≡ (work_at v n).claims) (sym is) (ap (λ (s : Session). (work_of s.stand).claims) did.own ∙ kept)
+    | inr another ↦ ap (λ (s : Session). (work_of s.stand).claims) (did.others q another)
   ]
 
   same_over : (q : ℕ) → (t.session q).over ≡ (v.session q).over
@@ -134,7 +138,7 @@ module _ (v t : View) (seat own : ℕ) (did : DidSeal v seat own t) where
   sealed_apart : AreApart v → AreApart t
   sealed_apart apart p q c d in_p in_q another c_in d_in =
       apart p q c d (session_before v t p did.opening in_p) (session_before v t q did.opening in_q) another
-      (subst (λ (w : Work). c ∈ w.claims) (same_work p) c_in) (subst (λ (w : Work). d ∈ w.claims) (same_work q) d_in)
+      (subst (λ (claims : List VersionWritten). c ∈ claims) (same_claims p) c_in) (subst (λ (claims : List VersionWritten). d ∈ claims) (same_claims q) d_in)
 
   sealed_below : AreStampedBelow v → AreStampedBelow t
   sealed_below below q stamp f session within is =
@@ -153,8 +157,14 @@ lined_orderly : (v t : View) (seat : ℕ) (c : Command) (a : Answer) → IsSessi
     → Lined v seat c a t → IsOrderly v → IsOrderly t
 lined_orderly v t seat c a session apart below saved (quiet.quiet did) before = quiet_orderly v seat (Some c) a t session apart below did before
 lined_orderly v t seat c a session apart below saved (quiet.sealed_first stamp between active sealed did) before =
-    quiet_orderly between seat (Some c) a t (still_session v between seat sealed.opening session) (sealed_apart v between seat stamp sealed apart)
-    (sealed_below v between seat stamp sealed below) did (sealed_orderly v between seat stamp sealed session before below)
+    quiet_orderly between seat (Some c) a t (still_session v between seat sealed.opening session) (sealed_apart v between seat stamp (work_at v seat) sealed refl apart)
+    (sealed_below v between seat stamp (work_at v seat) sealed refl below) did
+    (sealed_orderly v between seat stamp (work_at v seat) sealed (λ x u is within makes. before.claimed seat x u session is within makes) before below)
+lined_orderly v t seat c a session apart below saved (quiet.marked_first stamp between sealed did) before =
+    let kept : [] ≡ (work_at v seat).claims = sym (ap (λ (at : Stand). (work_of at).claims) sealed.stands) in
+    quiet_orderly between seat (Some c) a t (still_session v between seat sealed.seals.opening session) (sealed_apart v between seat stamp (marking sealed.snapshot) sealed.seals kept apart)
+    (sealed_below v between seat stamp (marking sealed.snapshot) sealed.seals kept below) did
+    (sealed_orderly v between seat stamp (marking sealed.snapshot) sealed.seals (λ x u is within makes. absurd (none_claimed x is)) before below)
 lined_orderly v t seat c a session apart below saved (quiet.named k names active did) before = operated_orderly v t seat c a session active (operated v t seat c active a did) before
 lined_orderly v t seat c a session apart below saved (quiet.saves is active did) before = savepoint_orderly v t seat session active (saved active) (asked_save v t seat a did) before
 lined_orderly v t seat c a session apart below saved (quiet.backs n is active did) before = savepoint_orderly v t seat session active (saved active) (asked_back v t seat n a did) before

@@ -1,5 +1,5 @@
 -- What a line or a session's closing did: it touched no object, and then what was decided is bounded; or it named a table.
-use Rattle.std.proofs.Common.{◌≡◌, ℕ, ◌+◌, ◌<◌, ◌≤◌, ◌⊎◌, [], length, Option, Some, None, inl, inr, refl, sym, ap, subst, arith}
+use Rattle.std.proofs.Common.{◌≡◌, ℕ, ◌+◌, ◌<◌, ◌≤◌, ◌⊎◌, [], length, Option, Some, None, inl, inr, refl, sym, ap, subst, arith, true}
 use Rattle.erm_model.specs.declared.history.TransactionRecord.{TransactionRecord}
 use Rattle.erm_model.specs.declared.history.VersionRead.{VersionRead}
 use Rattle.erm_model.specs.declared.history.VersionWritten.{VersionWritten}
@@ -20,7 +20,7 @@ use Rattle.erm_script.specs.declared.script.Command.TheVariants as command
 use Rattle.erm_script.specs.declared.script.ScriptLine.{ScriptLine}
 use Rattle.erm_good_report.specs.Phases.{Closes, FitsRefusal, HasNoSnapshot, NeedsAny, NeedsReader, NeedsWriter, need_of, refusal_of}
 use Rattle.erm_good_report.specs.Transactions.{Aborts, Commits, Ending, Excludes, Progress, Transaction, begun, heard, table_of}
-use Rattle.erm_lines.specs.Answers.{DidAskBack, DidAskDurable, DidAskSave, DidAskSnapshot, DidAsked, DidClose, DidCommand, DidDecide, DidLine, DidOperation}
+use Rattle.erm_lines.specs.Answers.{DidAskBack, DidAskDurable, DidAskSave, DidAskSnapshot, DidAsked, DidClose, DidCommand, DidDecide, DidLine, DidOperation, DidOfSnapshot}
 use Rattle.erm_lines.specs.Executions.{DidEnd}
 use Rattle.erm_lines.specs.Whole.{is_snapshot}
 use Rattle.erm_lines.proofs.Moved.{active_where, asked_still}
@@ -31,6 +31,7 @@ use Rattle.erm_causes.proofs.Quiet.{DoneBy, HasNow, NamesNone, StillBy, idle_wit
 use Rattle.erm_causes.proofs.Snapshots.{LeavesNone, Starts, Watches, ended_bare, leaves_none, line_none, line_watches, starts_none, starts_watches}
 use Rattle.erm_told_limits.proofs.Ran.{active_with}
 use Rattle.erm_tight.proofs.Undecided.{Decides}
+use Rattle.erm_world.specs.Safe.{DidMark, HasSnapshot}
 
 abbrev pub BeginsBy : Option Command → Answer → Type 0
 BeginsBy asked a = (seat : ℕ) (p : Progress) → (t : Transaction) × (heard seat asked a p ≡ record p { current = Some t }) × (t.lines ≡ [])
@@ -44,6 +45,7 @@ abbrev pub IsBounded : Work → Fate → Type 0
 IsBounded w (world.commits stamp succ pred) = AreBelow w pred
 IsBounded w (world.excluded stamp succ pred) = AreBelow w pred
 IsBounded w world.aborts = Unit {0}
+IsBounded w (world.marked stamp safe) = Unit {0}
 
 -- one that is over has the versions that it read or overwrote no later than the stamp that counts
 module _ (t : View) (holds : IsSerializable sound_law t) (seat : ℕ) (session : IsSession t seat) (w : Work) (fate : Fate) (stamp succ pred : ℕ)
@@ -90,24 +92,29 @@ pub data Quiet (v : View) (seat : ℕ) (asked : Option Command) (a : Answer) (t 
   done : (w : Work) (fate : Fate) (ending : Ending) → HasNow (v.session seat).stand w → IsDone v seat w fate t
       → (IsSerializable sound_law t → IsBounded w fate) → Decides v seat w fate t → DoneBy asked a ending → Quiet v seat asked a t
   watched : Starts v seat → Watches v seat t → LeavesNone asked a → Quiet v seat asked a t
+  marked : (w : Work) (own : ℕ) → (v.session seat).stand ≡ world.sealed w own → w.is_mark ≡ true → IsDone v seat w (world.marked own w.begin) t → LeavesNone asked a → Quiet v seat asked a t
 
 -- a sealed one was decided, or waits
 pub decided : (v t : View) (seat : ℕ) (asked : Option Command) (a : Answer) → IsSession v seat → NamesNone asked → DidDecide v seat a t → Quiet v seat asked a t
 decided v t seat asked (answer.Committed stamp succ pred) session none (r, at, is_succ, is_pred, (w, own, stand, ready, settled)) =
-    done w (world.commits own r.succ r.pred) (Commits stamp succ pred) (inr (own, stand)) settled.0
-    (λ holds. are_below v t seat w (world.commits own r.succ r.pred) own r.succ r.pred session settled.0 refl settled.5 holds) stand (λ q p. refl)
+    done w (world.commits own r.succ r.pred) (Commits stamp succ pred) (inr (own, stand, settled.1)) settled.0
+    (λ holds. are_below v t seat w (world.commits own r.succ r.pred) own r.succ r.pred session settled.0 refl settled.6 holds) stand (λ q p. refl)
 decided v t seat asked (answer.Excluded stamp succ pred) session none (w, own, stand, ready, settled) =
-    done w (world.excluded own succ pred) (Excludes (Some stamp) succ pred) (inr (own, stand)) settled.0
-    (λ holds. are_below v t seat w (world.excluded own succ pred) own succ pred session settled.0 refl settled.3 holds)
-    (stand, ready, settled.2) (λ q p. refl)
+    done w (world.excluded own succ pred) (Excludes (Some stamp) succ pred) (inr (own, stand, settled.1)) settled.0
+    (λ holds. are_below v t seat w (world.excluded own succ pred) own succ pred session settled.0 refl settled.4 holds)
+    (stand, ready, settled.3) (λ q p. refl)
+decided v t seat asked (answer.Marked safe stamp) session none (w, own, stand, ready, settled) =
+    marked w own stand settled.1 settled.0 (leaves_none asked (answer.Marked safe stamp) refl)
 decided v t seat asked (answer.WaitSeat other seen) session none did = still did.0 (λ q p. same_goes_on asked (answer.WaitSeat other seen) p none)
 decided v t seat asked (answer.WaitRing flushed) session none did = still did.0 (λ q p. same_goes_on asked (answer.WaitRing flushed) p none)
 decided v t seat asked a session none did = absurd did
 
--- What a line did: it is a quiet one; or it sealed its transaction, and then it is; or it is one that names a table, or one of savepoints.
+-- What a line did: it is a quiet one; or it sealed its transaction, or its mark, and then it is; or it is one that names a table, or one of
+-- savepoints.
 pub data Lined (v : View) (seat : ℕ) (c : Command) (a : Answer) (t : View) : Type 0 where
   quiet : Quiet v seat (Some c) a t → Lined v seat c a t
   sealed_first : (stamp : ℕ) (between : View) → phase_at v seat ≡ Active → DidSeal v seat stamp between → Quiet between seat (Some c) a t → Lined v seat c a t
+  marked_first : (stamp : ℕ) (between : View) → DidMark v seat stamp between → Quiet between seat (Some c) a t → Lined v seat c a t
   named : (k : ℕ) → table_of c ≡ Some k → phase_at v seat ≡ Active → DidOperation v seat c a t → Lined v seat c a t
   saves : c ≡ command.Save → phase_at v seat ≡ Active → DidAskSave v seat a t → Lined v seat c a t
   backs : (n : ℕ) → c ≡ command.Back n → phase_at v seat ≡ Active → DidAskBack v seat n a t → Lined v seat c a t
@@ -165,13 +172,20 @@ module _ (v t : View) (seat : ℕ) (session : IsSession v seat) where
   commanded command.Save a free plain did = saves refl (active_where NeedsWriter (phase_at v seat) tt plain free) did
   commanded (command.Back n) a free plain did = backs n refl (active_where NeedsWriter (phase_at v seat) tt plain free) did
   commanded command.Durable a free plain did = quiet (still (asked_still v t seat a did) (durable_heard a did))
+  commanded command.Mark a free plain did = absurd did
   commanded command.Flush a free plain did = absurd did
   commanded command.Checkpoint a free plain did = absurd did
 
+  watched_line : (c : Command) (a : Answer) → HasSnapshot v seat → DidOfSnapshot v seat c a t → Lined v seat c a t
+  watched_line command.Mark a has did =
+      marked_first did.stamp did.between did.sealed
+      (decided did.between t seat (Some command.Mark) a (still_session v did.between seat did.sealed.seals.opening session) refl did.decided)
+  watched_line c a has did =
+      quiet (watched (inl has) (line_watches v t seat c a has (λ (marks : c ≡ command.Mark). cc) did) (leaves_none (Some c) a (line_none v t seat c a did)))
+
   asked_line : (c : Command) (a : Answer) (r : Option Answer) → refusal_of (phase_at v seat) c ≡ r → FitsRefusal r c a → DidAsked r v seat c a t → Lined v seat c a t
   asked_line c a None is fits did =
-      in_either (Lined v seat c a t) v t seat c a (λ plain done. commanded c a is plain done)
-      (λ has done. quiet (watched (inl has) (line_watches v t seat c a has done) (leaves_none (Some c) a (line_none v t seat c a done)))) did
+      in_either (Lined v seat c a t) v t seat c a (λ plain done. commanded c a is plain done) (λ has done. watched_line c a has done) did
   asked_line c a (Some refusal) is fits did =
       quiet (still did (subst (StillBy (Some c)) (sym fits) (refusal_still (need_of c) (phase_at v seat) refusal is (Some c))))
 

@@ -61,7 +61,7 @@ module _ (v : View) (sessions : ℕ) (said : List Said) (of : sessions ≡ v.ope
       let f : Finished = record { work = own.work; fate = world.commits own.stamp own.succ own.pred } in
       let p = progress_of own.seat said in
       let found = both_over own.seat MarkedOne p.over p.snapshots (v.session own.seat).over f (tells own.seat own.session).over (marked own.seat own.session).over (numbered own.seat own.session).over
-      (commits_stay own.stamp own.succ own.pred) own.over in
+      (commits_stay f own.stamp own.succ own.pred refl) own.over in
       subst (λ (u : TransactionRecord). IsCommitTold (transactions_of sessions said) u) (sym own.is) (record {
         told = found.0;
         commit = record {
@@ -122,6 +122,7 @@ module _ (v : View) (sessions : ℕ) (said : List Said) (of : sessions ≡ v.ope
       }
   committed_as t it (world.excluded s u p) is stamp succ pred ends = absurd ends
   committed_as t it world.aborts is stamp succ pred ends = absurd ends
+  committed_as t it (world.marked s safe) is stamp succ pred ends = absurd ends
 
   -- a commit told is one of the history
   pub commit_known : (t : Transaction) (stamp succ : ℕ) → IsCommit (transactions_of sessions said) t stamp succ → IsCommitted v t stamp succ

@@ -9,7 +9,7 @@ use Rattle.erm_model.specs.History.{IsSuccessorStamp, Makes, OverwritesReadOf}
 use Rattle.erm_model.specs.Member.{◌∈◌}
 use Rattle.erm_model.proofs.Members.{none_in_nil}
 use Rattle.erm_machine.proofs.Listed.{∈-cons}
-use Rattle.erm_world.specs.Calls.{AreReady, Becomes, DidSeal, IsDone}
+use Rattle.erm_world.specs.Calls.{AreReady, Becomes, IsDone, Seals}
 use Rattle.erm_world.specs.Laws.{IsCommitOf}
 use Rattle.erm_world.specs.Safe.{with_snapshot}
 use Rattle.erm_world.specs.Snapshots.{snapshot_not_active}
@@ -194,16 +194,17 @@ module _ (v t : View) (seat : ℕ) (w : Work) (others : (q : ℕ) → q ≢ seat
   })
 
 -- SEALED. Its stamp is the end of the log, above all stamps.
-module _ (v t : View) (seat own : ℕ) (did : DidSeal v seat own t) (session : IsSession v seat) (before : IsOrderly v)
+module _ (v t : View) (seat own : ℕ) (made : Work) (did : Seals v seat made own t)
+    (kept : (x : ℕ) (u : TransactionRecord) → is_claimed made.claims x ≡ true → u ∈ history_of v → Makes u x → u.stamp < made.begin) (before : IsOrderly v)
     (below : (q stamp : ℕ) (f : Finished) → IsSession v q → f ∈ (v.session q).over → stamp_of f.fate ≡ Some stamp → stamp < v.tail) where
   same_over : (t.session seat).over ≡ (v.session seat).over
   same_over = ap (λ (s : Session). s.over) did.own
 
-  sealed_stand : (t.session seat).stand ≡ world.sealed (work_at v seat) own
+  sealed_stand : (t.session seat).stand ≡ world.sealed made own
   sealed_stand = ap (λ (s : Session). s.stand) did.own
 
   seen_is : (y : Work) (seen : ℕ) → (t.session seat).stand ≡ world.sealed y seen → own ≡ seen
-  seen_is y seen stand = let same : world.sealed (work_at v seat) own ≡ world.sealed y seen = sym sealed_stand ∙ stand in cc
+  seen_is y seen stand = let same : world.sealed made own ≡ world.sealed y seen = sym sealed_stand ∙ stand in cc
 
   older_sealed : (u : TransactionRecord) → u ∈ history_of t → u ∈ history_of v
   older_sealed u within = elim (commit_from v t seat did.others did.opening [] (no_more (v.session seat) (t.session seat) same_over) u within) as (λ _. u ∈ history_of v) [
@@ -221,7 +222,7 @@ module _ (v t : View) (seat own : ℕ) (did : DidSeal v seat own t) (session : I
     excluded = λ stamp succ pred w new. absurd (none_in_nil _ new);
     claimed = λ x u is within makes.
         subst (λ (at : Stand). u.stamp < (work_of at).begin) (sym sealed_stand)
-        (before.claimed seat x u session (subst (λ (at : Stand). is_claimed (work_of at).claims x ≡ true) sealed_stand is) (older_sealed u within) makes);
+        (kept x u (subst (λ (at : Stand). is_claimed (work_of at).claims x ≡ true) sealed_stand is) (older_sealed u within) makes);
     earlier = λ stamp f active within is. let never = ap phase_of (sym sealed_stand) ∙ active in cc;
   })
 
@@ -231,6 +232,7 @@ Decides v seat w (world.commits stamp succ pred) t = (v.session seat).stand ≡ 
 Decides v seat w (world.excluded stamp succ pred) t = ((v.session seat).stand ≡ world.sealed w stamp) × AreReady v seat w stamp
     × IsSuccessorStamp (history_of t) (λ u. u.succ) (record_of seat w stamp succ pred)
 Decides v seat w world.aborts t = Unit {0}
+Decides v seat w (world.marked stamp safe) t = Unit {0}
 
 module _ (v t : View) (seat : ℕ) (w : Work) (fate : Fate) (now : work_at v seat ≡ w) (did : IsDone v seat w fate t) (session : IsSession v seat) (apart : AreApart v)
     (before : IsOrderly v) where
