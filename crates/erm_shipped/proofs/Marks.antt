@@ -1,6 +1,6 @@
 -- The safe stamps that a report tells of its snapshots are behind its opening, and so are those that its marks name; and its commits keep what they promise.
 use Rattle.std.proofs.Common.{◌≡◌, ℕ, zero, suc, ◌+◌, ◌≤◌, ◌⊎◌, ◌==◌, Bool, true, false, cond, List, [], ◌∷◌, ◌++◌, fold, map, take, slice_get, Option, Some, None, refl, sym, ap, ◌∙◌, subst, inl, inr, arith}
-use Rattle.std.specs.List.{filter_map, flat_map, range_with_len}
+use Rattle.std.specs.List.{cons_option, filter_map, flat_map, range_with_len}
 use Rattle.std.specs.Option.{option_map, option_map_or, option_to_list}
 use Rattle.std.proofs.lemmas.Bool.{eqb-true}
 use Rattle.std.proofs.lemmas.List.Sums.{fold-append}
@@ -39,10 +39,7 @@ of_filter : {X Y : Type 0} (f : X → Option Y) (xs : List X) (y : Y) → y ∈ 
 of_filter f [] y m = absurd (none_in_nil y m)
 of_filter {X} {Y} f (z ∷ xs) y m = by_first (f z) refl (of_filter f xs y) m
   where
-    abbrev Later : Type 0
-    Later = y ∈ filter_map f xs → (x : X) × (x ∈ xs) × (f x ≡ Some y)
-
-    by_first : (o : Option Y) → f z ≡ o → Later → y ∈ (option_to_list o ++ filter_map f xs) → (x : X) × (x ∈ (z ∷ xs)) × (f x ≡ Some y)
+    by_first : (o : Option Y) → f z ≡ o → (y ∈ filter_map f xs → (x : X) × (x ∈ xs) × (f x ≡ Some y)) → y ∈ cons_option o (filter_map f xs) → (x : X) × (x ∈ (z ∷ xs)) × (f x ≡ Some y)
     by_first None is later n = let r = later n in (r.0, (suc r.1.0, r.1.1), r.2)
     by_first (Some w) is later (zero, at) = let same : w ≡ y = cc in (z, (zero, refl), is ∙ ap (λ (v : Y). Some v) same)
     by_first (Some w) is later (suc k, at) = let r = later (k, at) in (r.0, (suc r.1.0, r.1.1), r.2)
