@@ -23,7 +23,7 @@ use Rattle.erm_good_report.proofs.Places.{said_by}
 use Rattle.erm_lines.specs.Told.{Tells, TellsWatched}
 use Rattle.erm_lines.proofs.Watched.{snapshot_there, start_where}
 use Rattle.erm_lines.proofs.Keeping.{NoneRuns}
-use Rattle.erm_told.specs.Snapshots.{begin_in}
+use Rattle.erm_told.specs.Snapshots.{begin_in, HasNumbered}
 use Rattle.erm_told.proofs.Executed.{Knows}
 use Rattle.erm_told.proofs.Sessions.{next_is, watched_none}
 use Rattle.erm_told.proofs.Turns.{idle_in}
@@ -53,6 +53,10 @@ begin_of v seat numbered w (inr now) =
     let s = v.session seat in
     let past : slice_get s.over (w.number - 1) ≡ None = slice_get_past s.over (w.number - 1) (omega (arith, numbered.now w now)) in
     ap (λ (o : Option Finished). option_map_or (λ (g : Finished). g.work.begin) o (work_of s.stand).begin) past ∙ ap (λ (x : Work). x.begin) (current_is s.stand w now)
+
+pub begin_by : (v : View) (seat : ℕ) → IsNumbered (v.session seat) → (number begin : ℕ) → HasNumbered v seat number begin → begin_in (v.session seat) number ≡ begin
+begin_by v seat numbered number begin (w, has, number_is, begin_is) =
+    sym (ap (λ (n : ℕ). begin_in (v.session seat) n) number_is) ∙ begin_of v seat numbered w has ∙ begin_is
 
 -- A SAFE that has its snapshot was asked where the session has this snapshot. Where it had none before, this has begun at the end of the log.
 pub record AskedSo (f before after : View) (seat : ℕ) (p : Progress) (a : Answer) : Type 0 where
@@ -136,18 +140,18 @@ module _ (runs : NoneRuns) (stay : (w u : Work) (steps : List Step) → Extends 
     abbrev its : Work
     its = begun asked.own.number asked.own.begin
 
-    pub has_own : Has f seat its
+    pub has_own : HasNumbered f seat asked.own.number asked.own.begin
     has_own = has_last f x.last seat its x.ends
         (lasts_own runs stay f seat its x.more x.after x.last x.onward (lasts_asked f seat asked.own asked.at asked.stand a x.after asked.did))
 
     pub own_begin_is : begin_in (f.session seat) (own_snapshot (progress_of seat said)).number ≡ asked.own.begin
-    own_begin_is = ap (λ (n : ℕ). begin_in (f.session seat) n) asked.number ∙ begin_of f seat numbered its has_own
+    own_begin_is = ap (λ (n : ℕ). begin_in (f.session seat) n) asked.number ∙ begin_by f seat numbered asked.own.number asked.own.begin has_own
 
   -- a line that begins a snapshot does so between the ends of the log before it and behind it
   pub record BegunAt (number : ℕ) : Type 0 where
     pub low : x.before.tail ≤ begin_in (f.session seat) number
     pub high : begin_in (f.session seat) number ≤ x.after.tail
-    pub has : Has f seat (begun number (begin_in (f.session seat) number))
+    pub has : HasNumbered f seat number (begin_in (f.session seat) number)
     pub next : number ≡ length (x.before.session seat).over + 1
 
   pub begun_at : (all : List Said) (i number : ℕ) → said ≡ take i all → (begins : BeginsSnapshot all i seat number) → said_by l a ≡ begins.line → BegunAt number
@@ -164,7 +168,7 @@ module _ (runs : NoneRuns) (stay : (w u : Work) (steps : List Step) → Extends 
       record {
         low = omega (arith, begin, starts_so.1);
         high = omega (arith, begin, starts_so.2);
-        has = subst (λ (n : ℕ). Has f seat (begun number n)) (sym begin) (subst (λ (n : ℕ). Has f seat (begun n it.own.begin)) (sym (number_is ∙ it.number)) (has_own asks of));
+        has = subst (λ (n : ℕ). HasNumbered f seat number n) (sym begin) (subst (λ (n : ℕ). HasNumbered f seat n it.own.begin) (sym (number_is ∙ it.number)) (has_own asks of));
         next = number_is ∙ it.number ∙ starts_so.0;
       }
     where

@@ -17,10 +17,10 @@ use Rattle.erm_report.specs.declared.answer.Answer.TheVariants as answer
 use Rattle.erm_script.specs.declared.script.Command.{Command}
 use Rattle.erm_script.specs.declared.script.Command.TheVariants as command
 use Rattle.erm_script.specs.declared.script.ScriptLine.{ScriptLine}
-use Rattle.erm_world.specs.Calls.{DidSeal, IsDone}
+use Rattle.erm_world.specs.Calls.{DidSeal, IsDone, Seals}
 use Rattle.erm_world.specs.Face.{Grows, ends, same, works}
 use Rattle.erm_world.specs.Onward.{grows_then}
-use Rattle.erm_world.specs.World.{Fate, Finished, Has, IsSession, Session, Stand, View, Work, phase_at, phase_of, size_of, stamp_of, work_at, work_of}
+use Rattle.erm_world.specs.World.{Fate, Finished, Has, IsSession, Session, Stand, View, Work, phase_at, phase_of, size_of, stamp_of, work_at, work_of, marking}
 use Rattle.erm_world.specs.World as world
 use Rattle.erm_good_report.specs.Phases.{FitsRefusal, HasNoSnapshot, NeedsReader, NeedsWriter, need_of, refusal_in, refusal_of}
 use Rattle.erm_good_report.specs.Stamps.{IsWait, begin_told, place_told, stamp_drawn, stamp_printed, stamp_told}
@@ -36,7 +36,7 @@ use Rattle.erm_beside.specs.Safe.{DidBeginSafeBeside}
 use Rattle.erm_beside.proofs.Txns.{stopped_after}
 use Rattle.erm_told.proofs.Drawing.{block_fits, drawn_none, no_number, stamp_at, the_number}
 use Rattle.erm_told.proofs.Operations.{the_answer}
-use Rattle.erm_lines_at_once.specs.Answers.{DidAskSafeBeside, DidAskSnapshotBeside, DidAskedBeside, DidBeginAndAskBeside, DidCommandBeside, DidCommitBeside, DidDecideBeside, DidLineBeside, DidOfSnapshotBeside}
+use Rattle.erm_lines_at_once.specs.Answers.{DidAskSafeBeside, DidAskSnapshotBeside, DidAskedBeside, DidBeginAndAskBeside, DidCommandBeside, DidCommitBeside, DidDecideBeside, DidLineBeside, DidOfSnapshotBeside, DidAskMarkBeside}
 use Rattle.erm_lines_at_once.specs.Operations.{Beside, DidOnce, DidOperationBeside, WasTried, WereCutBeside, told_at_once}
 use Rattle.erm_lines_at_once.proofs.Watched.{in_phase}
 use Rattle.erm_told_at_once.proofs.Operated.{Reached, holds_cut, reached}
@@ -300,11 +300,17 @@ begin_drew f seat begin asked v u t passes (few, is, now) below = record {
     had stamp (inl (g, m, stamped)) = inl (g, subst (λ (s : Session). g ∈ s.over) now.own m, stamped)
     had stamp (inr (w, sealed)) = not_sealed (t.session seat).stand w stamp (HasDrawn (u.session seat) stamp) (ap (λ (s : Session). phase_of s.stand) now.own) sealed
 
-sealed_below : (seat stamp : ℕ) (v u t : View) → Passes seat v u → DidSeal u seat stamp t → LieBelow seat v → LieBelow seat t
-sealed_below seat stamp v u t passes did below other has = from has
+-- the block of what is sealed has room
+seals_fit : (v : View) (seat : ℕ) (own : Work) (stamp : ℕ) (t : View) → Seals v seat own stamp t → stamp + LEAST_BLOCK ≤ t.tail
+seals_fit v seat own stamp t did =
+    let enough : LEAST_BLOCK ≤ size_of own = omega arith in
+    omega (arith, enough, did.stamp_is, did.tail)
+
+sealed_below : (seat stamp : ℕ) (v u t : View) (own : Work) → Passes seat v u → Seals u seat own stamp t → LieBelow seat v → LieBelow seat t
+sealed_below seat stamp v u t own passes did below other has = from has
   where
     fits : stamp + LEAST_BLOCK ≤ t.tail
-    fits = block_fits u seat stamp t did
+    fits = seals_fit u seat own stamp t did
 
     from : HasDrawn (t.session seat) other → other < t.tail
     from (inl (g, m, stamped)) =
@@ -327,7 +333,7 @@ seal_drew f seat stamp asked v u t passes did below =
         owned = λ other number told. cc;
         waits = λ none. none;
       };
-      below = sealed_below seat stamp v u t passes did below;
+      below = sealed_below seat stamp v u t (work_at u seat) passes did below;
       up = omega (arith, passes.tail, did.stamp_is, fits);
     }
 
@@ -345,6 +351,7 @@ pub record DecidesBeside (seat : ℕ) (a : Answer) (stamp : ℕ) (v t : View) : 
   pub waits : IsWait a → ⊥
   pub settled : stamp_drawn (Some command.Settle) a ≡ None
   pub committed : stamp_drawn (Some command.Commit) a ≡ Some stamp
+  pub marked : stamp_drawn (Some command.Mark) a ≡ Some stamp
 
 done_had : (seat : ℕ) (v u t : View) (w : Work) (stamp : ℕ) (fate : Fate) → Passes seat v u → (u.session seat).stand ≡ world.sealed w stamp → IsDone u seat w fate t → stamp_of fate ≡ Some stamp
     → (other : ℕ) → HasDrawn (t.session seat) other → HasDrawn (v.session seat) other
@@ -361,7 +368,7 @@ stand_before seat v u w own stamp passes stand is = (w, sym (ap (λ (s : Session
 
 decides_beside : (seat : ℕ) (a : Answer) (v t : View) → DidDecideBeside seat a v t → (stamp : ℕ) × DecidesBeside seat a stamp v t
 decides_beside seat (answer.Committed at succ pred) v t (r, at_is, after, before, (u, passes, (w, own, stand, settled))) =
-    let is : own ≡ at = sym settled.2 ∙ at_is in (
+    let is : own ≡ at = sym settled.3 ∙ at_is in (
       at,
       record {
         told = refl;
@@ -376,10 +383,11 @@ decides_beside seat (answer.Committed at succ pred) v t (r, at_is, after, before
         waits = λ none. none;
         settled = refl;
         committed = refl;
+        marked = refl;
       },
     )
 decides_beside seat (answer.Excluded at succ pred) v t (u, passes, (w, own, stand, settled)) =
-    let is : own ≡ at = sym settled.1 in (
+    let is : own ≡ at = sym settled.2 in (
       at,
       record {
         told = refl;
@@ -394,6 +402,26 @@ decides_beside seat (answer.Excluded at succ pred) v t (u, passes, (w, own, stan
         waits = λ none. none;
         settled = refl;
         committed = refl;
+        marked = refl;
+      },
+    )
+decides_beside seat (answer.Marked safe at) v t (u, passes, (w, own, stand, settled)) =
+    let is : own ≡ at = sym settled.2 in (
+      at,
+      record {
+        told = refl;
+        printed = refl;
+        stand = stand_before seat v u w own at passes stand is;
+        had = done_had seat v u t w own (world.marked own w.begin) passes stand settled.0 refl;
+        tail = omega (arith, passes.tail, settled.0.tail);
+        begins = refl;
+        places = refl;
+        met = refl;
+        owned = λ x y e. cc;
+        waits = λ none. none;
+        settled = refl;
+        committed = refl;
+        marked = refl;
       },
     )
 decides_beside seat a v t did = absurd did
@@ -421,7 +449,7 @@ commit_drew f seat a v t below did =
     let (u, passes, sealed) = did.sealed in
     let m = did.between in
     let (stamp, decided) = decides_beside seat a m t did.decided in
-    let first : LieBelow seat m = sealed_below seat did.stamp v u m passes sealed below in
+    let first : LieBelow seat m = sealed_below seat did.stamp v u m (work_at u seat) passes sealed below in
     let is : did.stamp ≡ stamp = ap stamp_at (sym (ap (λ (s : Session). s.stand) sealed.own) ∙ decided.stand.1) in
     let fits : did.stamp + LEAST_BLOCK ≤ m.tail = block_fits u seat did.stamp m sealed in record {
       draws = record {
@@ -438,6 +466,31 @@ commit_drew f seat a v t below did =
       };
       below = lie_still seat m t decided.had decided.tail first;
       up = omega (arith, passes.tail, sealed.stamp_is, fits, decided.tail);
+    }
+
+-- a mark does so too
+mark_drew : (f : View) (seat : ℕ) (a : Answer) (v t : View) → LieBelow seat v → DidAskMarkBeside seat a v t → Drew f seat (Some command.Mark) a v t
+mark_drew f seat a v t below did =
+    let (u, passes, sealed) = did.sealed in
+    let m = did.between in
+    let (stamp, decided) = decides_beside seat a m t did.decided in
+    let first : LieBelow seat m = sealed_below seat did.stamp v u m (marking sealed.snapshot) passes sealed.seals below in
+    let is : did.stamp ≡ stamp = ap stamp_at (sym (ap (λ (s : Session). s.stand) sealed.seals.own) ∙ decided.stand.1) in
+    let fits : did.stamp + LEAST_BLOCK ≤ m.tail = seals_fit u seat (marking sealed.snapshot) did.stamp m sealed.seals in record {
+      draws = record {
+        begin = λ x told. no_number (begin_told a) x ((v.tail ≤ x) × (x ≤ t.tail)) decided.begins told;
+        begun = λ x told. no_number (begin_told a) x (Begins x (t.session seat)) decided.begins told;
+        printed = λ x told. omega (arith, fits, is, decided.tail, the_number stamp x (sym decided.printed ∙ told));
+        drawn = λ x told.
+            let one = the_number stamp x (sym decided.marked ∙ told) in
+            (omega (arith, passes.tail, sealed.seals.stamp_is, is, one), omega (arith, fits, is, one, decided.tail));
+        placed = λ place told. no_number (place_told a) place (place ≤ t.tail) decided.places told;
+        met = λ x told. no_number (stamp_met a) x (x < t.tail) decided.met told;
+        owned = λ x y told. absurd (decided.owned x y told);
+        waits = decided.waits;
+      };
+      below = lie_still seat m t decided.had decided.tail first;
+      up = omega (arith, passes.tail, sealed.seals.stamp_is, fits, decided.tail);
     }
 
 -- a durable commit is one of the session's
@@ -563,6 +616,7 @@ watched_drew f seat (command.Scan table low high) (answer.Replied r) v t below d
 watched_drew f seat command.Commit answer.Ended v t below (u, passes, did) =
     done_drew f seat (Some command.Commit) answer.Ended v u t (work_at u seat) passes did below
     (silent f seat v.tail t (Some command.Commit) answer.Ended refl refl refl (λ none. none) refl refl (λ other number is. cc))
+watched_drew f seat command.Mark a v t below did = mark_drew f seat a v t below did
 watched_drew f seat command.Abort answer.Aborted v t below (u, passes, did) = aborted_drew f seat (Some command.Abort) v u t (work_at u seat) passes did below
 watched_drew f seat command.Durable (answer.Durable stamp) v t below (u, passes, did) = durable_drew f seat stamp v u t passes did.0 did.1.0 did.1.1 below
 watched_drew f seat command.Durable answer.NoReceipt v t below (u, passes, did) = no_receipt_drew f seat v u t passes did.0 below

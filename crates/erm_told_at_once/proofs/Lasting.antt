@@ -1,5 +1,5 @@
 -- A snapshot of a session beside others keeps its number and its begin stamp until it is over, and then.
-use Rattle.std.proofs.Common.{◌≡◌, ℕ, ◌==◌, Bool, true, List, [], ◌∷◌, Option, Some, None, refl, sym, ap, ◌∙◌, subst, inl, inr, eq-eqb, ne_eqb}
+use Rattle.std.proofs.Common.{◌≡◌, ℕ, ◌==◌, Bool, true, List, [], ◌∷◌, Option, Some, None, refl, sym, ap, ◌∙◌, subst, inl, inr, eq-eqb, ne_eqb, ◌⊎◌}
 use Rattle.std.proofs.lemmas.Bool.{cases_eq}
 use Rattle.erm_model.specs.declared.outcome.Phase.{Phase}
 use Rattle.erm_model.specs.declared.outcome.Phase.TheVariants.{Idle, Active, Sealed, Pending, Safe}
@@ -13,22 +13,23 @@ use Rattle.erm_script.specs.declared.script.Command.TheVariants as command
 use Rattle.erm_script.specs.declared.script.ScriptLine.{ScriptLine}
 use Rattle.erm_world.specs.Calls.{IsDone}
 use Rattle.erm_world.specs.Going.{Extends}
-use Rattle.erm_world.specs.World.{Finished, Has, IsCurrent, IsOver, Session, Stand, View, Work, phase_at, phase_of, work_at, work_of}
+use Rattle.erm_world.specs.World.{Finished, Has, IsCurrent, IsOver, Session, Stand, View, Work, phase_at, phase_of, work_at, work_of, Fate}
 use Rattle.erm_world.specs.World as world
 use Rattle.erm_maps.specs.Runs.{IsAnswered}
 use Rattle.erm_good_report.specs.Phases.{HasNoSnapshot, refusal_of}
 use Rattle.erm_lines.specs.Executions.{Move, close, flush, line, log}
-use Rattle.erm_lines.specs.Told.{Continues}
+use Rattle.erm_lines.specs.Told.{Continues, IsStillSealed}
 use Rattle.erm_lines.specs.Whole.{is_snapshot}
 use Rattle.erm_lines.proofs.Watched.{has_phase}
 use Rattle.erm_lines.proofs.Keeping.{NoneRuns}
 use Rattle.erm_beside.specs.Calls.{Passes}
 use Rattle.erm_told.proofs.Lasting.{Lasts}
 use Rattle.erm_told.proofs.Lasting as lasting
-use Rattle.erm_lines_at_once.specs.Answers.{DidAskSafeBeside, DidAskedBeside, DidCloseBeside, DidEndBeside, DidLineBeside, DidOfSnapshotBeside}
+use Rattle.erm_lines_at_once.specs.Answers.{DidAskSafeBeside, DidAskedBeside, DidCloseBeside, DidEndBeside, DidLineBeside, DidOfSnapshotBeside, DidAskMarkBeside, DidDecideBeside}
 use Rattle.erm_lines_at_once.specs.Executions.{DidMoveBeside, DidOwn, IsOwnRun}
 use Rattle.erm_lines_at_once.proofs.Watched.{in_phase}
 use Rattle.erm_told_at_once.proofs.Runs.{own_goes}
+use Rattle.erm_told.specs.Snapshots.{HasNumbered}
 
 -- one that is as it was
 lasts_same : (w : Work) (y : world.Snapshot) (s t : Session) → s.stand ≡ world.snapshot y → world.begun y.number y.begin ≡ w → t ≡ s → Lasts w t
@@ -52,7 +53,8 @@ module _ (f : View) (seat : ℕ) (x : world.Snapshot) (v : View) (stand : (v.ses
   lasts_done u t passes did =
       let g : Finished = record { work = work_at u seat; fate = world.aborts } in
       let m : g ∈ (t.session seat).over = subst (λ (s : Session). g ∈ s.over) (sym did.own) (∈-second (u.session seat).over (g ∷ []) g (∈-head g [])) in
-      lasting.over (g, m, ap (λ (s : Session). work_of s.stand) passes.own ∙ ap work_of stand)
+      lasting.over (work_at u seat) (g, m, refl) (ap (λ (s : Session). (work_of s.stand).number) passes.own ∙ ap (λ (at : Stand). (work_of at).number) stand)
+      (ap (λ (s : Session). (work_of s.stand).begin) passes.own ∙ ap (λ (at : Stand). (work_of at).begin) stand)
 
   pub lasts_asked : (a : Answer) (t : View) → DidAskSafeBeside f seat a v t → Lasts own (t.session seat)
   lasts_asked (answer.Safe stamp) t ((u, passes, (y, at, now)), same, safe) =
@@ -63,12 +65,34 @@ module _ (f : View) (seat : ℕ) (x : world.Snapshot) (v : View) (stand : (v.ses
   lasts_still : (u t : View) → Passes seat v u → t ≡ u → Lasts own (t.session seat)
   lasts_still u t passes is = lasts_passes t (subst (λ (w : View). Passes seat v w) (sym is) passes)
 
+  -- its mark is over
+  lasts_ended : (m u t : View) (y : world.Snapshot) (stamp : ℕ) (w : Work) (at : ℕ) (fate : Fate) → world.begun y.number y.begin ≡ own → (m.session seat).stand ≡ world.sealed (world.marking y) stamp
+      → Passes seat m u → (u.session seat).stand ≡ world.sealed w at → IsDone u seat w fate t → Lasts own (t.session seat)
+  lasts_ended m u t y stamp w at fate is sealed passes stands did =
+      let g : Finished = record { work = w; fate = fate } in
+      let n : g ∈ (t.session seat).over = subst (λ (s : Session). g ∈ s.over) (sym did.own) (∈-second (u.session seat).over (g ∷ []) g (∈-head g [])) in
+      let same : w ≡ world.marking y = ap work_of (sym stands ∙ ap (λ (s : Session). s.stand) passes.own ∙ sealed) in
+      lasting.over w (g, n, refl) (ap (λ (z : Work). z.number) same ∙ ap (λ (z : Work). z.number) is) (ap (λ (z : Work). z.begin) same ∙ ap (λ (z : Work). z.begin) is)
+
+  lasts_decided : (m t : View) (y : world.Snapshot) (stamp : ℕ) (a : Answer) → world.begun y.number y.begin ≡ own → (m.session seat).stand ≡ world.sealed (world.marking y) stamp → DidDecideBeside seat a m t
+      → Lasts own (t.session seat)
+  lasts_decided m t y stamp (answer.Committed at succ pred) is sealed (r, at_is, after, before, (u, passes, (w, drawn, stands, settled))) = lasts_ended m u t y stamp w drawn _ is sealed passes stands settled.0
+  lasts_decided m t y stamp (answer.Excluded at succ pred) is sealed (u, passes, (w, drawn, stands, settled)) = lasts_ended m u t y stamp w drawn _ is sealed passes stands settled.0
+  lasts_decided m t y stamp (answer.Marked safe at) is sealed (u, passes, (w, drawn, stands, settled)) = lasts_ended m u t y stamp w drawn _ is sealed passes stands settled.0
+  lasts_decided m t y stamp a is sealed did = absurd did
+
+  lasts_marked : (a : Answer) (t : View) → DidAskMarkBeside seat a v t → Lasts own (t.session seat)
+  lasts_marked a t did =
+      let (u, passes, marked) = did.sealed in
+      lasts_decided did.between t marked.snapshot did.stamp a (ap work_of (sym marked.stands ∙ ap (λ (s : Session). s.stand) passes.own ∙ stand)) (ap (λ (s : Session). s.stand) marked.seals.own) did.decided
+
   lasts_watched : (c : Command) (a : Answer) (t : View) → DidOfSnapshotBeside f seat c a v t → Lasts own (t.session seat)
   lasts_watched command.Safe a t did = lasts_asked a t did
   lasts_watched (command.Get table key) (answer.Replied r) t did = lasts_passes t did.passes
   lasts_watched (command.Next table from) (answer.Replied r) t did = lasts_passes t did.passes
   lasts_watched (command.Scan table low high) (answer.Replied r) t did = lasts_passes t did.passes
   lasts_watched command.Commit answer.Ended t (u, passes, did) = lasts_done u t passes did
+  lasts_watched command.Mark a t did = lasts_marked a t did
   lasts_watched command.Abort answer.Aborted t (u, passes, did) = lasts_done u t passes did
   lasts_watched command.Durable (answer.Durable stamp) t (u, passes, did) = lasts_still u t passes did.0
   lasts_watched command.Durable answer.NoReceipt t (u, passes, did) = lasts_still u t passes did.0
@@ -111,18 +135,45 @@ own_or Q at seat f move u w did own other = elim (cases_eq at seat) as (λ _. Q)
   | inr another ↦ other (subst (λ (b : Bool). DidOwn b f seat move u w) (ne_eqb at seat another) did)
 ]
 
+-- it is no snapshot any more: it is over, or its mark is sealed
+record IsGone (w : Work) (s : Session) : Type 0 where
+  work : Work
+  number : work.number ≡ w.number
+  begin : work.begin ≡ w.begin
+  at : IsOver s.over work ⊎ ((stamp : ℕ) × (s.stand ≡ world.sealed work stamp))
+
+gone_lasts : (w : Work) (s : Session) → IsGone w s → Lasts w s
+gone_lasts w s gone = by gone.at
+  where
+    by : IsOver s.over gone.work ⊎ ((stamp : ℕ) × (s.stand ≡ world.sealed gone.work stamp)) → Lasts w s
+    by (inl o) = lasting.over gone.work o gone.number gone.begin
+    by (inr (stamp, stand)) = lasting.sealed gone.work stamp stand gone.number gone.begin
+
 -- what is over stays so
 over_later : (s t : Session) (w : Work) → Continues s t → IsOver s.over w → IsOver t.over w
 over_later s t w goes (g, m, is) = (g, subst (λ (fs : List Finished). g ∈ fs) (sym goes.over) (∈-first s.over goes.more g m), is)
 
-there_or : (Q : Type 0) (w : Work) (s : Session) → Lasts w s → (IsOver s.over w → Q) → ((y : world.Snapshot) → s.stand ≡ world.snapshot y → world.begun y.number y.begin ≡ w → Q) → Q
-there_or Q w s (lasting.over o) gone there = gone o
+there_or : (Q : Type 0) (w : Work) (s : Session) → Lasts w s → (IsGone w s → Q) → ((y : world.Snapshot) → s.stand ≡ world.snapshot y → world.begun y.number y.begin ≡ w → Q) → Q
+there_or Q w s (lasting.over u o number begin) gone there = gone (record { work = u; number = number; begin = begin; at = inl o })
+there_or Q w s (lasting.sealed u stamp stand number begin) gone there = gone (record { work = u; number = number; begin = begin; at = inr (stamp, stand) })
 there_or Q w s (lasting.still y stand is) gone there = there y stand is
 
 module _ (runs : NoneRuns) (stay : (w u : Work) (steps : List Step) → Extends w u → IsAnswered w steps → IsAnswered u steps)
     (f : View) (seat : ℕ) (w : Work) where
-  over_goes : (moves : List Move) (v t : View) → IsOwnRun f seat v moves t → IsOver (v.session seat).over w → Lasts w (t.session seat)
-  over_goes moves v t run o = lasting.over (over_later (v.session seat) (t.session seat) w (own_goes runs stay f seat moves v t run).goes o)
+  over_goes : (moves : List Move) (v t : View) → IsOwnRun f seat v moves t → IsGone w (v.session seat) → Lasts w (t.session seat)
+  over_goes moves v t run gone = by gone.at
+    where
+      goes : Continues (v.session seat) (t.session seat)
+      goes = (own_goes runs stay f seat moves v t run).goes
+
+      sealed_later : (stamp : ℕ) → IsStillSealed gone.work stamp (t.session seat) → Lasts w (t.session seat)
+      sealed_later stamp (inl still) = lasting.sealed gone.work stamp still gone.number gone.begin
+      sealed_later stamp (inr (g, rest, front, over, is, stamped)) =
+          lasting.over gone.work (g, subst (λ (fs : List Finished). g ∈ fs) (sym over) (∈-second front (g ∷ rest) g (∈-head g rest)), is) gone.number gone.begin
+
+      by : IsOver (v.session seat).over gone.work ⊎ ((stamp : ℕ) × ((v.session seat).stand ≡ world.sealed gone.work stamp)) → Lasts w (t.session seat)
+      by (inl o) = lasting.over gone.work (over_later (v.session seat) (t.session seat) gone.work goes o) gone.number gone.begin
+      by (inr (stamp, stand)) = sealed_later stamp (goes.sealed gone.work stamp stand)
 
   moved : (at : ℕ) (move : Move) (v u t : View) (y : world.Snapshot) → (v.session seat).stand ≡ world.snapshot y → world.begun y.number y.begin ≡ w → Passes seat v u → DidOwn (at == seat) f seat move u t
       → Lasts w (t.session seat)
@@ -148,7 +199,13 @@ module _ (runs : NoneRuns) (stay : (w u : Work) (steps : List Step) → Extends 
       (λ y stand is. lasts_own moves x t rest (lasts_same w y (v.session seat) (x.session seat) stand is (ap (λ (z : View). z.session seat) did ∙ passes.own)))
 
 -- so it is in the world in which all end
-pub has_last : (f last : View) (seat : ℕ) (w : Work) → last.session seat ≡ f.session seat → Lasts w (last.session seat) → Has f seat w
-has_last f last seat w ends lasts =
-    there_or (Has f seat w) w (last.session seat) lasts (λ o. inl (subst (λ (s : Session). IsOver s.over w) ends o))
-    (λ y stand is. inr (subst (λ (at : Stand). IsCurrent at w) (sym (ap (λ (s : Session). s.stand) (sym ends) ∙ stand)) is))
+pub has_last : (f last : View) (seat : ℕ) (w : Work) → last.session seat ≡ f.session seat → Lasts w (last.session seat) → HasNumbered f seat w.number w.begin
+has_last f last seat w ends lasts = there_or (HasNumbered f seat w.number w.begin) w (last.session seat) lasts gone
+    (λ y stand is. (w, inr (subst (λ (at : Stand). IsCurrent at w) (sym (ap (λ (s : Session). s.stand) (sym ends) ∙ stand)) is), refl, refl))
+  where
+    gone : IsGone w (last.session seat) → HasNumbered f seat w.number w.begin
+    gone it = (it.work, by it.at, it.number, it.begin)
+      where
+        by : IsOver (last.session seat).over it.work ⊎ ((stamp : ℕ) × ((last.session seat).stand ≡ world.sealed it.work stamp)) → Has f seat it.work
+        by (inl o) = inl (subst (λ (s : Session). IsOver s.over it.work) ends o)
+        by (inr (stamp, stand)) = inr (subst (λ (at : Stand). IsCurrent at it.work) (sym (ap (λ (s : Session). s.stand) (sym ends) ∙ stand)) refl)

@@ -1,5 +1,5 @@
 -- Each own line of a session that was answered, and its close, is a turn of it.
-use Rattle.std.proofs.Common.{◌≡◌, ℕ, true, List, Option, Some, None, refl, sym, ap, ◌∙◌, subst}
+use Rattle.std.proofs.Common.{◌≡◌, ℕ, true, List, Option, Some, None, refl, sym, ap, ◌∙◌, subst, [], append-nil, arith}
 use Rattle.erm_model.specs.declared.outcome.Phase.{Phase}
 use Rattle.erm_model.specs.declared.outcome.Phase.TheVariants.{Idle, Active, Sealed, Pending, Safe}
 use Rattle.erm_model.specs.Run.{Step}
@@ -21,15 +21,18 @@ use Rattle.erm_lines.proofs.Moved.{active_where}
 use Rattle.erm_lines.proofs.Watched.{idle_where, snapshot_there, start_where}
 use Rattle.erm_beside.specs.Calls.{DidBeginBeside, Passes}
 use Rattle.erm_told.proofs.Executed.{told_same}
-use Rattle.erm_told.proofs.Going.{continues_then}
+use Rattle.erm_told.proofs.Going.{continues_then, continues_from}
 use Rattle.erm_told.proofs.Lines.{quiet_heard, quiet_phase}
 use Rattle.erm_told.proofs.Saves.{turn_back, turn_save}
 use Rattle.erm_told.proofs.Turns.{TellsAt, told_sealed, told_still, turn_aborted, turn_begins, turn_decided, turn_sealed, turn_still}
-use Rattle.erm_lines_at_once.specs.Answers.{DidAskedBeside, DidCloseBeside, DidCommandBeside, DidCommitBeside, DidDecideBeside, DidEndBeside, DidLineBeside}
+use Rattle.erm_lines_at_once.specs.Answers.{DidAskedBeside, DidCloseBeside, DidCommandBeside, DidCommitBeside, DidDecideBeside, DidEndBeside, DidLineBeside, DidAskMarkBeside, DidOfSnapshotBeside}
 use Rattle.erm_lines_at_once.proofs.Watched.{in_phase}
 use Rattle.erm_told_at_once.proofs.Operated.{turns_operation}
-use Rattle.erm_told_at_once.proofs.Turns.{Turns, onward_then, turns_after}
+use Rattle.erm_told_at_once.proofs.Turns.{Turns, onward_then, turns_after, onward_passes}
 use Rattle.erm_told_at_once.proofs.Watched.{turns_closed, turns_of_snapshot, turns_snapshot}
+use Rattle.erm_told.proofs.Watching.{told_marking, turn_marked}
+use Rattle.erm_lines.specs.Told.{Continues}
+use Rattle.erm_world.specs.Safe.{HasSnapshot}
 
 -- nothing happened but that others went on
 turns_still : (seat : ℕ) (asked : Option Command) (a : Answer) (v u t : View) → Passes seat v u → t ≡ u → ((phase : Phase) → phase_after asked a phase ≡ phase)
@@ -52,17 +55,20 @@ turns_begun none seat begin asked v u t passes idle (few, is, now) =
 turns_decides : (seat : ℕ) (asked : Option Command) (a : Answer) (v t : View) → DidDecideBeside seat a v t → Turns seat asked a v t
 turns_decides seat asked (answer.Committed stamp succ pred) v t (r, at, after, before, (u, passes, (w, own, stand, settled))) =
     turns_after seat asked (answer.Committed stamp succ pred) v u t passes
-    (turn_decided u seat asked (answer.Committed stamp succ pred) t w own (Commits stamp succ pred) (world.commits own r.succ r.pred) stand settled.0 refl (λ p. refl)
-    (sym at ∙ settled.2, sym after, sym before) refl (λ steps run. run))
+    (turn_decided u seat asked (answer.Committed stamp succ pred) t w own (Commits stamp succ pred) (world.commits own r.succ r.pred) stand settled.1 settled.0 refl (λ p. refl)
+    (sym at ∙ settled.3, sym after, sym before) refl (λ steps run. run))
 turns_decides seat asked (answer.Excluded stamp succ pred) v t (u, passes, (w, own, stand, settled)) =
     turns_after seat asked (answer.Excluded stamp succ pred) v u t passes
-    (turn_decided u seat asked (answer.Excluded stamp succ pred) t w own (Excludes (Some stamp) succ pred) (world.excluded own succ pred) stand settled.0 refl (λ p. refl)
-    (settled.1, refl, refl) refl (λ steps run. run))
+    (turn_decided u seat asked (answer.Excluded stamp succ pred) t w own (Excludes (Some stamp) succ pred) (world.excluded own succ pred) stand settled.1 settled.0 refl (λ p. refl)
+    (settled.2, refl, refl) refl (λ steps run. run))
+turns_decides seat asked (answer.Marked safe stamp) v t (u, passes, (w, own, stand, settled)) =
+    turns_after seat asked (answer.Marked safe stamp) v u t passes (turn_marked u seat asked safe stamp t w own stand settled.1 settled.0 settled.2 settled.3)
 turns_decides seat asked a v t did = absurd did
 
 decide_leaves : (seat : ℕ) (asked : Option Command) (a : Answer) (v t : View) (x y : Phase) → DidDecideBeside seat a v t → phase_after asked a x ≡ phase_after asked a y
 decide_leaves seat asked (answer.Committed stamp succ pred) v t x y did = refl
 decide_leaves seat asked (answer.Excluded stamp succ pred) v t x y did = refl
+decide_leaves seat asked (answer.Marked safe stamp) v t x y did = refl
 decide_leaves seat asked a v t x y did = absurd did
 
 turns_commit : (seat : ℕ) (a : Answer) (v t : View) → phase_at v seat ≡ Active → DidCommitBeside seat a v t → Turns seat (Some command.Commit) a v t
@@ -79,6 +85,23 @@ turns_commit seat a v t active did =
         tells = λ p told. second.took.tells p (told_sealed u seat did.stamp m p now sealed (told_same seat p v u passes.own passes.saves told));
       };
       onward = onward_then v m t first.onward second.onward;
+    }
+
+-- A MARK is sealed, and then marked.
+turns_mark : (seat : ℕ) (a : Answer) (v t : View) → DidAskMarkBeside seat a v t → Turns seat (Some command.Mark) a v t
+turns_mark seat a v t did =
+    let (u, passes, marked) = did.sealed in
+    let m = did.between in
+    let second = turns_decides seat (Some command.Mark) a m t did.decided in
+    let first : Continues (u.session seat) (m.session seat) =
+    continues_from (u.session seat) (m.session seat) (world.snapshot marked.snapshot) marked.stands [] (ap (λ (s : Session). s.over) marked.seals.own ∙ sym (append-nil (u.session seat).over)) tt in
+    record {
+      took = record {
+        goes = continues_then (v.session seat) (m.session seat) (t.session seat) (subst (λ (s : Session). Continues s (m.session seat)) passes.own first) second.took.goes;
+        phase = decide_leaves seat (Some command.Mark) a m t (phase_at v seat) (phase_at m seat) did.decided ∙ second.took.phase;
+        tells = λ p told. second.took.tells p (told_marking u seat did.stamp m p marked (told_same seat p v u passes.own passes.saves told));
+      };
+      onward = onward_then v m t (onward_then v u m (onward_passes seat v u passes) (record { opening = marked.seals.opening; tail = omega (arith, marked.seals.tail) })) second.onward;
     }
 
 -- THE LINES.
@@ -115,11 +138,15 @@ module _ (runs : NoneRuns) (stay : (w u : Work) (steps : List Step) → Extends 
       turns_still seat (Some command.Durable) answer.NoReceipt v u t passes did.0 (λ phase. refl) (λ p told. told_still seat (Some command.Durable) answer.NoReceipt p u refl refl told)
   turns_command f seat c a v t free plain did = absurd did
 
+  turns_watched : (f : View) (seat : ℕ) (c : Command) (a : Answer) (v t : View) → HasSnapshot v seat → DidOfSnapshotBeside f seat c a v t → Turns seat (Some c) a v t
+  turns_watched f seat command.Mark a v t has did = turns_mark seat a v t did
+  turns_watched f seat c a v t has did = turns_of_snapshot f seat c a v t has (λ (marks : c ≡ command.Mark). cc) did
+
   turns_asked : (f : View) (seat : ℕ) (c : Command) (a : Answer) (v t : View) (refusal : Option Answer) → refusal_of (phase_at v seat) c ≡ refusal
       → FitsRefusal refusal c a → DidAskedBeside refusal f seat c a v t → Turns seat (Some c) a v t
   turns_asked f seat c a v t None is fits did =
       in_phase (Turns seat (Some c) a v t) f seat c a v t (λ plain did. turns_command f seat c a v t is plain did)
-      (λ has did. turns_of_snapshot f seat c a v t (snapshot_there v seat has) did) did
+      (λ has did. turns_watched f seat c a v t (snapshot_there v seat has) did) did
   turns_asked f seat c a v t (Some r) is fits did = turns_refused seat c a r v t (phase_refuses (need_of c) (phase_at v seat) r is) fits did
 
   pub turns_line : (f : View) (l : ScriptLine) (a : Answer) (v t : View) → DidLineBeside f l a v t → Turns l.session (Some l.command) a v t

@@ -13,15 +13,16 @@ use Rattle.erm_good_report.specs.Windows.{IsReplied}
 use Rattle.erm_lines_at_once.specs.Answers.{DidAskedBeside, DidCommitBeside, DidInBeside, DidLineBeside, DidOfSnapshotBeside}
 
 replied : (f : View) (seat : ℕ) (c : Command) (a : Answer) (v t : View) → DidOfSnapshotBeside f seat c a v t → (c ≡ command.Safe → ⊥) → (c ≡ command.Commit → ⊥) → (c ≡ command.Abort → ⊥)
-    → (c ≡ command.Durable → ⊥) → IsReplied a
-replied f seat command.Safe a v t did one two three four = absurd (one refl)
-replied f seat command.Commit a v t did one two three four = absurd (two refl)
-replied f seat command.Abort a v t did one two three four = absurd (three refl)
-replied f seat command.Durable a v t did one two three four = absurd (four refl)
-replied f seat (command.Get table key) (answer.Replied r) v t did one two three four = (r, refl)
-replied f seat (command.Next table from) (answer.Replied r) v t did one two three four = (r, refl)
-replied f seat (command.Scan table low high) (answer.Replied r) v t did one two three four = (r, refl)
-replied f seat c a v t did one two three four = absurd did
+    → (c ≡ command.Durable → ⊥) → (c ≡ command.Mark → ⊥) → IsReplied a
+replied f seat command.Safe a v t did one two three four five = absurd (one refl)
+replied f seat command.Commit a v t did one two three four five = absurd (two refl)
+replied f seat command.Abort a v t did one two three four five = absurd (three refl)
+replied f seat command.Durable a v t did one two three four five = absurd (four refl)
+replied f seat command.Mark a v t did one two three four five = absurd (five refl)
+replied f seat (command.Get table key) (answer.Replied r) v t did one two three four five = (r, refl)
+replied f seat (command.Next table from) (answer.Replied r) v t did one two three four five = (r, refl)
+replied f seat (command.Scan table low high) (answer.Replied r) v t did one two three four five = (r, refl)
+replied f seat c a v t did one two three four five = absurd did
 
 ends_so : (f : View) (seat : ℕ) (a : Answer) (v t : View) → DidOfSnapshotBeside f seat command.Commit a v t → a ≡ answer.Ended
 ends_so f seat answer.Ended v t did = refl
@@ -31,9 +32,9 @@ no_end : (seat : ℕ) (v t : View) → DidCommitBeside seat answer.Ended v t →
 no_end seat v t did = did.decided
 
 fits_in : (p : Phase) (f : View) (seat : ℕ) (c : Command) (a : Answer) (v t : View) → (refusal_of p c ≡ None → DidInBeside p f seat c a v t) → FitsRefusal (refusal_of p c) c a → FitsSnapshot p c a
-fits_in Safe f seat (command.Get table key) a v t did fits = replied f seat (command.Get table key) a v t (did refl) (λ e. cc) (λ e. cc) (λ e. cc) (λ e. cc)
-fits_in Safe f seat (command.Next table from) a v t did fits = replied f seat (command.Next table from) a v t (did refl) (λ e. cc) (λ e. cc) (λ e. cc) (λ e. cc)
-fits_in Safe f seat (command.Scan table low high) a v t did fits = replied f seat (command.Scan table low high) a v t (did refl) (λ e. cc) (λ e. cc) (λ e. cc) (λ e. cc)
+fits_in Safe f seat (command.Get table key) a v t did fits = replied f seat (command.Get table key) a v t (did refl) (λ e. cc) (λ e. cc) (λ e. cc) (λ e. cc) (λ e. cc)
+fits_in Safe f seat (command.Next table from) a v t did fits = replied f seat (command.Next table from) a v t (did refl) (λ e. cc) (λ e. cc) (λ e. cc) (λ e. cc) (λ e. cc)
+fits_in Safe f seat (command.Scan table low high) a v t did fits = replied f seat (command.Scan table low high) a v t (did refl) (λ e. cc) (λ e. cc) (λ e. cc) (λ e. cc) (λ e. cc)
 fits_in Safe f seat command.Commit a v t did fits = ends_so f seat a v t (did refl)
 fits_in Safe f seat c a v t did fits = tt
 fits_in Pending f seat command.Safe (answer.LogEnd tail) v t did fits = did refl

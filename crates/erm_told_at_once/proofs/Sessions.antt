@@ -18,7 +18,7 @@ use Rattle.erm_good_report.proofs.Places.{said_at, said_by}
 use Rattle.erm_lines.specs.Executions.{line_moves}
 use Rattle.erm_lines.specs.Told.{Tells, TellsWatched}
 use Rattle.erm_lines.proofs.Keeping.{NoneRuns}
-use Rattle.erm_told.specs.Snapshots.{begin_in}
+use Rattle.erm_told.specs.Snapshots.{begin_in, HasNumbered}
 use Rattle.erm_told.proofs.Executed.{Knows, still_session}
 use Rattle.erm_told.proofs.Lasting.{Lasts}
 use Rattle.erm_told.proofs.Lasting as lasting
@@ -26,7 +26,7 @@ use Rattle.erm_told.proofs.Reported.{ended_at, in_option}
 use Rattle.erm_told.proofs.Runs.{said_lines}
 use Rattle.erm_lines_at_once.specs.Executions.{IsOwnRun}
 use Rattle.erm_lines_at_once.specs.Parts.{IsRunInPart}
-use Rattle.erm_told_at_once.proofs.Begins.{BegunAt, begin_of, begun_at}
+use Rattle.erm_told_at_once.proofs.Begins.{BegunAt, begun_at, begin_by}
 use Rattle.erm_told_at_once.proofs.Lasting.{has_last, lasts_own}
 use Rattle.erm_told_at_once.proofs.Places.{OwnPlace, at_place, earlier_place, none_drawn}
 use Rattle.erm_told_at_once.proofs.Runs.{OwnAt, OwnGoes, at_first, close_of, knows_own, own_at, own_lines}
@@ -77,21 +77,21 @@ module _ (runs : NoneRuns) (stay : (w u : Work) (steps : List Step) → Extends 
   tells_lines = subst (λ (list : List Said). Tells seat (progress_of seat list) (lines.0.session seat)) (said_lines script answers)
       (knows_own runs stay f seat (line_moves script answers) nothing Idle v lines.0 lines.1 first_there).told.tells
 
-  at_last : (w : Work) → Lasts w (lines.0.session seat) → Has f seat w
+  at_last : (w : Work) → Lasts w (lines.0.session seat) → HasNumbered f seat w.number w.begin
   at_last w lasts =
       has_last f (run.own seat session).last seat w (run.own seat session).ends (lasts_own runs stay f seat w (map close_of closed) lines.0 (run.own seat session).last lines.2 lasts)
 
   told_as : (o : Option ℕ) (begin other : ℕ) → o ≡ Some begin → IfSome o (λ stamp. stamp ≡ other) → begin ≡ other
   told_as o begin other is told = subst (λ (x : Option ℕ). IfSome x (λ stamp. stamp ≡ other)) is told
 
-  begin_as : (s : Snapshot) (begin : ℕ) (w : Work) → Has f seat w → s.number ≡ w.number → begin ≡ w.begin → begin_in (f.session seat) s.number ≡ begin
-  begin_as s begin w has number is = ap (λ (n : ℕ). begin_in (f.session seat) n) number ∙ begin_of f seat numbered_there w has ∙ sym is
+  begin_as : (s : Snapshot) (begin : ℕ) (w : Work) → HasNumbered f seat w.number w.begin → s.number ≡ w.number → begin ≡ w.begin → begin_in (f.session seat) s.number ≡ begin
+  begin_as s begin w has number is = ap (λ (n : ℕ). begin_in (f.session seat) n) number ∙ begin_by f seat numbered_there w.number w.begin has ∙ sym is
 
   over_begin : (s : Snapshot) (begin : ℕ) → s ∈ (progress_of seat said).snapshots → s.begin ≡ Some begin → begin_in (f.session seat) s.number ≡ begin
   over_begin s begin m is =
       let p : Progress = progress_of seat said in
       let found = ended_at seat p.over p.snapshots (lines.0.session seat).over s tells_lines.over m in
-      begin_as s begin found.0.work (at_last found.0.work (lasting.over (found.0, found.1, refl))) found.2.snapshot.number_is
+      begin_as s begin found.0.work (at_last found.0.work (lasting.over found.0.work (found.0, found.1, refl) refl refl)) found.2.snapshot.number_is
       (told_as s.begin begin found.0.work.begin is found.2.snapshot.begin_is)
 
   now_begin : (s : Snapshot) (begin : ℕ) → (progress_of seat said).snapshot ≡ Some s → s.begin ≡ Some begin → begin_in (f.session seat) s.number ≡ begin
@@ -100,7 +100,8 @@ module _ (runs : NoneRuns) (stay : (w u : Work) (steps : List Step) → Extends 
       from : (stand : Stand) → (lines.0.session seat).stand ≡ stand → TellsWatched (Some s) stand → begin_in (f.session seat) s.number ≡ begin
       from world.idle stood told = absurd told
       from (world.active w) stood told = absurd told
-      from (world.sealed w stamp) stood told = absurd told
+      from (world.sealed w stamp) stood told =
+          begin_as s begin w (at_last w (lasting.sealed w stamp stood refl refl)) told.snapshot.number_is (told_as s.begin begin w.begin is told.snapshot.begin_is)
       from (world.snapshot x) stood told =
           begin_as s begin (world.begun x.number x.begin) (at_last (world.begun x.number x.begin) (lasting.still x stood refl)) told.snapshot.number_is
           (told_as s.begin begin x.begin is told.snapshot.begin_is)

@@ -364,7 +364,7 @@ module _ (runs : NoneRuns) (stay : (w u : Work) (steps : List Step) → Extends 
           begun =
               ⊎_elim (λ (low : r.work.begin ≤ line_before.0.after.tail). le_trans low below_begin)
               (λ (low : (x : Work) → Has f seat x → r.own.number < x.number → r.work.begin ≤ x.begin).
-              omega (arith, low (world.begun s.number (begin_in (f.session seat) s.number)) begins_there.has (omega (arith, own, more, next)), is)) r.begun;
+              let has = begins_there.has in omega (arith, low has.0 has.1 (omega (arith, own, more, next, has.2)), has.3, is)) r.begun;
         }
 
   met_below : (i j session begin : ℕ) (s : Snapshot) (a : Said) → BeginsSnapshot places i session s.number → HasSnapshot places session s → s.begin ≡ Some begin → j < i → slice_get places j ≡ Some a

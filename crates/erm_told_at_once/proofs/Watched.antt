@@ -51,6 +51,7 @@ turn_safe v seat stamp t same (y, at, now) =
         snapshot = record { number_is = own.snapshot.number_is; begin_is = same ∙ ap (λ (stand : Stand). (work_of stand).begin) at };
         safe = refl;
         unfinished = own.unfinished;
+        untold = own.untold;
       };
     })
 
@@ -68,7 +69,8 @@ turn_unsafe v seat other stamp t (x, stand) now =
           (over ++ record { work = u; fate = world.aborts } ∷ [])) (sym (ap work_of stand))
           (ended_told seat p.over p.current (with_ending Aborts) p.snapshots (own_snapshot p) x over told.over
           (subst (λ (at : Stand). TellsNow seat p.current at) stand told.now)
-          (own_watched p x (subst (λ (at : Stand). TellsWatched p.snapshot at) stand told.watched)).snapshot);
+          (own_watched p x (subst (λ (at : Stand). TellsWatched p.snapshot at) stand told.watched)).snapshot
+          (own_watched p x (subst (λ (at : Stand). TellsWatched p.snapshot at) stand told.watched)).untold);
       now = tt;
       watched = tt;
     })
@@ -99,7 +101,7 @@ own_begun seat begin p over told now watched =
       now = subst (λ (o : Option Transaction). TellsNow seat o (world.snapshot x)) (sym (now_none seat p.current now)) tt;
       watched = subst (λ (o : Option Snapshot). TellsWatch (option_map_or (λ (s : Snapshot). s) o (record { number = next_number p; begin = None; lines = []; placed = false; mark = None })) x)
           (sym (watched_none p.snapshot world.idle tt watched))
-          (record { snapshot = record { number_is = next_is seat p over told; begin_is = tt }; safe = refl; unfinished = refl });
+          (record { snapshot = record { number_is = next_is seat p over told; begin_is = tt }; safe = refl; unfinished = refl; untold = refl });
     }
 
 pub starts : (seat begin : ℕ) (v u : View) → phase_at v seat ≡ Idle → After seat (DidBeginSafeBeside seat begin) v u → Starts seat begin v u
@@ -178,19 +180,20 @@ turns_given_up : (seat : ℕ) (asked : Option Command) (v t : View) → HasSnaps
 turns_given_up seat asked v t has (u, passes, did) =
     let there = passed_has v u seat passes has in turns_after seat asked answer.Aborted v u t passes (turn_given_up u seat there.0 there.1 asked t did)
 
-pub turns_of_snapshot : (f : View) (seat : ℕ) (c : Command) (a : Answer) (v t : View) → HasSnapshot v seat → DidOfSnapshotBeside f seat c a v t → Turns seat (Some c) a v t
-turns_of_snapshot f seat command.Safe a v t has did = turns_asks f seat a v t has did
-turns_of_snapshot f seat (command.Get table key) (answer.Replied r) v t has did = turns_look f seat (command.Get table key) r v t has did
-turns_of_snapshot f seat (command.Next table from) (answer.Replied r) v t has did = turns_look f seat (command.Next table from) r v t has did
-turns_of_snapshot f seat (command.Scan table low high) (answer.Replied r) v t has did = turns_look f seat (command.Scan table low high) r v t has did
-turns_of_snapshot f seat command.Commit answer.Ended v t has (u, passes, did) =
+pub turns_of_snapshot : (f : View) (seat : ℕ) (c : Command) (a : Answer) (v t : View) → HasSnapshot v seat → (c ≡ command.Mark → ⊥) → DidOfSnapshotBeside f seat c a v t → Turns seat (Some c) a v t
+turns_of_snapshot f seat command.Safe a v t has other did = turns_asks f seat a v t has did
+turns_of_snapshot f seat (command.Get table key) (answer.Replied r) v t has other did = turns_look f seat (command.Get table key) r v t has did
+turns_of_snapshot f seat (command.Next table from) (answer.Replied r) v t has other did = turns_look f seat (command.Next table from) r v t has did
+turns_of_snapshot f seat (command.Scan table low high) (answer.Replied r) v t has other did = turns_look f seat (command.Scan table low high) r v t has did
+turns_of_snapshot f seat command.Commit answer.Ended v t has other (u, passes, did) =
     let there = passed_has v u seat passes has in turns_after seat (Some command.Commit) answer.Ended v u t passes (turn_placed u seat there.0 there.1 (Some command.Commit) t did)
-turns_of_snapshot f seat command.Abort answer.Aborted v t has did = turns_given_up seat (Some command.Abort) v t has did
-turns_of_snapshot f seat command.Durable (answer.Durable stamp) v t has (u, passes, did) =
+turns_of_snapshot f seat command.Abort answer.Aborted v t has other did = turns_given_up seat (Some command.Abort) v t has did
+turns_of_snapshot f seat command.Durable (answer.Durable stamp) v t has other (u, passes, did) =
     turns_after seat (Some command.Durable) (answer.Durable stamp) v u t passes (turn_durable u seat (answer.Durable stamp) t did)
-turns_of_snapshot f seat command.Durable answer.NoReceipt v t has (u, passes, did) =
+turns_of_snapshot f seat command.Durable answer.NoReceipt v t has other (u, passes, did) =
     turns_after seat (Some command.Durable) answer.NoReceipt v u t passes (turn_durable u seat answer.NoReceipt t did)
-turns_of_snapshot f seat c a v t has did = absurd did
+turns_of_snapshot f seat command.Mark a v t has other did = absurd (other refl)
+turns_of_snapshot f seat c a v t has other did = absurd did
 
 -- its end
 pub turns_closed : (seat : ℕ) (a : Answer) (v t : View) → HasSnapshot v seat → a ≡ answer.Aborted → After seat (λ u w. DidAbort u seat w) v t → Turns seat None a v t
