@@ -223,6 +223,7 @@ module _ (none : NoneRuns) (v t : View) (seat : ℕ) (runs : AreRunsNow v) where
     command_kept command.Settle a allowed plain did = kept v t seat runs (decided_turns v t seat a did)
     command_kept command.Commit a allowed plain did = kept v t seat runs (committed_turns v t seat a did)
     command_kept command.Abort a allowed plain did = aborted_kept a did
+    command_kept command.Mark a allowed plain did = absurd did
     command_kept (command.Get table key) a allowed plain did = operation_kept (command.Get table key) a (active_where NeedsReader (phase_at v seat) tt plain allowed) did
     command_kept (command.Put table key value) a allowed plain did = operation_kept (command.Put table key value) a (active_where NeedsWriter (phase_at v seat) tt plain allowed) did
     command_kept (command.Del table key) a allowed plain did = operation_kept (command.Del table key) a (active_where NeedsWriter (phase_at v seat) tt plain allowed) did

@@ -14,20 +14,20 @@ unreachable-requires g c =
     marks_only (g.W.RowWorld.view c.args.world.now) (g.W.RowWorld.view c.mark.new.self) (g.W.RowWorld.view c.settle.new.self) c.args.seat c.mark.result c.in-Ok.outcome c.mark.ensures.sealed
     c.in-Ok.ensures.ok c.in_default.not-Marked
 
-pub returns-in-Ok-clause-answered : goal.returns-in-Ok-clause-answered
-returns-in-Ok-clause-answered g c =
+pub returns-in-Marked-clause-answered : goal.returns-in-Marked-clause-answered
+returns-in-Marked-clause-answered g c =
     let v = g.W.RowWorld.view c.args.world.now in
     let u = g.W.RowWorld.view c.mark.new.self in
     let t = g.W.RowWorld.view c.settle.new.self in
     marked_watched v u t c.args.seat c.mark.result c.in-Marked.stamp c.in-Marked.safe c.mark.ensures.sealed (subst (λ (o : Outcome). DidSettle u c.args.seat o t) c.in-Marked.is c.in-Ok.ensures.ok)
 
-pub unreachable-requires-2 : goal.unreachable-requires-2
-unreachable-requires-2 g c =
+pub unreachable-requires-in_default-wait : goal.unreachable-requires-in_default-wait
+unreachable-requires-in_default-wait g c =
     waits_only (g.W.RowWorld.view c.args.world.now) (g.W.RowWorld.view c.mark.new.self) (g.W.RowWorld.view c.settle.new.self) c.args.seat c.mark.result c.in-Err.wait c.mark.ensures.sealed
-    c.in-Err.ensures.err c.in_default-2.not-Ring
+    c.in-Err.ensures.err c.in_default-wait.not-Ring
 
-pub returns-in-Err-clause-answered : goal.returns-in-Err-clause-answered
-returns-in-Err-clause-answered g c =
+pub returns-in-Ring-clause-answered : goal.returns-in-Ring-clause-answered
+returns-in-Ring-clause-answered g c =
     let v = g.W.RowWorld.view c.args.world.now in
     let u = g.W.RowWorld.view c.mark.new.self in
     let t = g.W.RowWorld.view c.settle.new.self in
