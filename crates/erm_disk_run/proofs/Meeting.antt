@@ -1,20 +1,12 @@
 -- Which blocks recovery meets on a disk that holds a log all of which is flushed, and which commits they tell.
 use Rattle.std.proofs.Common.{inl, inr, ◌≡◌, ℕ, zero, suc, ◌+◌, ◌<◌, ◌≤◌, ◌↔◌, List, [], ◌∷◌, ◌++◌, refl, sym, ap, ◌∙◌, subst, arith}
-use Rattle.std.specs.List.{All}
-use Rattle.std.proofs.lemmas.List.Elements.{All-head, All-tail}
 use Rattle.erm_model.specs.Committed.{Committed}
 use Rattle.erm_model.specs.Member.{◌∈◌}
 use Rattle.erm_record.proofs.StoredRows.{stored_length-le, stored_whole}
 use Rattle.erm_block.proofs.OneLogList.{same_log_list}
 use Rattle.erm_model.specs.declared.limits.TheConstants.{LEAST_BLOCK}
-use Rattle.erm_model.specs.Rows.{Rows}
-use Rattle.erm_model.proofs.Members.{none_in_nil}
 use Rattle.erm_block.specs.declared.block.Block.{Block}
-use Rattle.erm_block.specs.declared.block.Kind.{Kind}
 use Rattle.erm_block.specs.declared.block.Kind.TheVariants as kind
-use Rattle.erm_block.specs.Block.{IsOpen, KeepsRulesOf}
-use Rattle.erm_block.specs.LogList.{End, end_after}
-use Rattle.erm_log_disk.specs.Chains.{MayStand}
 use Rattle.erm_flush.specs.Turns.{start_of}
 use Rattle.erm_checkpoint.proofs.Taken.{stands_from}
 use Rattle.erm_outside.specs.Disk.{Step, contents}
@@ -30,6 +22,7 @@ use Rattle.erm_crash.proofs.Places.{met_within}
 use Rattle.erm_told_crash.specs.Logged.{HasCommits}
 use Rattle.erm_told_audit.specs.Audits.{AuditTells}
 use Rattle.erm_told_audit.proofs.Audits.{audit_from}
+use Rattle.erm_told_audit.proofs.Own.{none_opens, the_one}
 
 -- a disk holds a log behind the blocks that recovery met there before, and the block that opened it
 pub record MeetsFound (state : State) (log : Log) (slots : Slots) (old steps : List Step) : Type 0 where
@@ -38,24 +31,6 @@ pub record MeetsFound (state : State) (log : Log) (slots : Slots) (old steps : L
   pub recovers : Recovers sound_law.meets (contents old) pair blocks
   pub at : (state_behind (base pair) blocks).at ≡ state.at
   pub tail : MeetsTail sound_law.meets (blocks ++ open_block state.at state.run ∷ []) log slots steps
-
--- the only one in a list
-the_one : (b only : Block) → b ∈ (only ∷ []) → b ≡ only
-the_one b only (zero, at) = cc
-the_one b only (suc k, at) = cc
-
--- of blocks one after another that are all of one run, that of the block before them, none opens a run
-none_opens : (sound : Rows → Type 0) (end : End) (blocks : List Block) → MayStand sound end blocks → All (λ (b : Block). b.run ≡ end.run) blocks → (b : Block) → b ∈ blocks → b.kind ≡ kind.Open → ⊥
-none_opens sound end [] stand runs b m opens = none_in_nil b m
-none_opens sound end (x ∷ xs) (is, rows, others) runs b (zero, at) opens =
-    let here : x ≡ b = cc in
-    let opened : IsOpen x end.run = subst (λ (k : Kind). KeepsRulesOf k x end.run) (ap (λ (y : Block). y.kind) here ∙ opens) is.rules in
-    let later = opened.run in
-    let same : x.run ≡ end.run = All-head (λ (y : Block). y.run ≡ end.run) x xs runs in
-    omega (arith, later, same)
-none_opens sound end (x ∷ xs) (is, rows, others) runs b (suc k, at) opens =
-    let same : x.run ≡ end.run = All-head (λ (y : Block). y.run ≡ end.run) x xs runs in
-    none_opens sound (end_after x end) xs others (subst (λ (r : ℕ). All (λ (y : Block). y.run ≡ r) xs) (sym same) (All-tail (λ (y : Block). y.run ≡ end.run) x xs runs)) b (k, at) opens
 
 -- the laws of what recovery meets then
 pub record MetLaws : Type 0 where

@@ -44,9 +44,12 @@ audit_tells log commits from met has run ends flushed = record { only = only; al
           | inl older ↦ absurd (omega (arith, run.early b older, stamp, above))
           | inr own ↦ elim (has.each b (subst (λ (bs : List Block). b ∈ bs) (sym gathered) (∈-after run.passed run.both b own))) [
             | inl skips ↦ absurd (none_in_nil x (subst (λ (k : Kind). x ∈ commits_in_kind k b) skips found.tells))
-            | inr told ↦
-                let place = run.above b own in
-                (told.0, told.1, omega (arith, place, told.2.stamp), is ∙ as_logged b told.0 told.2)
+            | inr other ↦ elim other [
+              | inl marks ↦ absurd (none_in_nil x (subst (λ (k : Kind). x ∈ commits_in_kind k b) marks found.tells))
+              | inr told ↦
+                  let place = run.above b own in
+                  (told.0, told.1, omega (arith, place, told.2.stamp), is ∙ as_logged b told.0 told.2)
+            ]
           ]
         ]
 

@@ -30,10 +30,13 @@ front_tells sound log commits front rest from met is has split run = audit_tells
     here = record {
       each = λ b m. elim (has.each b (subst (λ (bs : List Block). b ∈ bs) (sym split) (∈-before front rest b m))) [
         | inl skips ↦ inl skips
-        | inr told ↦
-            let less = front_below sound log front rest is split b m in
-            let stamp = told.2.stamp in
-            inr (told.0, ∈-filter_from (λ (x : Committed). nat_lt x.stamp place) told.0 commits told.1 (lt-ltb told.0.stamp place (omega (arith, less, stamp))), told.2)
+        | inr other ↦ elim other [
+          | inl marks ↦ inr (inl marks)
+          | inr told ↦
+              let less = front_below sound log front rest is split b m in
+              let stamp = told.2.stamp in
+              inr (inr (told.0, ∈-filter_from (λ (x : Committed). nat_lt x.stamp place) told.0 commits told.1 (lt-ltb told.0.stamp place (omega (arith, less, stamp))), told.2))
+        ]
       ];
       all = λ c m low.
           let found = has.all c (in_all c m).0 (let most = front_low log front rest split in omega (arith, low, most)) in
