@@ -11,7 +11,7 @@ use Rattle.erm_model.proofs.Members.{∈-at}
 use Rattle.erm_machine.specs.declared.attempt.Attempt.{Attempt}
 use Rattle.erm_machine.specs.declared.attempt.Claim.{Claim}
 use Rattle.erm_machine.specs.declared.attempt.Decision.{Decision}
-use Rattle.erm_machine.specs.declared.attempt.Decision.TheVariants.{Undecided, Commit, Skip, Mark}
+use Rattle.erm_machine.specs.declared.attempt.Decision.TheVariants.{Undecided, Commit, Skip, Abort, Mark}
 use Rattle.erm_machine.specs.declared.limits.TheConstants.{GREATEST_BLOCK, LEAST_BLOCK, SESSIONS, WRITE_LIMIT}
 use Rattle.erm_machine.specs.declared.part.Part.{Part}
 use Rattle.erm_machine.specs.declared.place.Place.{Place}
@@ -38,6 +38,14 @@ use Rattle.erm_record.specs.Stored.{block_words}
 use Rattle.erm_block.specs.declared.block.TheConstants.{LEAST_SAFE}
 use Rattle.erm_machine.proofs.Backs.{new_is}
 use Rattle.erm_machine.proofs.Decisions.{each_decision}
+
+-- the stamp that a block names beside its place is one of its begin stamp and its successor stamp
+pub same_turn : (d : Decision) (t u : Attempt) → u.begin ≡ t.begin → u.succ ≡ t.succ → turn_of d t ≡ turn_of d u
+same_turn Undecided t u begin succ = sym succ
+same_turn Commit t u begin succ = sym succ
+same_turn Skip t u begin succ = sym succ
+same_turn Abort t u begin succ = sym succ
+same_turn Mark t u begin succ = sym begin
 
 -- a block's header is the machine's
 same_code : (t : Attempt) → code_of (kind_of (decision_of t)) ≡ header_kind (decision_of t)
@@ -133,7 +141,7 @@ module _ (c : Core) (seat : ℕ) (sound : Sound c) (session : is_session seat �
       let turn = turn_fits (decision_of t) in
       let first : 0 < turn_of (decision_of t) t = turn.0 in
       let last : turn_of (decision_of t) t ≤ t.stamp = turn.1 in
-      let succ_is : b.succ ≡ turn_of (decision_of t) t = is.succ in
+      let succ_is : b.succ ≡ turn_of (decision_of t) t = is.succ ∙ same_turn (decision_of t) (decided_by 0 t) t refl refl in
       let stamp = is.stamp in
       let known = numbered in
       record {
@@ -191,7 +199,7 @@ module _ (c : Core) (seat : ℕ) (sound : Sound c) (session : is_session seat �
   rules b true opened mark at is names =
       let how = decided_as true opened mark at in
       let none = unwritten mark in
-      let succ : b.succ ≡ t.begin = is.succ ∙ ap (λ d. turn_of d t) how in
+      let succ : b.succ ≡ t.begin = is.succ ∙ ap (λ (d : Decision). turn_of d (decided_by 0 t)) how in
       record {
         snapshot = names;
         run = is.run_is;

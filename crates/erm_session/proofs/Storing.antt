@@ -31,7 +31,7 @@ use Rattle.erm_rule.specs.Views.{part_in, part_of}
 use Rattle.erm_rule.proofs.Telling.{changed_here, held_part, part_of-changed}
 use Rattle.erm_cells.specs.Spare.{SpareIs}
 use Rattle.erm_session.specs.Settle.{MayBeDecided, MayEnd, StoresBlock, entries_kept, own_block}
-use Rattle.erm_session.proofs.Blocks.{HasOwnBlock, entry, has_own_block, sized_with}
+use Rattle.erm_session.proofs.Blocks.{HasOwnBlock, entry, has_own_block, same_turn, sized_with}
 use Rattle.std.specs.Option.{option_map_or}
 use Rattle.erm_machine.specs.declared.attempt.Attempt.{Attempt}
 use Rattle.erm_machine.proofs.Decisions.{each_decision}
@@ -135,7 +135,7 @@ module _ (v : View) (who run number : ℕ) (t : Pre) (rows : List (List ℕ)) (d
     kind_is = ap kind_of may.decision_is;
     run_is = may.run_is;
     stamp = may.kept.stamp;
-    succ = named;
+    succ = named ∙ same_turn (decision_of x.current) x.current (decided_by 0 x.current) refl refl;
     of_seat = refl;
     number = may.number_is;
     count = may.kept.claim_count;
@@ -219,7 +219,7 @@ module _ (v : View) (who run number : ℕ) (t : Pre) (rows : List (List ℕ)) (d
           kind_is = block_is.kind_is;
           run_is = block_is.run_is;
           stamp = block_is.stamp;
-          succ = block_is.succ;
+          succ = block_is.succ ∙ same_turn (decision_of x.current) (decided_by 0 x.current) (decided_by header filled_x.current) refl refl;
           of_seat = block_is.of_seat;
           number = block_is.number;
           count = block_is.count;
