@@ -3,6 +3,7 @@ use Rattle.std.proofs.Common.{◌≡◌, ℕ, zero, suc, ◌+◌, ◌<◌, ◌�
 use Rattle.std.specs.List.{All}
 use Rattle.std.proofs.lemmas.Bool.{ltb-true, lt-ltb}
 use Rattle.std.proofs.lemmas.List.Elements.{All-head, All-tail}
+use Rattle.erm_model.specs.declared.history.Commit.{Commit}
 use Rattle.erm_model.specs.Committed.{Committed, below}
 use Rattle.erm_model.specs.Member.{◌∈◌}
 use Rattle.erm_model.specs.Rows.{Rows}
@@ -16,7 +17,9 @@ use Rattle.erm_block.specs.LogList.{End, end_after}
 use Rattle.erm_log_disk.specs.Chains.{MayStand}
 use Rattle.erm_flush.specs.Turns.{start_of}
 use Rattle.erm_checkpoint.proofs.Taken.{stands_from}
+use Rattle.erm_recover.specs.Lists.{commits_in_kind}
 use Rattle.erm_recover.specs.Opening.{open_block}
+use Rattle.erm_crash.proofs.Commits.{has_block, of_kind}
 use Rattle.erm_machine.proofs.Listed.{∈-filter, ∈-filter_from}
 use Rattle.erm_world.specs.Log.{IsLog, Log, place_behind}
 use Rattle.erm_world.proofs.Lists.{∈-after, ∈-before, ∈-parts}
@@ -150,3 +153,66 @@ module _
 
   pub are_own : AreOwn commits marks place found from end blocks
   are_own = record { told = audit; marked = record { only = marks_only; all = marks_all }; alone = opens_alone; older = older_met }
+
+-- ---- while the log is opened
+
+module _
+    (commits : List Committed) (marks : List Mark) (place run : ℕ) (found blocks : List Block) (from end : ℕ) (low : BeginBelow place found) (above : (b : Block) → b ∈ found → from ≤ b.stamp)
+    (met : (blocks ≡ found) ⊎ (blocks ≡ found ++ open_block place run ∷ [])) (no_commits : below end commits ≡ []) (no_marks : marks_below end marks ≡ []) where
+  -- a block met is one of those found, or the one that opens the log
+  found_or_opener : (b : Block) → b ∈ blocks → (b ∈ found) ⊎ (b ≡ open_block place run)
+  found_or_opener b m = elim met [
+    | inl same ↦ inl (subst (λ (bs : List Block). b ∈ bs) same m)
+    | inr more ↦ elim (∈-parts found (open_block place run ∷ []) b (subst (λ (bs : List Block). b ∈ bs) more m)) [
+      | inl before ↦ inl before
+      | inr only ↦ inr (the_one b (open_block place run) only)
+    ]
+  ]
+
+  in_met : (b : Block) → b ∈ found → b ∈ blocks
+  in_met b m = elim met [
+    | inl same ↦ subst (λ (bs : List Block). b ∈ bs) (sym same) m
+    | inr more ↦ subst (λ (bs : List Block). b ∈ bs) (sym more) (∈-before found (open_block place run ∷ []) b m)
+  ]
+
+  -- at the place or above it only that one begins
+  opener_at : (b : Block) → b ∈ blocks → place ≤ b.stamp → b ≡ open_block place run
+  opener_at b m high = elim (found_or_opener b m) [
+    | inl before ↦ absurd (let under = low b before in omega (arith, under, high))
+    | inr only ↦ only
+  ]
+
+  tells_none : AuditTells blocks from place []
+  tells_none = record {
+    only = λ x m high. absurd (
+        let has = has_block blocks x m in
+        let b : Block = has.block in
+        let stamp : x.stamp ≡ b.stamp = ap (λ (y : Commit). y.stamp) (of_kind b.kind b x has.tells) in
+        let only = opener_at b has.of (omega (arith, stamp, high)) in
+        none_in_nil x (subst (λ (k : Kind). x ∈ commits_in_kind k b) (ap (λ (y : Block). y.kind) only) has.tells)
+        );
+    all = λ c m high. absurd (none_in_nil c m);
+  }
+
+  marks_none : MarksTell blocks from place []
+  marks_none = record {
+    only = λ b m marked high. absurd (let no : kind.Mark ≡ kind.Open = sym marked ∙ ap (λ (y : Block). y.kind) (opener_at b m high) in cc);
+    all = λ k m high. absurd (none_in_nil k m);
+  }
+
+  pub found_own : AreOwn commits marks place found from end blocks
+  found_own = record {
+    told = subst (AuditTells blocks from place) (sym no_commits) tells_none;
+    marked = subst (MarksTell blocks from place) (sym no_marks) marks_none;
+    alone = λ b m opens. elim (found_or_opener b m) [
+      | inl before ↦ let under = low b before in omega (arith, under)
+      | inr only ↦ let same : b.stamp ≡ place = ap (λ (x : Block). x.stamp) only in omega (arith, same)
+    ];
+    older = λ b less. (
+      λ m. elim (found_or_opener b m) [
+        | inl before ↦ (before, above b before)
+        | inr only ↦ absurd (let same : b.stamp ≡ place = ap (λ (x : Block). x.stamp) only in omega (arith, same, less))
+      ],
+      λ both. in_met b both.0,
+    );
+  }

@@ -25,13 +25,13 @@ use Rattle.erm_told_crash.proofs.Newest.{none_behind, one_over}
 use Rattle.erm_told_crash.proofs.States.{course_apart, course_commits, course_told, told, told_as}
 
 -- a place among blocks that stand one after another is in one of them
-record Covers (blocks : List Block) (place : ℕ) : Type 0 where
+pub record Covers (blocks : List Block) (place : ℕ) : Type 0 where
   pub block : Block
   pub of : block ∈ blocks
   pub from : block.stamp ≤ place
   pub to : place < block.stamp + block.size
 
-covered : (at : ℕ) (blocks : List Block) (place : ℕ) → StandFrom at blocks → at ≤ place → place < place_behind at blocks → Covers blocks place
+pub covered : (at : ℕ) (blocks : List Block) (place : ℕ) → StandFrom at blocks → at ≤ place → place < place_behind at blocks → Covers blocks place
 covered at [] place stand low high = absurd (omega (arith, low, high))
 covered at (b ∷ blocks) place (is, stand) low high =
     ⊎_elim
@@ -42,7 +42,7 @@ covered at (b ∷ blocks) place (is, stand) low high =
     (cases_lt place (at + b.size))
 
 -- the stamps of a transaction that was sealed
-its_stamp : (fate : Fate) (stamp succ : ℕ) → HasStamps fate stamp succ → stamp_of fate ≡ Some stamp
+pub its_stamp : (fate : Fate) (stamp succ : ℕ) → HasStamps fate stamp succ → stamp_of fate ≡ Some stamp
 its_stamp (world.commits at last pred) stamp succ has = ap (λ (n : ℕ). Some n) (sym has.0)
 its_stamp (world.excluded at last pred) stamp succ has = ap (λ (n : ℕ). Some n) (sym has.0)
 its_stamp world.aborts stamp succ has = absurd has

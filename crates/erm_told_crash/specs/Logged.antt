@@ -52,6 +52,10 @@ pub record HasMarks (log : Log) (marks : List Mark) : Type 0 where
 abbrev pub ToldLogCommits : Type 0
 ToldLogCommits = (f : View) (said : List Said) → IsTold f said → StandApart f → (log : Log) → IsLogOf f log → IsLog sound_law.meets log → HasCommits log (history_of (told_in f said))
 
+-- and the marks told
+abbrev pub ToldLogMarks : Type 0
+ToldLogMarks = (f : View) (said : List Said) → IsTold f said → StandApart f → (log : Log) → IsLogOf f log → IsLog sound_law.meets log → HasMarks log (marks_of f.opening.sessions said)
+
 -- the log of a run so far has the commits that are told
 abbrev pub CoursesLogCommits : Type 0
 CoursesLogCommits = (v t : View) (script : List ScriptLine) (answers : List Answer) (course : IsCourse v script answers t) (closed : List Closed) → AreClosed course.closing closed

@@ -3,7 +3,7 @@
 #![tactic(auto)]
 
 ghost use Rattle.erm_told_crash.specs.Laws.{CoursesClose, CoursesTellStates, RangesStandApart, RunsTellAll, ToldTellAll, ToldTellStates};
-ghost use Rattle.erm_told_crash.specs.Logged.{CoursesLogCommits, ToldLogCommits};
+ghost use Rattle.erm_told_crash.specs.Logged.{CoursesLogCommits, CoursesLogMarks, ToldLogCommits, ToldLogMarks};
 ghost use Rattle.erm_told_crash.specs.Spare.{SpareNamesTellNothing};
 
 /// The ranges of the log that transactions take from their commit stamps on stand apart, within the log.
@@ -13,11 +13,12 @@ pub fn ranges_stand_apart()
 
 /// Where what was said tells a world whose ranges of the log stand apart, in turn or at once: at each block of its log, the rows behind it
 /// stand for the state, as it is told, below the place behind it; behind all of it, gathered to its end, for the state after all commits told,
-/// in the serial order; and its blocks are those of the commits told, and those of excluded transactions.
+/// in the serial order; and its blocks are those of the commits told, those of excluded transactions, and those of the marks told.
 pub fn told_logs_tell_states()
     ensures states { ToldTellStates }
     ensures all { ToldTellAll }
     ensures commits { ToldLogCommits }
+    ensures marks { ToldLogMarks }
 {
     erm_core_ssn::rows_run_serially();
     erm_core_ssn::serial_order_is_unique();
@@ -55,9 +56,19 @@ pub fn courses_close_sessions()
     erm_told::executions_go_on();
 }
 
-/// The log of a run so far has the commits that the report tells: its blocks are theirs, and those of excluded transactions.
+/// The log of a run so far has the commits that the report tells: its blocks are theirs, those of excluded transactions, and those of marks.
 pub fn logs_have_the_commits_told()
     ensures { CoursesLogCommits }
+{
+    ranges_stand_apart();
+    erm_told::executions_tell_sessions();
+    erm_told::executions_go_on();
+    told_logs_tell_states();
+}
+
+/// It has the marks that the report tells: its marks are theirs.
+pub fn logs_have_the_marks_told()
+    ensures { CoursesLogMarks }
 {
     ranges_stand_apart();
     erm_told::executions_tell_sessions();

@@ -1,6 +1,7 @@
 use Rattle.erm_model.specs.History.{below}
 use Rattle.erm_world.specs.World.{history_of}
 use Rattle.erm_told_crash.proofs.Logged.{told_log}
+use Rattle.erm_told_crash.proofs.Marks.{told_marks}
 use Rattle.erm_told_crash.proofs.States.{all_behind, state_behind}
 use Rattle.erm_told_crash.proofs.told_logs_tell_states.Goals as goal
 
@@ -29,3 +30,6 @@ returns-clause-all c = λ f said told apart opening same log of is.
 
 pub returns-clause-commits : goal.returns-clause-commits
 returns-clause-commits c = told_log
+
+pub returns-clause-marks : goal.returns-clause-marks
+returns-clause-marks c = told_marks
