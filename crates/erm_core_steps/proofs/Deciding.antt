@@ -13,7 +13,7 @@ use Rattle.erm_model.proofs.Members.{none_in_nil, ∈-at}
 use Rattle.erm_machine.specs.declared.attempt.Attempt.{Attempt}
 use Rattle.erm_machine.specs.declared.attempt.Claim.{Claim}
 use Rattle.erm_machine.specs.declared.attempt.Decision.{Decision}
-use Rattle.erm_machine.specs.declared.attempt.Decision.TheVariants.{Undecided, Commit, Skip, Mark}
+use Rattle.erm_machine.specs.declared.attempt.Decision.TheVariants.{Undecided, Commit, Skip, Abort, Mark}
 use Rattle.erm_machine.specs.declared.event.Kind.{Kind}
 use Rattle.erm_machine.specs.declared.event.Kind.TheVariants as kind
 use Rattle.erm_machine.specs.declared.limits.TheConstants.{GREATEST_BLOCK, LEAST_BLOCK, SESSIONS}
@@ -85,6 +85,14 @@ place_decided p = p
 decided_ending : (pl : Place) → is_sealed pl ≡ true → is_ending (place_decided pl) ≡ true
 decided_ending (Sealed tail stamp) e = refl
 decided_ending _ e = absurd (cc)
+
+-- the stamp that a block names beside its place is one of its begin stamp and its successor stamp
+same_turn : (d : Decision) (t u : Attempt) → u.begin ≡ t.begin → u.succ ≡ t.succ → turn_of d t ≡ turn_of d u
+same_turn Undecided t u begin succ = sym succ
+same_turn Commit t u begin succ = sym succ
+same_turn Skip t u begin succ = sym succ
+same_turn Abort t u begin succ = sym succ
+same_turn Mark t u begin succ = sym begin
 
 -- a block's header is the machine's
 same_code : (t : Attempt) → code_of (kind_of (decision_of t)) ≡ header_kind (decision_of t)
@@ -170,7 +178,7 @@ module _ (c : Core) (seat : ℕ) (sound : Sound c) (session : is_session seat �
       let turn = turn_fits (decision_of t) in
       let first : 0 < turn_of (decision_of t) t = turn.0 in
       let last : turn_of (decision_of t) t ≤ t.stamp = turn.1 in
-      let succ_is : b.succ ≡ turn_of (decision_of t) t = is.succ in
+      let succ_is : b.succ ≡ turn_of (decision_of t) t = is.succ ∙ same_turn (decision_of t) (decided_by 0 t) t refl refl in
       let stamp = is.stamp in
       let known = numbered in
       record {
@@ -235,7 +243,7 @@ module _ (c : Core) (seat : ℕ) (sound : Sound c) (session : is_session seat �
   rules b true opened mark at is names =
       let how = decided_as true opened mark at in
       let none = unwritten mark in
-      let succ : b.succ ≡ t.begin = is.succ ∙ ap (λ d. turn_of d t) how in
+      let succ : b.succ ≡ t.begin = is.succ ∙ ap (λ (d : Decision). turn_of d (decided_by 0 t)) how in
       let safe = begins_there in
       record {
         snapshot = names;
@@ -440,7 +448,7 @@ module _ (sessions seat : ℕ) (behind : List ℕ) (b : Core) (may : MayDecide b
         kind_is = spelled.is_of.kind_is;
         run_is = spelled.is_of.run_is;
         stamp = spelled.is_of.stamp;
-        succ = spelled.is_of.succ;
+        succ = spelled.is_of.succ ∙ same_turn (decision_of whole) (decided_by header t0) (decided_by header whole) refl refl;
         of_seat = spelled.is_of.of_seat;
         number = spelled.is_of.number;
         count = spelled.is_of.count;
@@ -497,6 +505,7 @@ module _ (c : Core) (seat : ℕ) (sound : Sound c) (session : is_session seat �
   pub is_spelled : (out : List ℕ) (n : ℕ) → n ≡ b.size → take b.size out ≡ spelling b → ((b : Block) (at before : ℕ) → IsBlock b at before → length (spelling b) ≡ b.size)
       → IsSpelledBy c seat (get_or out 0 0) (take (n - 1) (drop 1 out))
   is_spelled out n n_is spelled sized =
+      let now : Attempt = (c.seats seat).current in
       let size = is_of.size in
       let least = (sizes c seat sound session may).0 in
       let all : length (spelling b) ≡ b.size = sized b (c.seats seat).current.stamp c.shared.run keeps in
@@ -512,7 +521,7 @@ module _ (c : Core) (seat : ℕ) (sound : Sound c) (session : is_session seat �
           kind_is = is_of.kind_is;
           run_is = is_of.run_is;
           stamp = is_of.stamp;
-          succ = is_of.succ;
+          succ = is_of.succ ∙ same_turn (decision_of now) (decided_by 0 now) (decided_by (get_or out 0 0) now) refl refl;
           of_seat = is_of.of_seat;
           number = is_of.number;
           count = is_of.count;

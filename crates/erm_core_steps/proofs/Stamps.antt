@@ -196,11 +196,12 @@ seals_done sessions seat size b c d e sound_b sound_c sound_d quiet session may 
     let tail_one = one.tail in
     let tail_two = two.tail in
     let tail_three = three.tail in
+    let stamp_is : stamp ≡ b.shared.tail = omega (arith, tail_one) in
     let tail : e.shared.tail ≡ b.shared.tail + size = omega (arith, tail_one, tail_two, tail_three) in
     let opened : e.shared.opening ≡ b.shared.opening = ap (λ (o : Opening). o.tail) opening in
     let unmarked : Work = work_of (b.seats seat).current in
     let bit : ((is_safe (b.seats seat).task || (b.seats seat).current.is_mark) && nat_lt 0 stamp) ≡ is_safe (b.seats seat).task =
-    ap (λ (p : ℕ). (is_safe (b.seats seat).task || (b.seats seat).current.is_mark) && nat_lt 0 p) tail_one ∙ seal_bit b seat sound_b may.active
+    ap (λ (p : ℕ). (is_safe (b.seats seat).task || (b.seats seat).current.is_mark) && nat_lt 0 p) stamp_is ∙ seal_bit b seat sound_b may.active
     in
     let work : work_of (e.seats seat).current ≡ sealed_work (b.seats seat) =
     ap (λ (y : Part). work_of y.current) is ∙ ap (λ (y : Part). work_of y.current) has.is
@@ -220,7 +221,7 @@ seals_done sessions seat size b c d e sound_b sound_c sound_d quiet session may 
       quiet_after sessions seat b e quiet session others (ap (λ (o : Opening). o.tail) opening) (between (e.seats seat).place (e.seats seat).task has.tail stamp place rests)
           (λ _. drawn_size ∙ sized ∙ ap size_of (sym work)) (omega (arith, opened, flushed, low), omega (arith, tail, flushed, high)),
       record {
-        stamp_is = omega (arith, tail_one);
+        stamp_is = stamp_is;
         own =
             ap (λ (p : Place). let s : Session = record { over = map finished_of (e.seats seat).over; stand = stand_of p (e.seats seat).task (e.seats seat).current } in s) place
             ∙ ap (λ (fs : List Finished). made fs (work_of (e.seats seat).current)) over
