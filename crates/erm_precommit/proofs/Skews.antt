@@ -6,7 +6,7 @@ use Rattle.erm_model.specs.Member.{◌∈◌}
 use Rattle.erm_model.proofs.Members.{∈-at}
 use Rattle.erm_machine.specs.declared.attempt.Attempt.{Attempt}
 use Rattle.erm_machine.specs.declared.attempt.Claim.{Claim}
-use Rattle.erm_machine.specs.declared.attempt.Decision.TheVariants.{Undecided, Commit}
+use Rattle.erm_machine.specs.declared.attempt.Decision.TheVariants.{Undecided, Commit, Mark}
 use Rattle.erm_machine.specs.declared.part.Part.{Part}
 use Rattle.erm_machine.specs.declared.task.Task.{Task}
 use Rattle.erm_machine.specs.declared.task.Task.TheVariants as task
@@ -109,6 +109,9 @@ module _ (c : Core) (sound : Sound c) where
   decided : (t : Attempt) → t.decision ≡ Commit → t.decision ≢ Undecided
   decided t commit e = cc
 
+  unmarked : (t : Attempt) → t.decision ≡ Commit → t.decision ≢ Mark
+  unmarked t commit e = cc
+
   fits : (p : ℕ) (t : Attempt) → Commits p t → DecisionFits (history_of c.seats) p t
   fits p t k = sound.common.decided.decided p t k.stands (positive p t k) (decided t k.commit)
 
@@ -121,7 +124,7 @@ module _ (c : Core) (sound : Sound c) where
       let low = (fits q u l).pred.at_least_each (record_of p t) (among p t k, less, inr (inr (overwrites_read p q p q t u k.stands l.stands skew.first))) in
       let high = (fits q u l).succ.at_most_each (record_of p t) (among p t k, less, overwrites_read q p q p u t l.stands k.stands skew.second) in
       let own = (fits p t k).succ.at_most_own in
-      let window = (fits q u l).window.0 l.commit in
+      let window = ((fits q u l).window (unmarked u l.commit)).0 l.commit in
       omega (arith, low, high, own, window)
 
   pub not_both : (p q : ℕ) (t u : Attempt) → p ≢ q → t ∈ all_of (c.seats p) → u ∈ all_of (c.seats q) → IsSkewed t u → t.decision ≡ Commit → u.decision ≡ Commit → ⊥
