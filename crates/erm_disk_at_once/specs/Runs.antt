@@ -29,14 +29,15 @@ use Rattle.erm_good_at_once.specs.GoodAtOnce.{IsGoodAtOnce}
 use Rattle.erm_good_report.specs.GoodReport.{answer_lines, places_of}
 use Rattle.erm_good_report.specs.Opening.{Opening}
 use Rattle.erm_good_report.specs.Phases.{Closed}
-use Rattle.erm_good_report.specs.Transactions.{transactions_of}
+use Rattle.erm_good_report.specs.Marks.{TellsStamps}
+use Rattle.erm_good_report.specs.Transactions.{Mark, transactions_of}
 use Rattle.erm_invariant.specs.Commits.{EachFrontRuns}
 use Rattle.erm_starved_at_once.specs.Owes.{OwesWhenStarved}
 use Rattle.erm_log_run.specs.Saving.{SparesOlder}
-use Rattle.erm_disk_run.specs.Crashes.{Outlives}
+use Rattle.erm_disk_run.specs.Crashes.{LeavesOwn, Outlives, StaysOwn}
 use Rattle.erm_disk_run.specs.Found.{IsFound, StartsFrom}
 use Rattle.erm_disk_run.specs.Limits.{in_table}
-use Rattle.erm_disk_run.specs.Runs.{CountsRun, CutFew, HaveManyCells, commits_told}
+use Rattle.erm_disk_run.specs.Runs.{CountsRun, CutFew, HaveManyCells, commits_told, marks_told}
 use Rattle.erm_disk_run.specs.Stops.{StopsRun}
 use Rattle.erm_disk_run.specs.declared.stops.RunStop.{RunStop}
 use Rattle.erm_disk_run.specs.declared.stops.RunStop.TheVariants as run
@@ -96,6 +97,8 @@ pub record WasRunAtOnce (before after : Option (List Step)) (state : State) (nam
   pub fronts : EachFrontRuns (commits_told names script good.good.report.answers good.good.report.closed) opening.map
   pub outlives : Tells (Outlives (commits_told names script good.good.report.answers good.good.report.closed) state lines) before after
   pub leaves : Tells (LeavesAll (commits_told names script good.good.report.answers good.good.report.closed) state (from_entries (entries_of good.good.report.pairs))) before after
+  pub own : Tells (StaysOwn (commits_told names script good.good.report.answers good.good.report.closed) (marks_told names script good.good.report.answers good.good.report.closed) state) before after
+  pub left : Tells (LeavesOwn (commits_told names script good.good.report.answers good.good.report.closed) (marks_told names script good.good.report.answers good.good.report.closed) state) before after
 
 -- The disk failed while they ran: these lines are the report up to then, of each session's first lines. The commits that their answers and the
 -- sessions closed tell outlive a crash at any moment, and those below any stamp are a serial run. The slots and the segments below that of the place found
@@ -110,6 +113,7 @@ pub record WasCutAtOnce (before after : Option (List Step)) (state : State) (nam
   pub celled : HaveManyCells in_table script cut.answers
   pub fronts : EachFrontRuns (commits_told names (answered_of cut.counts script) cut.answers cut.closed) opening.map
   pub outlives : Tells (Outlives (commits_told names (answered_of cut.counts script) cut.answers cut.closed) state lines) before after
+  pub own : Tells (StaysOwn (commits_told names (answered_of cut.counts script) cut.answers cut.closed) (marks_told names (answered_of cut.counts script) cut.answers cut.closed) state) before after
   pub slots : Tells KeepsSlots before after
   pub segments : Tells (KeepsSegments state) before after
 
@@ -132,6 +136,8 @@ pub record WasStarvedAtOnce (before after : Option (List Step)) (state : State) 
   pub owes : OwesWhenStarved opening script (answered_of counts script) answers (transactions_of (length names) (places_of (answered_of counts script) answers closed))
   pub fronts : EachFrontRuns (commits_told names (answered_of counts script) answers closed) opening.map
   pub outlives : Tells (Outlives (commits_told names (answered_of counts script) answers closed) state (answer_lines (answered_of counts script) answers)) before after
+  pub own : Tells (StaysOwn (commits_told names (answered_of counts script) answers closed) (marks_told names (answered_of counts script) answers closed) state) before after
+  pub stamps : (k : Mark) → k ∈ marks_told names (answered_of counts script) answers closed → TellsStamps (transactions_of (length names) (places_of (answered_of counts script) answers closed)) k
   pub slots : Tells KeepsSlots before after
   pub segments : Tells (KeepsSegments state) before after
 

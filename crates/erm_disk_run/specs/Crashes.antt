@@ -9,7 +9,7 @@ use Rattle.erm_block.specs.declared.block.Block.{Block}
 use Rattle.erm_block.specs.declared.block.Kind.TheVariants as kind
 use Rattle.erm_ckpt.specs.declared.slot.Slots.{Slots}
 use Rattle.erm_ckpt.specs.Recovered.{Pair, Recovers, RecoversAt, State, base, best, slots_of, state_behind}
-use Rattle.erm_told_audit.specs.Audits.{AuditTells}
+use Rattle.erm_told_audit.specs.Audits.{AreOwn, AuditTells}
 use Rattle.erm_ckpt.specs.States.{RecoversTo}
 use Rattle.erm_crash.specs.Moments.{AtMoments, IsMoment, TearsApart}
 use Rattle.erm_crash.specs.Stops.{MayStop}
@@ -22,6 +22,7 @@ use Rattle.erm_recover.specs.Opening.{open_block}
 use Rattle.erm_recover.specs.Waiting.{SinceSettled}
 use Rattle.erm_report.specs.declared.answer.Answer.{Answer}
 use Rattle.erm_report.specs.declared.line.Line.{Line}
+use Rattle.erm_good_report.specs.Transactions.{Mark}
 
 -- At a moment an image recovers to the map that some commits make below a stamp, from a state on. The stamp is at or above a place, and the run is
 -- the state's or the next. The image may be opened again; and what is pending at the moment is what the next opening waits for.
@@ -50,6 +51,25 @@ TellsCommits commits from image =
 -- so it is of each image at each moment that shows each block and each slot whole, or none
 abbrev pub KeepsTold : List Committed → State → List Step → List Step → Type 0
 KeepsTold commits from old new = AtMoments (λ now image. TearsApart sound_law.meets now image → TellsCommits commits from image) old new
+
+-- The blocks that recovery meets in an image are the run's own, behind those found: they tell its commits and its marks below the place to which it
+-- recovers, from the place on where recovery begins.
+abbrev pub MeetsOwn : List Committed → List Mark → State → List Block → Image → Type 0
+MeetsOwn commits marks from found image =
+    (best : Pair) (blocks : List Block) → Recovers sound_law.meets image best blocks
+    → AreOwn commits marks from.at found (base best).at (state_behind (base best) blocks).at blocks
+
+-- so it is of each image at each moment that shows each block and each slot whole, or none
+abbrev pub KeepsOwn : List Committed → List Mark → State → List Block → List Step → List Step → Type 0
+KeepsOwn commits marks from found old new = AtMoments (λ now image. TearsApart sound_law.meets now image → MeetsOwn commits marks from found image) old new
+
+-- behind the blocks that recovery met before, once nothing is pending of what was done then
+abbrev pub StaysOwn : List Committed → List Mark → State → List Step → List Step → Type 0
+StaysOwn commits marks from old new = (before : Pair) (found : List Block) → Recovers sound_law.meets (contents old) before found → SinceSettled (KeepsOwn commits marks from found) old new
+
+-- and so it is of what the disk reads at the end
+abbrev pub LeavesOwn : List Committed → List Mark → State → List Step → List Step → Type 0
+LeavesOwn commits marks from old new = (before : Pair) (found : List Block) → Recovers sound_law.meets (contents old) before found → MeetsOwn commits marks from found (contents new)
 
 -- so it is up to the last moment, from one on at which the disk recovered to the place that an answer tells
 pub record KeepsSince (commits : List Committed) (from : State) (a : Answer) (place : ℕ) (old new : List Step) : Type 0 where

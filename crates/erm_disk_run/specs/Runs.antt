@@ -19,15 +19,15 @@ use Rattle.erm_script.specs.Script.{IsInRange}
 use Rattle.erm_script.specs.declared.script.Command.{Command}
 use Rattle.erm_script.specs.declared.script.Command.TheVariants as command
 use Rattle.erm_script.specs.declared.script.ScriptLine.{ScriptLine}
-use Rattle.erm_good_report.specs.GoodReport.{IsCutReport, IsTightReport, OwesToAnswers, places_of}
+use Rattle.erm_good_report.specs.GoodReport.{IsCutReport, IsTightReport, MarksOwe, OwesToAnswers, places_of}
 use Rattle.erm_good_report.specs.Opening.{InTurn, Opening}
 use Rattle.erm_good_report.specs.Phases.{Closed, Closes, phase_of}
 use Rattle.erm_good_report.specs.Refusals.{IsCounted, claims_of, total_of}
-use Rattle.erm_good_report.specs.Transactions.{history_of, said_of, table_of, transactions_of}
+use Rattle.erm_good_report.specs.Transactions.{Mark, history_of, marks_of, said_of, table_of, transactions_of}
 use Rattle.erm_invariant.specs.Commits.{EachFrontRuns}
 use Rattle.erm_tight.specs.NewKeys.{HaveNewKeys}
 use Rattle.erm_log_run.specs.Saving.{removing_to}
-use Rattle.erm_disk_run.specs.Crashes.{KeepsCommits, KeepsOlder, KeepsTold, Leaves, Outlives}
+use Rattle.erm_disk_run.specs.Crashes.{KeepsCommits, KeepsOlder, KeepsTold, Leaves, LeavesOwn, Outlives, StaysOwn}
 use Rattle.erm_disk_run.specs.Found.{IsFound, StartsFrom}
 use Rattle.erm_disk_run.specs.Limits.{Limits}
 use Rattle.erm_disk_run.specs.Stops.{CountsStop, StopsRun}
@@ -56,6 +56,10 @@ pub record IsScriptFor (names : List (List ℕ)) (script : List ScriptLine) : Ty
 abbrev pub commits_told : List (List ℕ) → List ScriptLine → List Answer → List Closed → List Committed
 commits_told names script answers closed = history_of (transactions_of (length names) (places_of script answers closed))
 
+-- and the marks
+abbrev pub marks_told : List (List ℕ) → List ScriptLine → List Answer → List Closed → List Mark
+marks_told names script answers closed = marks_of (length names) (places_of script answers closed)
+
 -- no answer tells that more versions were cut off than a call of the world does
 abbrev pub CutFew : Limits → List Answer → Type 0
 CutFew limits answers = (n : ℕ) → answer.Cut n ∈ answers → n ≤ limits.cuts
@@ -71,8 +75,8 @@ HaveManyKeys opening sessions script answers = (i drawn : ℕ) → slice_get ans
     → (n : ℕ) × HaveNewKeys sessions [] (take (i + 1) (said_of script answers)) n × (OID_LIMIT < opening.first + PUT_OBJECTS * n)
 
 -- A script was run on a disk from which a state was found, below the end of the log and of runs, over a world with these limits: these lines are a good
--- report, whose windows are tight. The commits that it tells outlive a crash at any moment, those below any stamp are a serial run, and at the end the disk recovers to the
--- map that it tells.
+-- report, whose windows are tight. The commits that it tells outlive a crash at any moment, those below any stamp are a serial run, and at the end the disk
+-- recovers to the map that it tells. At each moment and at the end the log's blocks tell the commits and the marks that it tells, behind those found.
 pub record WasRunOn (limits : Limits) (before after : Option (List Step)) (state : State) (names : List (List ℕ)) (script : List ScriptLine) (lines : List Line) : Type 0 where
   pub low : state.at < STOP
   pub run_low : state.run < LAST_RUN
@@ -86,6 +90,8 @@ pub record WasRunOn (limits : Limits) (before after : Option (List Step)) (state
   pub outlives : Tells (Outlives (commits_told names script tight.good.report.answers tight.good.report.closed) state lines) before after
   pub leaves : Tells (λ old new. Leaves (commits_told names script tight.good.report.answers tight.good.report.closed) state tight.good.report.answers
       (from_entries (entries_of tight.good.report.pairs)) old new) before after
+  pub own : Tells (StaysOwn (commits_told names script tight.good.report.answers tight.good.report.closed) (marks_told names script tight.good.report.answers tight.good.report.closed) state) before after
+  pub left : Tells (LeavesOwn (commits_told names script tight.good.report.answers tight.good.report.closed) (marks_told names script tight.good.report.answers tight.good.report.closed) state) before after
 
 -- Sessions were closed of which no line tells, each once, as the answers leave it; and only behind all lines of the script.
 pub record AreUnseen (names : List (List ℕ)) (script : List ScriptLine) (answers : List Answer) (closed : List Closed) : Type 0 where
@@ -110,7 +116,9 @@ pub record WasCutOn (limits : Limits) (before after : Option (List Step)) (state
   pub unseen : AreUnseen names script cut.answers closed
   pub owes : OwesToAnswers InTurn opening script cut.answers (transactions_of (length names) (places_of script cut.answers closed))
   pub fronts : EachFrontRuns (commits_told names script cut.answers closed) opening.map
+  pub marks : MarksOwe InTurn opening (length names) script cut.answers closed
   pub outlives : Tells (Outlives (commits_told names script cut.answers closed) state lines) before after
+  pub own : Tells (StaysOwn (commits_told names script cut.answers closed) (marks_told names script cut.answers closed) state) before after
   pub older : Tells (KeepsOlder state (λ slots. removing_to slots script cut.answers)) before after
 
 -- Memory ran out while a script was run on a disk, or was told: behind some of its lines, or behind all of them. These answers, of which no line tells,
@@ -133,6 +141,8 @@ pub record WasStarvedOn (limits : Limits) (before after : Option (List Step)) (s
   pub fronts : EachFrontRuns (commits_told names script answers closed) opening.map
   pub moments : Tells (SinceSettled (KeepsCommits (commits_told names script answers closed) state state.at)) before after
   pub logged : Tells (SinceSettled (KeepsTold (commits_told names script answers closed) state)) before after
+  pub marks : MarksOwe InTurn opening (length names) script answers closed
+  pub own : Tells (StaysOwn (commits_told names script answers closed) (marks_told names script answers closed) state) before after
   pub older : Tells (KeepsOlder state (λ slots. removing_to slots script answers)) before after
 
 -- how a run ends on a disk before and after, over a world with these limits

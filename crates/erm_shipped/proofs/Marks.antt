@@ -1,4 +1,4 @@
--- The safe stamps that a report tells of its snapshots are behind its opening, and so are those that its marks name; and its commits keep what they promise.
+-- The begin stamps that a report tells of its safe snapshots are behind its opening; and what is so of them is so of those that its marks name.
 use Rattle.std.proofs.Common.{◌≡◌, ℕ, zero, suc, ◌+◌, ◌≤◌, ◌⊎◌, ◌==◌, Bool, true, false, cond, List, [], ◌∷◌, ◌++◌, fold, map, take, slice_get, Option, Some, None, refl, sym, ap, ◌∙◌, subst, inl, inr, arith}
 use Rattle.std.specs.List.{cons_option, filter_map, flat_map, range_with_len}
 use Rattle.std.specs.Option.{option_map, option_map_or, option_to_list}
@@ -7,7 +7,6 @@ use Rattle.std.proofs.lemmas.List.Sums.{fold-append}
 use Rattle.erm_model.specs.declared.limits.TheConstants.{LEAST_BLOCK}
 use Rattle.erm_model.specs.declared.outcome.Phase.{Phase}
 use Rattle.erm_model.specs.declared.outcome.Phase.TheVariants as phase
-use Rattle.erm_model.specs.Committed.{Committed}
 use Rattle.erm_model.specs.Member.{◌∈◌}
 use Rattle.erm_model.proofs.Members.{none_in_nil}
 use Rattle.erm_report.specs.declared.answer.Answer.{Answer}
@@ -15,12 +14,12 @@ use Rattle.erm_report.specs.declared.answer.Answer.TheVariants as answer
 use Rattle.erm_script.specs.declared.script.Command.{Command}
 use Rattle.erm_script.specs.declared.script.Command.TheVariants as command
 use Rattle.erm_script.specs.declared.script.ScriptLine.{ScriptLine}
-use Rattle.erm_good_report.specs.GoodReport.{MarksOwe, OwesToAnswers, places_of}
+use Rattle.erm_good_report.specs.GoodReport.{OwesToAnswers, places_of}
 use Rattle.erm_good_report.specs.Opening.{Mode, Opening}
 use Rattle.erm_good_report.specs.Phases.{Closed, Closes, FitsPhase, IsAnswerTo, phase_of}
 use Rattle.erm_good_report.specs.Refusals.{moment_at}
-use Rattle.erm_good_report.specs.Snapshots.{BeginsSnapshot, IsOfSnapshot, IsSafeAmong}
-use Rattle.erm_good_report.specs.Transactions.{Aborts, Commits, Ending, Excludes, HasSnapshot, Mark, Progress, Said, Snapshot, Transaction, heard, history_of, marked_as, marks_of, next_number, nothing, own_snapshot, progress_of, said_of, snapshot_after, transactions_of, with_begin, with_end, with_look, with_mark}
+use Rattle.erm_good_report.specs.Snapshots.{BeginsSnapshot, IsOfSnapshot}
+use Rattle.erm_good_report.specs.Transactions.{Aborts, Commits, Ending, Excludes, HasSnapshot, Mark, Progress, Said, Snapshot, Transaction, heard, marked_as, marks_of, next_number, nothing, own_snapshot, progress_of, said_of, snapshot_after, with_begin, with_end, with_look, with_mark}
 use Rattle.erm_good_report.proofs.Phases.{answers_so}
 use Rattle.erm_good_report.proofs.Places.{said_at, said_by}
 
@@ -241,61 +240,66 @@ module _ (mode : Mode) (opening : Opening) (script : List ScriptLine) (answers :
     all_behind : AreSo Behind (progress_of q said)
     all_behind = walks Behind (keeps_behind begins least q) q script answers nothing lines_ask (none_yet Behind)
 
-    -- a begin stamp told lies behind the opening, and the commits keep it
-    abbrev Kept : ℕ → Type 0
-    Kept safe = (least ≤ safe) × IsSafeAmong (history_of told) safe
+    -- a begin stamp told lies behind the opening
+    pub told_behind : (s : Snapshot) (safe : ℕ) → HasSnapshot said q s → s.begin ≡ Some safe → least ≤ safe
+    told_behind s safe has is =
+        let behind = pushed Behind (progress_of q said).snapshots (progress_of q said).snapshot all_behind.over all_behind.now s has in
+        let same = behind.told safe is in
+        let low = behind.number in
+        omega (arith, same, low)
 
-    abbrev IsKept : Snapshot → Type 0
-    IsKept s = (safe : ℕ) → s.begin ≡ Some safe → Kept safe
+-- ---- what is so of the begin stamps that are told of a session's snapshots, is so of those that its marks name
 
-    kept_by : (s : Snapshot) → HasSnapshot said q s → Behind s → IsKept s
-    kept_by s has behind safe is = (let same = behind.told safe is in let low = behind.number in omega (arith, same, low), owes.safe.safe q safe s has is)
+module _ (Kept : ℕ → Type 0) (script : List ScriptLine) (answers : List Answer) (closed : List Closed) (fit : (c : Closed) → c ∈ closed → (ph : Phase) × Closes ph c.answer)
+    (kept : (session safe : ℕ) (s : Snapshot) → HasSnapshot (said_of script answers) session s → s.begin ≡ Some safe → Kept safe) where
+  abbrev lines : List Said
+  lines = said_of script answers
 
-    all_kept : AreSo IsKept (progress_of q said)
-    all_kept = record {
-      over = λ s m. kept_by s (before_now (progress_of q said).snapshots (option_to_list (progress_of q said).snapshot) s m) (all_behind.over s m);
-      now = λ s is. kept_by s (behind_over (progress_of q said).snapshots (progress_of q said).snapshot s is) (all_behind.now s is);
-    }
-      where
-        still : {X : Type 0} (xs ys : List X) (x : X) (k : ℕ) → slice_get xs k ≡ Some x → slice_get (xs ++ ys) k ≡ Some x
-        still [] ys x k at = absurd (cc)
-        still (z ∷ xs) ys x zero at = at
-        still (z ∷ xs) ys x (suc k) at = still xs ys x k at
+  abbrev IsKept : Snapshot → Type 0
+  IsKept s = (safe : ℕ) → s.begin ≡ Some safe → Kept safe
 
-        before_now : (xs ys : List Snapshot) (s : Snapshot) → s ∈ xs → s ∈ (xs ++ ys)
-        before_now xs ys s m = (m.0, still xs ys s m.0 m.1)
+  keeps_kept : Keeps IsKept
+  keeps_kept = record { look = λ asked a s is. is; end = λ s is. is; mark = λ safe stamp s is. is }
 
-        behind_over : (xs : List Snapshot) (now : Option Snapshot) (s : Snapshot) → now ≡ Some s → s ∈ (xs ++ option_to_list now)
-        behind_over [] None s is = absurd (let no : None ≡ Some s = is in cc)
-        behind_over [] (Some x) s is = (zero, is)
-        behind_over (y ∷ xs) now s is = let there = behind_over xs now s is in (suc there.0, there.1)
+  in_front : (xs ys : List Snapshot) (s : Snapshot) → s ∈ xs → s ∈ (xs ++ ys)
+  in_front xs ys s m = (m.0, still xs ys s m.0 m.1)
+    where
+      still : (us vs : List Snapshot) (x : Snapshot) (k : ℕ) → slice_get us k ≡ Some x → slice_get (us ++ vs) k ≡ Some x
+      still [] vs x k at = absurd (cc)
+      still (z ∷ us) vs x zero at = at
+      still (z ∷ us) vs x (suc k) at = still us vs x k at
 
-    keeps_kept : Keeps IsKept
-    keeps_kept = record { look = λ asked a s is. is; end = λ s is. is; mark = λ safe stamp s is. is }
+  behind_over : (xs : List Snapshot) (now : Option Snapshot) (s : Snapshot) → now ≡ Some s → s ∈ (xs ++ option_to_list now)
+  behind_over [] None s is = absurd (let no : None ≡ Some s = is in cc)
+  behind_over [] (Some x) s is = (zero, is)
+  behind_over (y ∷ xs) now s is = let there = behind_over xs now s is in (suc there.0, there.1)
 
-    places_kept : (closed : List Closed) → ((c : Closed) → c ∈ closed → (ph : Phase) × Closes ph c.answer) → AreSo IsKept (progress_of q (places_of script answers closed))
-    places_kept closed fit =
-        subst (AreSo IsKept) (sym (fold-append (λ (x : Progress) (s : Said). cond (s.session == q) (heard q s.asked s.answer x) x) nothing said (map (said_close IsKept) closed)))
-        (all_close IsKept keeps_kept q closed (progress_of q said) fit all_kept)
+  lines_kept : (q : ℕ) → AreSo IsKept (progress_of q lines)
+  lines_kept q = record {
+    over = λ s m safe is. kept q safe s (in_front (progress_of q lines).snapshots (option_to_list (progress_of q lines).snapshot) s m) is;
+    now = λ s own safe is. kept q safe s (behind_over (progress_of q lines).snapshots (progress_of q lines).snapshot s own) is;
+  }
 
--- the marks that a report tells name such stamps
-pub marks_kept : (mode : Mode) (opening : Opening) (sessions : ℕ) (script : List ScriptLine) (answers : List Answer) (closed : List Closed)
-    → OwesToAnswers mode opening script answers (transactions_of sessions (places_of script answers closed)) → MarksOwe mode opening sessions script answers closed
-    → ((c : Closed) → c ∈ closed → (ph : Phase) × Closes ph c.answer) → (k : Mark) → k ∈ marks_of sessions (places_of script answers closed)
-    → (opening.stamp + LEAST_BLOCK ≤ k.safe) × ((c : Committed) → c ∈ history_of (transactions_of sessions (places_of script answers closed)) → k.safe ≤ c.stamp → k.safe ≤ c.succ)
-marks_kept mode opening sessions script answers closed owes marks fit k m =
-    let places : List Said = places_of script answers closed in
-    let told : List Transaction = transactions_of sessions places in
-    let one = of_flat (λ session. filter_map (marked_as session) (progress_of session places).snapshots) (range_with_len 1 sessions) k m in
-    let of = of_filter (marked_as one.0) (progress_of one.0 places).snapshots k one.1 in
-    (places_kept mode opening script answers told owes one.0 closed fit).over of.0 of.1 k.safe (begin_of one.0 of.0 k of.2 ∙ (marks.stamps k m).begin)
-  where
-    mark_by : (session : ℕ) → Snapshot → ℕ × ℕ → Mark
-    mark_by session s x = record { session = session; number = s.number; begin = s.begin; safe = x.0; stamp = x.1 }
+  places_kept : (q : ℕ) → AreSo IsKept (progress_of q (places_of script answers closed))
+  places_kept q =
+      subst (AreSo IsKept) (sym (fold-append (λ (x : Progress) (s : Said). cond (s.session == q) (heard q s.asked s.answer x) x) nothing lines (map (said_close IsKept) closed)))
+      (all_close IsKept keeps_kept q closed (progress_of q lines) fit (lines_kept q))
 
-    begin_of : (session : ℕ) (s : Snapshot) (n : Mark) → marked_as session s ≡ Some n → s.begin ≡ n.begin
-    begin_of session s n is = of s.mark is
-      where
-        of : (o : Option (ℕ × ℕ)) → option_map (mark_by session s) o ≡ Some n → s.begin ≡ n.begin
-        of None e = absurd (let no : None ≡ Some n = e in cc)
-        of (Some x) e = let same : mark_by session s x ≡ n = cc in ap (λ (y : Mark). y.begin) same
+  -- of each mark whose begin stamp is the one that it names
+  pub marks_kept : (sessions : ℕ) → ((k : Mark) → k ∈ marks_of sessions (places_of script answers closed) → k.begin ≡ Some k.safe)
+      → (k : Mark) → k ∈ marks_of sessions (places_of script answers closed) → Kept k.safe
+  marks_kept sessions names k m =
+      let places : List Said = places_of script answers closed in
+      let one = of_flat (λ session. filter_map (marked_as session) (progress_of session places).snapshots) (range_with_len 1 sessions) k m in
+      let of = of_filter (marked_as one.0) (progress_of one.0 places).snapshots k one.1 in
+      (places_kept one.0).over of.0 of.1 k.safe (begin_of one.0 of.0 k of.2 ∙ names k m)
+    where
+      mark_by : (session : ℕ) → Snapshot → ℕ × ℕ → Mark
+      mark_by session s x = record { session = session; number = s.number; begin = s.begin; safe = x.0; stamp = x.1 }
+
+      begin_of : (session : ℕ) (s : Snapshot) (n : Mark) → marked_as session s ≡ Some n → s.begin ≡ n.begin
+      begin_of session s n is = of s.mark is
+        where
+          of : (o : Option (ℕ × ℕ)) → option_map (mark_by session s) o ≡ Some n → s.begin ≡ n.begin
+          of None e = absurd (let no : None ≡ Some n = e in cc)
+          of (Some x) e = let same : mark_by session s x ≡ n = cc in ap (λ (y : Mark). y.begin) same

@@ -152,13 +152,20 @@ module _
       ((b, subst (λ (bs : List Block). b ∈ bs) (sym meets.met_is) (∈-after meets.older meets.both b own), there.2), omega (arith, within, start))
 
   pub are_own : AreOwn commits marks place found from end blocks
-  are_own = record { told = audit; marked = record { only = marks_only; all = marks_all }; alone = opens_alone; older = older_met }
+  are_own = record {
+    told = audit;
+    marked = record { only = marks_only; all = marks_all };
+    alone = opens_alone;
+    older = older_met;
+    behind = λ k m. let least = (are.safe k m).0 in omega (arith, least, start);
+  }
 
 -- ---- while the log is opened
 
 module _
     (commits : List Committed) (marks : List Mark) (place run : ℕ) (found blocks : List Block) (from end : ℕ) (low : BeginBelow place found) (above : (b : Block) → b ∈ found → from ≤ b.stamp)
-    (met : (blocks ≡ found) ⊎ (blocks ≡ found ++ open_block place run ∷ [])) (no_commits : below end commits ≡ []) (no_marks : marks_below end marks ≡ []) where
+    (met : (blocks ≡ found) ⊎ (blocks ≡ found ++ open_block place run ∷ [])) (no_commits : below end commits ≡ []) (no_marks : marks_below end marks ≡ [])
+    (safe : (k : Mark) → k ∈ marks → place + LEAST_BLOCK ≤ k.safe) where
   -- a block met is one of those found, or the one that opens the log
   found_or_opener : (b : Block) → b ∈ blocks → (b ∈ found) ⊎ (b ≡ open_block place run)
   found_or_opener b m = elim met [
@@ -215,4 +222,5 @@ module _
       ],
       λ both. in_met b both.0,
     );
+    behind = safe;
   }

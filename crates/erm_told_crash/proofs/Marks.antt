@@ -9,10 +9,10 @@ use Rattle.erm_machine.proofs.Listed.{∈-either, ∈-first, ∈-second}
 use Rattle.erm_block.specs.declared.block.Block.{Block}
 use Rattle.erm_block.specs.declared.block.Kind.TheVariants as kind
 use Rattle.erm_node.specs.Sound.{sound_law}
-use Rattle.erm_world.specs.Laws.{IsSerializable}
+use Rattle.erm_world.specs.Laws.{EndsAsMarked, IsSerializable}
 use Rattle.erm_world.specs.Log.{IsLog, Log, gathered_to}
 use Rattle.erm_world.specs.Whole.{HasStamps, IsBlockOf, IsLogOf, kind_of}
-use Rattle.erm_world.specs.World.{Fate, Finished, HasStamp, IsSession, Opening, View, stamp_of}
+use Rattle.erm_world.specs.World.{Fate, Finished, HasStamp, IsSession, Opening, View, Work, stamp_of}
 use Rattle.erm_world.specs.World as world
 use Rattle.erm_world.proofs.Blocks.{chain_stands}
 use Rattle.erm_good_report.specs.GoodReport.{places_of}
@@ -221,6 +221,21 @@ module _ (v : View) (said : List Said) (is_told : IsTold v said) (apart : StandA
       let stamps = lawful.stamps k.session e.finished.work k.stamp e.session (its_range k e) in
       (omega (arith, of.at, begins.0, stamps.0), omega (arith, of.tail, stamps.1))
 
+  -- it names its begin stamp
+  named : (w : Work) (fate : Fate) (stamp safe : ℕ) → EndsAsMarked w fate → fate ≡ world.marked stamp safe → safe ≡ w.begin
+  named w (world.commits s u p) stamp safe ends e = absurd (cc)
+  named w (world.excluded s u p) stamp safe ends e = absurd (cc)
+  named w world.aborts stamp safe ends e = absurd (cc)
+  named w (world.marked s u) stamp safe ends e = let same : u ≡ safe = cc in sym same ∙ ends.1
+
+  mark_safe : (k : Mark) → k ∈ marks → (log.opened.at ≤ k.safe) × (k.safe ≤ k.stamp)
+  mark_safe k m =
+      let e = ended k m in
+      let begin = named e.finished.work e.finished.fate k.stamp k.safe (lawful.marked k.session e.finished e.session e.over) e.fate in
+      let begins = lawful.begins k.session e.finished.work e.session (inl (e.finished, e.over, refl)) in
+      let stamps = lawful.stamps k.session e.finished.work k.stamp e.session (its_range k e) in
+      (omega (arith, of.at, begins.0, begin), omega (arith, begin, stamps.0))
+
   mark_has : (k : Mark) → k ∈ marks → k.stamp < gathered_to log → (b : Block) × (b ∈ log.gathered) × IsMarked b k
   mark_has k m below = (there.block, there.of, whole)
     where
@@ -260,7 +275,7 @@ module _ (v : View) (said : List Said) (is_told : IsTold v said) (apart : StandA
           }
 
   pub has_marks : HasMarks log marks
-  has_marks = record { each = λ b m marked. block_told b (of.blocks b m) marked; all = mark_has; within = mark_within }
+  has_marks = record { each = λ b m marked. block_told b (of.blocks b m) marked; all = mark_has; within = mark_within; safe = mark_safe }
 
 pub told_marks : ToldLogMarks
 told_marks f said is_told apart log of is = has_marks f said is_told apart log of is

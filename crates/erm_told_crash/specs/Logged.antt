@@ -41,12 +41,13 @@ pub record IsMarked (block : Block) (k : Mark) : Type 0 where
   pub stamp : block.stamp ≡ k.stamp
   pub safe : safe_of block ≡ k.safe
 
--- A log has these marks: each block gathered that is a mark is that of one of them; each that is below the place behind the blocks has its block; and all lie
--- between the log's start and its end.
+-- A log has these marks: each block gathered that is a mark is that of one of them; each that is below the place behind the blocks has its block; all lie
+-- between the log's start and its end, and so do the safe stamps that they name.
 pub record HasMarks (log : Log) (marks : List Mark) : Type 0 where
   pub each : (block : Block) → block ∈ log.gathered → block.kind ≡ MarkKind → (k : Mark) × (k ∈ marks) × IsMarked block k
   pub all : (k : Mark) → k ∈ marks → k.stamp < gathered_to log → (block : Block) × (block ∈ log.gathered) × IsMarked block k
   pub within : (k : Mark) → k ∈ marks → (log.opened.at ≤ k.stamp) × (k.stamp < log.tail)
+  pub safe : (k : Mark) → k ∈ marks → (log.opened.at ≤ k.safe) × (k.safe ≤ k.stamp)
 
 -- where what was said tells a world whose ranges stand apart, its log has the commits told
 abbrev pub ToldLogCommits : Type 0
