@@ -26,7 +26,7 @@ use Rattle.erm_world.proofs.Lists.{∈-after, ∈-before, ∈-parts}
 use Rattle.erm_good_report.specs.Transactions.{Mark}
 use Rattle.erm_told_log.specs.Tail.{BeginBelow, MeetsRun, log_to}
 use Rattle.erm_told_log.proofs.Places.{front_below, front_low, rest_above}
-use Rattle.erm_told_crash.specs.Logged.{HasCommits, HasMarks, IsMarked}
+use Rattle.erm_told_crash.specs.Logged.{HasCommits, HasMarks, IsMarked, StayBehind}
 use Rattle.erm_told_audit.specs.Audits.{AreOwn, AuditTells, MarksTell, marks_below}
 use Rattle.erm_told_audit.proofs.Audits.{audit_from}
 use Rattle.erm_told_audit.proofs.Fronts.{front_tells}
@@ -50,7 +50,7 @@ none_opens sound end (x ∷ xs) (is, rows, others) runs b (suc k, at) opens =
     none_opens sound (end_after x end) xs others (subst (λ (r : ℕ). All (λ (y : Block). y.run ≡ r) xs) (sym same) (All-tail (λ (y : Block). y.run ≡ end.run) x xs runs)) b (k, at) opens
 
 module _
-    (sound : Rows → Type 0) (log : Log) (is : IsLog sound log) (commits : List Committed) (has : HasCommits log commits) (marks : List Mark) (are : HasMarks log marks) (front rest : List Block)
+    (sound : Rows → Type 0) (log : Log) (is : IsLog sound log) (commits : List Committed) (has : HasCommits log commits) (marks : List Mark) (are : HasMarks log marks) (stay : StayBehind log commits) (front rest : List Block)
     (split : log.gathered ≡ front ++ rest) (place run : ℕ) (start : log.opened.at ≡ place + LEAST_BLOCK) (found : List Block) (low : BeginBelow place found) (from : ℕ) (blocks : List Block)
     (meets : MeetsRun (log_to log front) from blocks) (earlier : (b : Block) → b.stamp < log.opened.at → (b ∈ blocks) ↔ ((b ∈ (found ++ open_block place run ∷ [])) × (from ≤ b.stamp))) where
   abbrev opener : Block
@@ -158,6 +158,7 @@ module _
     alone = opens_alone;
     older = older_met;
     behind = λ k m. let least = (are.safe k m).0 in omega (arith, least, start);
+    stay = λ c m. let least = stay c m in omega (arith, least, start);
   }
 
 -- ---- while the log is opened
@@ -165,7 +166,8 @@ module _
 module _
     (commits : List Committed) (marks : List Mark) (place run : ℕ) (found blocks : List Block) (from end : ℕ) (low : BeginBelow place found) (above : (b : Block) → b ∈ found → from ≤ b.stamp)
     (met : (blocks ≡ found) ⊎ (blocks ≡ found ++ open_block place run ∷ [])) (no_commits : below end commits ≡ []) (no_marks : marks_below end marks ≡ [])
-    (safe : (k : Mark) → k ∈ marks → place + LEAST_BLOCK ≤ k.safe) where
+    (safe : (k : Mark) → k ∈ marks → place + LEAST_BLOCK ≤ k.safe)
+    (stays : (c : Committed) → c ∈ commits → place + LEAST_BLOCK ≤ c.succ) where
   -- a block met is one of those found, or the one that opens the log
   found_or_opener : (b : Block) → b ∈ blocks → (b ∈ found) ⊎ (b ≡ open_block place run)
   found_or_opener b m = elim met [
@@ -223,4 +225,5 @@ module _
       λ both. in_met b both.0,
     );
     behind = safe;
+    stay = stays;
   }

@@ -31,10 +31,11 @@ pub record AuditTells (met : List Block) (from start : ℕ) (commits : List Comm
 
 -- Blocks that recovery meets from a place on, up to an end, are those of a run that opened at a place, behind those found: at or above that they tell just
 -- the commits and the marks of the run below the end, and only the first of them opens a run; and below it they are just the blocks found that recovery
--- doesn't pass. The safe stamps that the marks name are behind that first one.
+-- doesn't pass. The safe stamps that the marks name, and the successor stamps of the commits, are behind that first one.
 pub record AreOwn (commits : List Committed) (marks : List Mark) (place : ℕ) (found : List Block) (from end : ℕ) (blocks : List Block) : Type 0 where
   pub told : AuditTells blocks from place (below end commits)
   pub marked : MarksTell blocks from place (marks_below end marks)
   pub alone : (b : Block) → b ∈ blocks → b.kind ≡ kind.Open → b.stamp ≤ place
   pub older : (b : Block) → b.stamp < place → (b ∈ blocks) ↔ ((b ∈ found) × (from ≤ b.stamp))
   pub behind : (k : Mark) → k ∈ marks → place + LEAST_BLOCK ≤ k.safe
+  pub stay : (c : Committed) → c ∈ commits → place + LEAST_BLOCK ≤ c.succ

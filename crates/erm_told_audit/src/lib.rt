@@ -10,7 +10,7 @@ ghost use Rattle.erm_world.specs.Log.{IsLog, Log, gathered_to, place_behind};
 ghost use Rattle.erm_recover.specs.Opening.{open_block};
 ghost use Rattle.erm_good_report.specs.Transactions.{Mark};
 ghost use Rattle.erm_told_log.specs.Tail.{BeginBelow, MeetsRun, log_to};
-ghost use Rattle.erm_told_crash.specs.Logged.{HasCommits, HasMarks};
+ghost use Rattle.erm_told_crash.specs.Logged.{HasCommits, HasMarks, StayBehind};
 ghost use Rattle.erm_told_audit.specs.Audits.{AreOwn, AuditTells};
 
 use erm_model::RowLaw;
@@ -34,7 +34,7 @@ pub fn fronts_tell_the_commits_below<L: RowLaw>()
 /// one that opened the log, which it meets just as far as it doesn't pass them: they are the run's own, behind those found.
 pub fn fronts_are_the_runs_own<L: RowLaw>()
     ensures { (log : Log) (commits : List Committed) (marks : List Mark) (front rest : List Block) (place run : ℕ) (found : List Block) (from : ℕ) (met : List Block)
-        → IsLog L.law.meets log → HasCommits log commits → HasMarks log marks → log.gathered ≡ front ++ rest → log.opened.at ≡ place + LEAST_BLOCK
+        → IsLog L.law.meets log → HasCommits log commits → HasMarks log marks → StayBehind log commits → log.gathered ≡ front ++ rest → log.opened.at ≡ place + LEAST_BLOCK
         → BeginBelow place found → MeetsRun (log_to log front) from met
         → ((b : Block) → b.stamp < log.opened.at → (b ∈ met) ↔ ((b ∈ (found ++ open_block place run ∷ [])) × (from ≤ b.stamp)))
         → AreOwn commits marks place found from (place_behind log.opened.at front) met }

@@ -1,5 +1,5 @@
 -- The blocks of a log, and the commits that are told.
-use Rattle.std.proofs.Common.{◌≡◌, ◌⊎◌, ℕ, suc, ◌+◌, ◌<◌, ◌≤◌, List, [], ◌∷◌, Some, refl, sym, ap, ◌∙◌, subst, inl, inr, ⊎_elim, arith}
+use Rattle.std.proofs.Common.{◌≡◌, ◌⊎◌, ℕ, zero, suc, ◌+◌, ◌<◌, ◌≤◌, List, [], ◌∷◌, Some, refl, sym, ap, ◌∙◌, subst, inl, inr, ⊎_elim, arith}
 use Rattle.std.proofs.lemmas.Bool.{cases_lt}
 use Rattle.erm_model.specs.declared.history.TransactionRecord.{TransactionRecord}
 use Rattle.erm_model.specs.Committed.{Committed}
@@ -20,7 +20,7 @@ use Rattle.erm_maps.proofs.Histories.{IsCommitted, of_history, work_in}
 use Rattle.erm_good_report.specs.GoodReport.{places_of}
 use Rattle.erm_lines.specs.Laws.{ExecutionsGoOn, ExecutionsTell}
 use Rattle.erm_told_crash.specs.Laws.{RangesStandApart, StandApart}
-use Rattle.erm_told_crash.specs.Logged.{CoursesLogCommits, HasCommits, IsLogged, ToldLogCommits}
+use Rattle.erm_told_crash.specs.Logged.{CoursesLogCommits, CoursesStayBehind, HasCommits, IsLogged, StayBehind, ToldCommitsStayBehind, ToldLogCommits}
 use Rattle.erm_told_crash.proofs.Newest.{none_behind, one_over}
 use Rattle.erm_told_crash.proofs.States.{course_apart, course_commits, course_told, told, told_as}
 
@@ -140,6 +140,33 @@ module _ (v : View) (lawful : IsSerializable sound_law v) (apart : StandApart v)
         subst (λ (x : Committed). (log.opened.at ≤ x.stamp) × (x.stamp < log.tail)) found.2 (commit_within found.0 found.1);
   }
 
+-- A SUCCESSOR STAMP is a stamp, or that of a commit before.
+module _ (v : View) (lawful : IsSerializable sound_law v) (log : Log) (of : IsLogOf v log) where
+  succ_behind : (most : ℕ) (u : TransactionRecord) → u ∈ history_of v → u.stamp < most → log.opened.at ≤ u.succ
+  succ_behind zero u m less = absurd (omega (arith, less))
+  succ_behind (suc most) u m less =
+      elim (lawful.certified.succ u m).attained [
+        | inl own ↦
+            let is : IsCommitted v u = of_history sound_law v lawful u m in
+            let begins = lawful.begins u.seat (work_in u) is.session is.over in
+            let stamps = lawful.stamps u.seat (work_in u) u.stamp is.session is.stamped in
+            omega (arith, of.at, begins.0, stamps.0, own)
+        | inr by ↦
+            let before = by.1.1 in
+            let low = succ_behind most by.0 by.1.0 (omega (arith, before, less)) in
+            let same = by.2 in
+            omega (arith, low, same)
+      ]
+
+  pub stay_behind : (operations : Told) → StayBehind log (told_commits operations (history_of v))
+  stay_behind operations c m =
+      let found = ∈-map (told_commit operations) (history_of v) c m in
+      subst (λ (x : Committed). log.opened.at ≤ x.succ) found.2 (succ_behind (suc found.0.stamp) found.0 found.1 (omega arith))
+
+pub told_behind : ToldCommitsStayBehind
+told_behind f said is_told log of =
+    subst (λ (commits : List Committed). StayBehind log commits) (sym (told_as f said is_told)) (stay_behind f is_told.serializable log of (told f said is_told))
+
 pub told_log : ToldLogCommits
 told_log f said is_told apart log of is =
     subst (λ (commits : List Committed). HasCommits log commits) (sym (told_as f said is_told)) (has_commits f is_told.serializable apart log of is (told f said is_told))
@@ -148,3 +175,8 @@ pub log_commits : ExecutionsTell → ExecutionsGoOn → RangesStandApart → Tol
 log_commits tell go apart law v t script answers course closed closes log of is =
     subst (λ (commits : List Committed). HasCommits log commits) (course_commits tell go apart v t script answers course closed closes)
     (law t (places_of script answers closed) (course_told tell go apart v t script answers course closed closes) (course_apart tell go apart v t script answers course closed closes) log of is)
+
+pub log_behind : ExecutionsTell → ExecutionsGoOn → RangesStandApart → ToldCommitsStayBehind → CoursesStayBehind
+log_behind tell go apart law v t script answers course closed closes log of =
+    subst (λ (commits : List Committed). StayBehind log commits) (course_commits tell go apart v t script answers course closed closes)
+    (law t (places_of script answers closed) (course_told tell go apart v t script answers course closed closes) log of)

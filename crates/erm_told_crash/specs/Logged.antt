@@ -33,6 +33,10 @@ pub record HasCommits (log : Log) (commits : List Committed) : Type 0 where
   pub all : (c : Committed) → c ∈ commits → c.stamp < gathered_to log → (block : Block) × (block ∈ log.gathered) × IsLogged block c
   pub within : (c : Committed) → c ∈ commits → (log.opened.at ≤ c.stamp) × (c.stamp < log.tail)
 
+-- Their successor stamps lie behind the log's start: none of them comes in the serial order before what was committed when the log was opened.
+abbrev pub StayBehind : Log → List Committed → Type 0
+StayBehind log commits = (c : Committed) → c ∈ commits → log.opened.at ≤ c.succ
+
 -- a block is that of a mark: it has its snapshot's name, its place, and the safe stamp that it names
 pub record IsMarked (block : Block) (k : Mark) : Type 0 where
   pub kind : block.kind ≡ MarkKind
@@ -53,6 +57,10 @@ pub record HasMarks (log : Log) (marks : List Mark) : Type 0 where
 abbrev pub ToldLogCommits : Type 0
 ToldLogCommits = (f : View) (said : List Said) → IsTold f said → StandApart f → (log : Log) → IsLogOf f log → IsLog sound_law.meets log → HasCommits log (history_of (told_in f said))
 
+-- so these stay behind
+abbrev pub ToldCommitsStayBehind : Type 0
+ToldCommitsStayBehind = (f : View) (said : List Said) → IsTold f said → (log : Log) → IsLogOf f log → StayBehind log (history_of (told_in f said))
+
 -- and the marks told
 abbrev pub ToldLogMarks : Type 0
 ToldLogMarks = (f : View) (said : List Said) → IsTold f said → StandApart f → (log : Log) → IsLogOf f log → IsLog sound_law.meets log → HasMarks log (marks_of f.opening.sessions said)
@@ -66,3 +74,8 @@ CoursesLogCommits = (v t : View) (script : List ScriptLine) (answers : List Answ
 abbrev pub CoursesLogMarks : Type 0
 CoursesLogMarks = (v t : View) (script : List ScriptLine) (answers : List Answer) (course : IsCourse v script answers t) (closed : List Closed) → AreClosed course.closing closed
     → (log : Log) → IsLogOf t log → IsLog sound_law.meets log → HasMarks log (marks_of v.opening.sessions (places_of script answers closed))
+
+-- and its commits stay behind its start
+abbrev pub CoursesStayBehind : Type 0
+CoursesStayBehind = (v t : View) (script : List ScriptLine) (answers : List Answer) (course : IsCourse v script answers t) (closed : List Closed) → AreClosed course.closing closed
+    → (log : Log) → IsLogOf t log → StayBehind log (history_of (transactions_of v.opening.sessions (places_of script answers closed)))

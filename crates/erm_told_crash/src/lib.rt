@@ -3,7 +3,7 @@
 #![tactic(auto)]
 
 ghost use Rattle.erm_told_crash.specs.Laws.{CoursesClose, CoursesTellStates, RangesStandApart, RunsTellAll, ToldTellAll, ToldTellStates};
-ghost use Rattle.erm_told_crash.specs.Logged.{CoursesLogCommits, CoursesLogMarks, ToldLogCommits, ToldLogMarks};
+ghost use Rattle.erm_told_crash.specs.Logged.{CoursesLogCommits, CoursesLogMarks, CoursesStayBehind, ToldCommitsStayBehind, ToldLogCommits, ToldLogMarks};
 ghost use Rattle.erm_told_crash.specs.Spare.{SpareNamesTellNothing};
 
 /// The ranges of the log that transactions take from their commit stamps on stand apart, within the log.
@@ -19,6 +19,7 @@ pub fn told_logs_tell_states()
     ensures all { ToldTellAll }
     ensures commits { ToldLogCommits }
     ensures marks { ToldLogMarks }
+    ensures behind { ToldCommitsStayBehind }
 {
     erm_core_ssn::rows_run_serially();
     erm_core_ssn::serial_order_is_unique();
@@ -59,6 +60,17 @@ pub fn courses_close_sessions()
 /// The log of a run so far has the commits that the report tells: its blocks are theirs, those of excluded transactions, and those of marks.
 pub fn logs_have_the_commits_told()
     ensures { CoursesLogCommits }
+{
+    ranges_stand_apart();
+    erm_told::executions_tell_sessions();
+    erm_told::executions_go_on();
+    told_logs_tell_states();
+}
+
+/// The successor stamps of the commits that the report tells lie behind the place where the log was opened: none of them comes in the serial order before
+/// what was committed then.
+pub fn commits_stay_behind_the_log()
+    ensures { CoursesStayBehind }
 {
     ranges_stand_apart();
     erm_told::executions_tell_sessions();

@@ -1,6 +1,6 @@
 use Rattle.erm_model.specs.History.{below}
 use Rattle.erm_world.specs.World.{history_of}
-use Rattle.erm_told_crash.proofs.Logged.{told_log}
+use Rattle.erm_told_crash.proofs.Logged.{told_behind, told_log}
 use Rattle.erm_told_crash.proofs.Marks.{told_marks}
 use Rattle.erm_told_crash.proofs.States.{all_behind, state_behind}
 use Rattle.erm_told_crash.proofs.told_logs_tell_states.Goals as goal
@@ -33,3 +33,6 @@ returns-clause-commits c = told_log
 
 pub returns-clause-marks : goal.returns-clause-marks
 returns-clause-marks c = told_marks
+
+pub returns-clause-behind : goal.returns-clause-behind
+returns-clause-behind c = told_behind
