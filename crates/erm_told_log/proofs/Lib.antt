@@ -1,4 +1,5 @@
 pub mod Images
+pub mod Older
 pub mod Opened
 pub mod Places
 pub mod Runs

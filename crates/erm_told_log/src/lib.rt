@@ -19,6 +19,7 @@ ghost use Rattle.erm_world.specs.Log.{IsLog, Log};
 ghost use Rattle.erm_world.specs.Whole.{IsLogOf};
 ghost use Rattle.erm_world.specs.World.{View};
 ghost use Rattle.erm_crash.specs.Kept.{IsJustOpened, LeavesLog};
+ghost use Rattle.erm_crash.specs.Older.{MeetsOlder};
 ghost use Rattle.erm_told_log.specs.Tail.{BeginBelow, MeetsRun, MeetsTail, log_to};
 
 use erm_model::RowLaw;
@@ -73,4 +74,11 @@ pub fn recovery_meets_earlier_blocks<L: RowLaw>()
     ensures { (earlier : List Block) (log : Log) (slots : DiskSlots) (steps : List Step) → IsLog L.law.meets log → MeetsTail L.law.meets earlier log slots steps
         → (pair : Pair) (blocks : List Block) → Recovers L.law.meets (contents steps) pair blocks
         → (b : Block) → b.stamp < log.opened.at → (b ∈ blocks) ↔ ((b ∈ earlier) × ((base pair).at ≤ b.stamp)) }
+{}
+
+/// The same of a log that has gone on since: so it is of what each image at each moment meets, while it is flushed and saved.
+pub fn held_disks_meet_older_blocks<L: RowLaw>()
+    ensures { (earlier : List Block) (before now : Log) (slots : DiskSlots) (steps : List Step) → IsLog L.law.meets now → now.opened ≡ before.opened
+        → ((rest : List Block) × (now.gathered ≡ before.gathered ++ rest)) → MeetsTail L.law.meets earlier before slots steps
+        → MeetsOlder L.law.meets before.opened.at earlier (contents steps) }
 {}
