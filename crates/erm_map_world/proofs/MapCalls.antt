@@ -297,6 +297,7 @@ module _ (law : Law) (m : Map) where
       is.now_is.0,
       is.now_is.1,
       saw_making law m.rows m.over m.tail m.begun (committed_in 1 m.over) is.past.newest_is w m.next (next_unreached w is) is.now_is.2,
+      is.now_is.3,
     );
     saves = FitSaves-more w (making m.next w) m.saves (making_more m.next w) is.saves;
     made_once = λ x. elim (made_at m.next x) as (λ _. made_of m.over (world.active (making m.next w)) x ≤ 1) [

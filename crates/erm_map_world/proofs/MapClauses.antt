@@ -7,6 +7,7 @@ use Rattle.erm_model.specs.declared.history.VersionWritten.{VersionWritten}
 use Rattle.erm_model.specs.declared.limits.TheConstants.{GREATEST_BLOCK, LEAST_BLOCK, READ_LIMIT, SAVES, WRITE_LIMIT}
 use Rattle.erm_model.specs.declared.outcome.Phase.{Phase}
 use Rattle.erm_model.specs.declared.outcome.Phase.TheVariants.{Active, Idle, Sealed, Pending, Safe}
+use Rattle.erm_model.specs.declared.outcome.Outcome.{Outcome}
 use Rattle.erm_model.specs.declared.outcome.Outcome.TheVariants.{Committed}
 use Rattle.erm_model.specs.History.{History, IsNewestBelow, IsPredecessorStamp}
 use Rattle.erm_model.specs.RowTransaction.{Law}
@@ -368,15 +369,15 @@ settled_as law m w None mark is = (
 )
 settled_as law m w (Some pred) ends is = settled law m w pred ends.0 ends.1 is w.number w.begin m.tail refl refl refl
 
-pub settle_done : (law : Law) (m : Map) (p : Phase) (w : Work) (seat : ℕ) → IsSession (map_view (record m { stand = stand_of p w })) seat → (pred : Option ℕ) (then_over : List Finished)
+pub settle_done : (law : Law) (m : Map) (p : Phase) (w : Work) (seat : ℕ) → IsSession (map_view (record m { stand = stand_of p w })) seat → (pred : Option ℕ) (then_over : List Finished) (told : Outcome) → told ≡ told_of w m.tail pred
     → phase_at (map_view (record m { stand = stand_of p w })) seat ≡ Sealed → then_over ≡ m.over ++ finished w pred ∷ [] → EndsWith (world.committed_in 1 m.over) w pred
     → IsWorld law (record m { stand = stand_of p w })
-    → DidSettle (map_view (record m { stand = stand_of p w })) seat (told_of w m.tail pred) (map_view (record m { stand = world.idle; over = then_over }))
-settle_done law m p w seat session pred then_over sealed over_is ends standing =
-    let told = told_of w m.tail pred in
+    → DidSettle (map_view (record m { stand = stand_of p w })) seat told (map_view (record m { stand = world.idle; over = then_over }))
+settle_done law m p w seat session pred then_over told told_is sealed over_is ends standing =
     subst (λ (list : List Finished). DidSettle (map_view (record m { stand = stand_of p w })) seat told (map_view (record m { stand = world.idle; over = list }))) (sym over_is)
     (while law m p w seat session Sealed sealed (λ (q : ℕ) (x : Phase). DidSettle (map_view (record m { stand = stand_of x w })) q told (map_view (record m { stand = world.idle; over = m.over ++ finished w pred ∷ [] })))
-    (settled_as law m w pred ends (within law m p w seat session Sealed sealed standing)))
+    (subst (λ (o : Outcome). DidSettle (map_view (record m { stand = world.sealed w w.begin })) 1 o (map_view (record m { stand = world.idle; over = m.over ++ finished w pred ∷ [] }))) (sym told_is)
+    (settled_as law m w pred ends (within law m p w seat session Sealed sealed standing))))
 
 -- OPENED. A world in which no transaction has begun.
 pub map_opened : (law : Law) (start : ℕ) (rows : Rows) (first : ℕ) (over : List Finished) (saves : List (List VersionWritten)) → 0 < start → law.meets rows → ((x : ℕ) → first ≤ x → law.reach rows x ≡ 0) → over ≡ []

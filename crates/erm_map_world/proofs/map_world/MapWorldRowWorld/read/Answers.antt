@@ -23,3 +23,6 @@ returns-clause-ok g c =
     (found_in c.as_slice.result.now s.work.claims.items c.args.oid c.own.result c.as_slice.ensures.value c.own.ensures c.in_default.is)
     (read_in c.as_slice-2.result.now s.work.reads.items c.args.oid c.seen.result c.as_slice-2.ensures.value c.seen.ensures c.in_default-seen.is)
     (let few = c.if-len-eq-READ_LIMIT.false in let most = s.reads_few in let all = c.len.ensures in omega (arith, few, most, all))
+
+pub invariant_of-self-then-len-eq-READ_LIMIT-clause-rows_there : goal.invariant_of-self-then-len-eq-READ_LIMIT-clause-rows_there
+invariant_of-self-then-len-eq-READ_LIMIT-clause-rows_there g c = c.args.self.now.rows_there

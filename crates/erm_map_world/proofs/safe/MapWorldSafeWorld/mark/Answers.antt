@@ -1,4 +1,4 @@
-use Rattle.std.proofs.Common.{◌≡◌, true, refl, ap}
+use Rattle.std.proofs.Common.{true, refl, ap}
 use Rattle.erm_map_world.specs.MapWorks.{work_in}
 use Rattle.erm_map_world.specs.Standing.{map_of}
 use Rattle.erm_map_world.proofs.MapClauses.{mark_done, mark_stands}
