@@ -9,7 +9,7 @@ use Rattle.erm_block.specs.declared.block.Block.{Block}
 use Rattle.erm_block.specs.declared.block.Kind.TheVariants as kind
 use Rattle.erm_ckpt.specs.declared.slot.Slots.{Slots}
 use Rattle.erm_ckpt.specs.Recovered.{Pair, Recovers, RecoversAt, State, base, best, slots_of, state_behind}
-use Rattle.erm_told_audit.specs.Audits.{AreOwn, AuditTells}
+use Rattle.erm_told_audit.specs.Audits.{AuditTells, MeetsOwn}
 use Rattle.erm_ckpt.specs.States.{RecoversTo}
 use Rattle.erm_crash.specs.Moments.{AtMoments, IsMoment, TearsApart}
 use Rattle.erm_crash.specs.Stops.{MayStop}
@@ -52,16 +52,9 @@ TellsCommits commits from image =
 abbrev pub KeepsTold : List Committed → State → List Step → List Step → Type 0
 KeepsTold commits from old new = AtMoments (λ now image. TearsApart sound_law.meets now image → TellsCommits commits from image) old new
 
--- The blocks that recovery meets in an image are the run's own, behind those found: they tell its commits and its marks below the place to which it
--- recovers, from the place on where recovery begins.
-abbrev pub MeetsOwn : List Committed → List Mark → State → List Block → Image → Type 0
-MeetsOwn commits marks from found image =
-    (best : Pair) (blocks : List Block) → Recovers sound_law.meets image best blocks
-    → AreOwn commits marks from.at found (base best).at (state_behind (base best) blocks).at blocks
-
--- so it is of each image at each moment that shows each block and each slot whole, or none
+-- The blocks that recovery meets in each image at each moment that shows each block and each slot whole, or none, are the run's own, behind those found.
 abbrev pub KeepsOwn : List Committed → List Mark → State → List Block → List Step → List Step → Type 0
-KeepsOwn commits marks from found old new = AtMoments (λ now image. TearsApart sound_law.meets now image → MeetsOwn commits marks from found image) old new
+KeepsOwn commits marks from found old new = AtMoments (λ now image. TearsApart sound_law.meets now image → MeetsOwn sound_law.meets commits marks from.at found image) old new
 
 -- behind the blocks that recovery met before, once nothing is pending of what was done then
 abbrev pub StaysOwn : List Committed → List Mark → State → List Step → List Step → Type 0
@@ -69,7 +62,7 @@ StaysOwn commits marks from old new = (before : Pair) (found : List Block) → R
 
 -- and so it is of what the disk reads at the end
 abbrev pub LeavesOwn : List Committed → List Mark → State → List Step → List Step → Type 0
-LeavesOwn commits marks from old new = (before : Pair) (found : List Block) → Recovers sound_law.meets (contents old) before found → MeetsOwn commits marks from found (contents new)
+LeavesOwn commits marks from old new = (before : Pair) (found : List Block) → Recovers sound_law.meets (contents old) before found → MeetsOwn sound_law.meets commits marks from.at found (contents new)
 
 -- so it is up to the last moment, from one on at which the disk recovered to the place that an answer tells
 pub record KeepsSince (commits : List Committed) (from : State) (a : Answer) (place : ℕ) (old new : List Step) : Type 0 where

@@ -19,15 +19,15 @@ use Rattle.erm_crash.proofs.Shipped.{shipped_goes_on}
 use Rattle.erm_node.specs.Sound.{sound_law}
 use Rattle.erm_good_report.specs.Snapshots.{IsSafeAmong}
 use Rattle.erm_good_report.specs.Transactions.{Mark}
-use Rattle.erm_told_audit.specs.Audits.{AreOwn}
-use Rattle.erm_disk_run.specs.Crashes.{KeepsOwn, LeavesOwn, MeetsOwn, StaysOwn}
+use Rattle.erm_told_audit.specs.Audits.{AreOwn, MeetsOwn}
+use Rattle.erm_disk_run.specs.Crashes.{KeepsOwn, LeavesOwn, StaysOwn}
 use Rattle.erm_disk_run.specs.Found.{ReadsAs}
 use Rattle.erm_shipped.specs.Shipped.{HasShipped, KeepsShipped, LeavesShipped}
 use Rattle.erm_shipped.proofs.Kept.{IsOwn, goes_on}
 
 module _ (commits : List Committed) (marks : List Mark) (from : State) (safe : (k : Mark) → k ∈ marks → IsSafeAmong commits k.safe) where
   -- where recovery meets in an image the run's own blocks behind those found, they keep what these do
-  own_shipped : (found : List Block) → IsShipped found → (image : Image) → MeetsOwn commits marks from found image → ShowsShipped sound_law.meets image
+  own_shipped : (found : List Block) → IsShipped found → (image : Image) → MeetsOwn sound_law.meets commits marks from.at found image → ShowsShipped sound_law.meets image
   own_shipped found shipped image meets pair blocks recovers =
       shipped_goes_on sound_law.meets image pair found blocks from.at recovers shipped
       (goes_on commits marks from.at found blocks

@@ -1,3 +1,4 @@
 pub mod Audits
 pub mod Fronts
+pub mod Images
 pub mod Own

@@ -4,10 +4,13 @@ use Rattle.std.specs.List.{filter}
 use Rattle.erm_model.specs.declared.history.Commit.{Commit}
 use Rattle.erm_model.specs.Committed.{Committed, below}
 use Rattle.erm_model.specs.Member.{◌∈◌}
+use Rattle.erm_model.specs.Rows.{Rows}
 use Rattle.erm_model.specs.declared.limits.TheConstants.{LEAST_BLOCK}
 use Rattle.erm_block.specs.declared.block.Block.{Block}
 use Rattle.erm_block.specs.declared.block.Kind.TheVariants as kind
 use Rattle.erm_good_report.specs.Transactions.{Mark}
+use Rattle.erm_outside.specs.Disk.{Image}
+use Rattle.erm_ckpt.specs.Recovered.{Pair, Recovers, base, state_behind}
 use Rattle.erm_recover.specs.Lists.{commits_of}
 use Rattle.erm_told_crash.specs.Logged.{IsMarked}
 
@@ -39,3 +42,8 @@ pub record AreOwn (commits : List Committed) (marks : List Mark) (place : ℕ) (
   pub older : (b : Block) → b.stamp < place → (b ∈ blocks) ↔ ((b ∈ found) × (from ≤ b.stamp))
   pub behind : (k : Mark) → k ∈ marks → place + LEAST_BLOCK ≤ k.safe
   pub stay : (c : Committed) → c ∈ commits → place + LEAST_BLOCK ≤ c.succ
+
+-- The blocks that recovery meets in an image are the run's own, behind those found, up to the place to which it recovers.
+abbrev pub MeetsOwn : (Rows → Type 0) → List Committed → List Mark → ℕ → List Block → Image → Type 0
+MeetsOwn sound commits marks place found image =
+    (best : Pair) (blocks : List Block) → Recovers sound image best blocks → AreOwn commits marks place found (base best).at (state_behind (base best) blocks).at blocks
