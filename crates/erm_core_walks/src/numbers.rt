@@ -1,6 +1,6 @@
 //! Numbers as walks write them: sums of products of numbers and of names of numbers.
 use erm_machine::{FLUSH_SEAT, GREATEST_BLOCK, OBJECT_LIMIT, STOP, VersionAt};
-use erm_model::{COMMIT_KIND, Oid, RUN_UNIT, SIZE_UNIT, SKIP_KIND, Seat, TABLE_CELLS};
+use erm_model::{COMMIT_KIND, MARK_KIND, Oid, RUN_UNIT, SIZE_UNIT, SKIP_KIND, Seat, TABLE_CELLS};
 
 /// The numbers of a line, 0 where there is none.
 pub type Numbers = [u64; 6];
@@ -19,6 +19,7 @@ fn factor(word: &str) -> Option<u64> {
         // In a header: its kind, its size, and the run.
         "commit" => Some(COMMIT_KIND),
         "skip" => Some(SKIP_KIND),
+        "mark" => Some(MARK_KIND),
         "size" => Some(SIZE_UNIT),
         "run" => Some(RUN_UNIT),
         _ => word.parse().ok(),
