@@ -171,6 +171,10 @@ fn outcome(words: &[&str]) -> Option<Answer> {
         },
         "aborted" => Answer::Aborted,
         "ended" => Answer::Ended,
+        "marked" => Answer::Marked {
+            safe: stamp,
+            stamp: number(words, 4),
+        },
         _ => return None,
     };
     Some(answer)

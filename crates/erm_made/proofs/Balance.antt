@@ -211,6 +211,7 @@ module _ (m : ℕ) where
     step command.Seal known w st fits looks calm go = absurd w
     step command.Settle known w st fits looks calm go = absurd w
     step command.Abort known w st fits looks calm go = absurd w
+    step command.Mark known w st fits looks calm go = absurd w
     step command.Durable known w st fits looks calm go = absurd w
     step command.Safe known w st fits looks calm go = absurd w
     step command.Checkpoint known w st fits looks calm go = absurd w

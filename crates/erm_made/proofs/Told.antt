@@ -57,6 +57,7 @@ begin_stays Q s asked answer.NotSafe p none is = is
 begin_stays Q s asked (answer.Safe begin) p none is = is
 begin_stays Q s asked (answer.Unsafe seat stamp) p none is = tt
 begin_stays Q s asked answer.Ended p none is = tt
+begin_stays Q s asked (answer.Marked safe stamp) p none is = tt
 begin_stays Q s asked a p none is = changed Q (with_line asked a) p.current (λ t. refl) is
 
 -- ---- a session in a transaction has one in progress
@@ -99,6 +100,7 @@ linked_heard s asked answer.NotSafe phase p is = is
 linked_heard s asked (answer.Safe begin) phase p is = tt
 linked_heard s asked (answer.Unsafe seat stamp) phase p is = tt
 linked_heard s asked answer.Ended phase p is = tt
+linked_heard s asked (answer.Marked safe stamp) phase p is = tt
 linked_heard s asked a phase p is = linked_changed (with_line asked a) phase p.current is
 
 linked_from : (k : ℕ) (said : List Said) (phase : Phase) (p : Progress) → IsLinked phase p.current → IsLinked (fold (hears k) phase said) (fold (follows k) p said).current
@@ -153,6 +155,7 @@ below_heard bound s asked (answer.Newer stamp) p low is = let q = goes_on asked 
 below_heard bound s asked answer.Aborted p low is = below_ended bound Aborts p.over p.current tt is
 below_heard bound s asked (answer.Unsafe seat stamp) p low is = below_ended bound Aborts p.over p.current tt is
 below_heard bound s asked answer.Ended p low is = below_ended bound Aborts p.over p.current tt is
+below_heard bound s asked (answer.Marked safe stamp) p low is = below_ended bound Aborts p.over p.current tt is
 below_heard bound s asked a p low is = is
 
 below_from : (bound k : ℕ) (said : List Said) (p : Progress) → IsAbove said bound → AreBelow bound p.over → AreBelow bound (fold (follows k) p said).over

@@ -50,6 +50,7 @@ not_stuck m (answer.Began x) cause calm = calm
 not_stuck m (answer.Safe x) cause calm = calm
 not_stuck m (answer.Unsafe x y) cause calm = calm
 not_stuck m answer.Ended cause calm = calm
+not_stuck m (answer.Marked x y) cause calm = calm
 not_stuck m answer.ReadOnly cause calm = calm
 not_stuck m answer.NotSafe cause calm = calm
 not_stuck m (answer.Replied x) cause calm = calm
@@ -93,6 +94,7 @@ get_active table key (answer.Began x) is = record { unsealed = tt; balance = ref
 get_active table key (answer.Safe x) is = absurd is
 get_active table key (answer.Unsafe x y) is = absurd is
 get_active table key answer.Ended is = absurd is
+get_active table key (answer.Marked x y) is = absurd is
 get_active table key answer.ReadOnly is = record { unsealed = tt; balance = refl }
 get_active table key answer.NotSafe is = record { unsealed = tt; balance = refl }
 get_active table key (answer.Replied x) is = record { unsealed = tt; balance = refl }
@@ -134,6 +136,7 @@ put_active table key value (answer.Began x) is = record { unsealed = tt; balance
 put_active table key value (answer.Safe x) is = absurd is
 put_active table key value (answer.Unsafe x y) is = absurd is
 put_active table key value answer.Ended is = absurd is
+put_active table key value (answer.Marked x y) is = absurd is
 put_active table key value answer.ReadOnly is = record { unsealed = tt; balance = refl }
 put_active table key value answer.NotSafe is = record { unsealed = tt; balance = refl }
 put_active table key value (answer.Replied x) is = record { unsealed = tt; balance = refl }
@@ -176,6 +179,7 @@ begin_idle (answer.Replied x) is calm = absurd is
 begin_idle (answer.Safe x) is calm = absurd is
 begin_idle (answer.Unsafe x y) is calm = absurd is
 begin_idle answer.Ended is calm = absurd is
+begin_idle (answer.Marked x y) is calm = absurd is
 begin_idle answer.ReadOnly is calm = absurd is
 begin_idle answer.NotSafe is calm = absurd is
 begin_idle (answer.Cut x) is calm = absurd is
@@ -222,6 +226,7 @@ commit_active (answer.Replied x) is looks calm = absurd is
 commit_active (answer.Safe x) is looks calm = absurd is
 commit_active (answer.Unsafe x y) is looks calm = absurd is
 commit_active answer.Ended is looks calm = absurd looks
+commit_active (answer.Marked x y) is looks calm = absurd is
 commit_active answer.ReadOnly is looks calm = absurd is
 commit_active answer.NotSafe is looks calm = absurd is
 commit_active (answer.Cut x) is looks calm = absurd is
@@ -268,6 +273,7 @@ flush_answered phase (answer.Replied x) unsealed_yet is = absurd is
 flush_answered phase (answer.Safe x) unsealed_yet is = absurd is
 flush_answered phase (answer.Unsafe x y) unsealed_yet is = absurd is
 flush_answered phase answer.Ended unsealed_yet is = absurd is
+flush_answered phase (answer.Marked x y) unsealed_yet is = absurd is
 flush_answered phase answer.ReadOnly unsealed_yet is = absurd is
 flush_answered phase answer.NotSafe unsealed_yet is = absurd is
 flush_answered phase (answer.Cut x) unsealed_yet is = absurd is

@@ -57,6 +57,7 @@ module _ (m total : ℕ) where
   anew_on command.Seal s k begun rs more w = absurd w
   anew_on command.Settle s k begun rs more w = absurd w
   anew_on command.Abort s k begun rs more w = absurd w
+  anew_on command.Mark s k begun rs more w = absurd w
   anew_on command.Durable s k begun rs more w = absurd w
   anew_on command.Checkpoint s k begun rs more w = absurd w
   anew_on command.Safe s k begun rs more w = absurd w
