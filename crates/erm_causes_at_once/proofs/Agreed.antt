@@ -210,7 +210,7 @@ module _ (runs : NoneRuns) (stay : (w u : Work) (steps : List Step) → Extends 
         let over : g ∈ (f.session other).over = subst (λ (q : ℕ). g ∈ (f.session q).over) seat_is own.over in
         let in_v : IsSession v other = still_session f v other (sym run.opening) session in
         let p : Progress = progress_of other (places_of script answers closed) in
-        let found = told_one other p.over p.snapshots (f.session other).over g (tell v f whole script answers closed run other in_v).over (commits_stay own.stamp own.succ own.pred) over in (
+        let found = told_one other p.over p.snapshots (f.session other).over g (tell v f whole script answers closed run other in_v).over (commits_stay g own.stamp own.succ own.pred refl) over in (
           found.0,
           over_told v.opening.sessions (places_of script answers closed) other in_v.0 in_v.1 found.0 found.1,
           found.2.work.session,

@@ -26,12 +26,12 @@ use Rattle.erm_lines_at_once.specs.Executions.{DidOwn, IsOwnRun, all_moves}
 use Rattle.erm_lines_at_once.specs.Parts.{IsRunInPart}
 use Rattle.erm_told_at_once.proofs.Drawing.{HasDrawn}
 use Rattle.erm_told_at_once.proofs.Runs.{all_say, at_first, knows_own, tells}
-use Rattle.erm_causes_at_once.proofs.Sealed.{close_counts, count_sealed, line_counts, not_below, one_most, one_phase, over_few, over_fewer}
+use Rattle.erm_causes_at_once.proofs.Sealed.{close_counts, count_told, line_counts, not_below, one_most, one_phase, over_few, over_fewer}
 use Rattle.erm_causes_at_once.proofs.Totals.{count_asked, counted_few, counted_upto, own_count, own_total}
 
 -- what a place tells, where it is one of the session
 abbrev Counts : Progress → Phase → Progress → Phase → ℕ → Type 0
-Counts p phase q after more = count_sealed q.over + one_phase after ≤ (count_sealed p.over + one_phase phase) + more
+Counts p phase q after more = count_told q + one_phase after ≤ (count_told p + one_phase phase) + more
 
 place_counts : (b : Bool) (seat : ℕ) (asked : Option Command) (a : Answer) (p : Progress) (phase : Phase)
     → (b ≡ true → Counts p phase (heard seat asked a p) (phase_after asked a phase) (count_asked draws_of asked))
@@ -92,7 +92,7 @@ module _ (runs : NoneRuns) (stay : (w u : Work) (steps : List Step) → Extends 
   module _ (v f : View) (whole script : List ScriptLine) (answers : List Answer) (closed : List Closed) (run : IsRunInPart v whole script answers closed f) where
     -- those over, and the one that is sealed now
     told_few : (seat : ℕ) → IsSession v seat
-        → count_sealed (progress_of seat (places_of script answers closed)).over + one_phase (phase_of (f.session seat).stand) ≤ own_total draws_of seat (places_of script answers closed)
+        → count_told (progress_of seat (places_of script answers closed)) + one_phase (phase_of (f.session seat).stand) ≤ own_total draws_of seat (places_of script answers closed)
     told_few seat session =
         let part = run.own seat session in
         let moves = all_moves script answers closed in
@@ -100,7 +100,7 @@ module _ (runs : NoneRuns) (stay : (w u : Work) (steps : List Step) → Extends 
         let all = counts f seat moves nothing Idle v part.last part.run first in
         let phase : fold (turns seat) Idle (said_in moves) ≡ phase_of (f.session seat).stand =
         (knows_own runs stay f seat moves nothing Idle v part.last part.run first).phase_is ∙ ap (λ (s : Session). phase_of s.stand) part.ends in
-        subst (λ (said : List Said). count_sealed (progress_of seat said).over + one_phase (phase_of (f.session seat).stand) ≤ own_total draws_of seat said) (all_say script answers closed)
+        subst (λ (said : List Said). count_told (progress_of seat said) + one_phase (phase_of (f.session seat).stand) ≤ own_total draws_of seat said) (all_say script answers closed)
         (omega (arith, all, ap one_phase phase))
 
     now_few : (bound : ℕ) (stand : Stand) → one_below bound (stamp_now stand) ≤ one_phase (phase_of stand)

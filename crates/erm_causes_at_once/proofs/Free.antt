@@ -1,5 +1,5 @@
 -- A session's transactions touch objects of their lines' tables, as far as the commits below their begins keep to theirs; and how this goes on.
-use Rattle.std.proofs.Common.{◌≡◌, ℕ, List, [], ◌∷◌, ◌++◌, Option, Some, None, inl, inr, refl, sym, subst}
+use Rattle.std.proofs.Common.{◌≡◌, ℕ, List, [], ◌∷◌, ◌++◌, Option, Some, None, inl, inr, refl, sym, subst, true, false}
 use Rattle.std.specs.Option.{option_map, option_to_list}
 use Rattle.erm_model.specs.declared.history.VersionWritten.{VersionWritten}
 use Rattle.erm_model.specs.declared.outcome.Phase.TheVariants.{Active}
@@ -12,7 +12,7 @@ use Rattle.erm_world.specs.Snapshots.{snapshot_not_active}
 use Rattle.erm_maps.specs.Runs.{IsRunOf, Kept}
 use Rattle.erm_good_report.specs.Transactions.{Ending, Excludes, Progress, Transaction, ended, heard, with_ending, with_line}
 use Rattle.erm_world.specs.Calls.{KeepsOwnSaves}
-use Rattle.erm_causes.specs.Touched.{IsClosedBy, Together, Touches}
+use Rattle.erm_causes.specs.Touched.{IsClosedBy, Together, Touches, IsBareMark}
 use Rattle.erm_causes.proofs.Begun.{KeepBelow}
 use Rattle.erm_causes.proofs.Coloured.{KeepsTables}
 use Rattle.erm_causes.proofs.Fine.{FineAt, saved_none, touches_nothing, touches_same}
@@ -51,6 +51,7 @@ module _ (table : ℕ → ℕ) (f : View) where
   abbrev pub FreeNow : Option Transaction → List (List VersionWritten) → Stand → Type 0
   FreeNow None held world.idle = Unit {0}
   FreeNow None held (world.snapshot x) = Unit {0}
+  FreeNow None held (world.sealed w stamp) = IsBareMark w
   FreeNow (Some t) held (world.active w) = Going t (record { work = w; saves = held })
   FreeNow (Some t) held (world.sealed w stamp) = Stays t w
   FreeNow current held stand = ⊥
@@ -89,7 +90,7 @@ module _ (table : ℕ → ℕ) (f : View) where
   now_rests : (current : Option Transaction) (held other : List (List VersionWritten)) (stand : Stand) → (phase_of stand ≡ Active → ⊥) → FreeNow current held stand → FreeNow current other stand
   now_rests None held other world.idle rests now = tt
   now_rests None held other (world.active w) rests now = absurd now
-  now_rests None held other (world.sealed w stamp) rests now = absurd now
+  now_rests None held other (world.sealed w stamp) rests now = now
   now_rests None held other (world.snapshot x) rests now = tt
   now_rests (Some t) held other world.idle rests now = absurd now
   now_rests (Some t) held other (world.active w) rests now = absurd (rests refl)
@@ -114,16 +115,19 @@ module _ (table : ℕ → ℕ) (f : View) where
 
   now_has : (current : Option Transaction) (held : List (List VersionWritten)) (stand : Stand) (w : Work) → FreeNow current held stand → HasNow stand w → HasFree current w
   now_has None held world.idle w now (inl active) = cc
-  now_has None held world.idle w now (inr (stamp, sealed)) = cc
+  now_has None held world.idle w now (inr (stamp, sealed, plain)) = cc
   now_has None held (world.active u) w now has = absurd now
-  now_has None held (world.sealed u stamp) w now has = absurd now
+  now_has None held (world.sealed u stamp) w now (inl active) = cc
+  now_has None held (world.sealed u stamp) w now (inr (other, sealed, plain)) =
+      let same : u ≡ w = work_now (world.sealed u stamp) w (inr (other, sealed, plain)) in
+      let no : true ≡ false = sym (ap (λ (x : Work). x.is_mark) now) ∙ ap (λ (x : Work). x.is_mark) same ∙ plain in absurd (cc)
   now_has (Some t) held world.idle w now has = absurd now
   now_has (Some t) held (world.active u) w now has =
       record { told = t; is = refl; stays = subst (λ (x : Work). Stays t x) (work_now (world.active u) w has) (going_stays t (record { work = u; saves = held }) now) }
   now_has (Some t) held (world.sealed u stamp) w now has =
       record { told = t; is = refl; stays = subst (λ (x : Work). Stays t x) (work_now (world.sealed u stamp) w has) now }
   now_has None held (world.snapshot s) w now (inl active) = cc
-  now_has None held (world.snapshot s) w now (inr (stamp, sealed)) = cc
+  now_has None held (world.snapshot s) w now (inr (stamp, sealed, plain)) = cc
   now_has (Some t) held (world.snapshot s) w now has = absurd now
 
   -- one that is active
@@ -223,7 +227,26 @@ module _ (table : ℕ → ℕ) (f : View) where
       let heard_is = hears seat p (none_free p.current held s.stand rests free.now) in
       let g : Finished = record { work = world.begun number begin; fate = world.aborts } in
       subst (λ (r : Session). IsFree (heard seat asked a p) other r) (sym is)
-      (none_left p (heard seat asked a p) other (s.over ++ g ∷ []) world.idle heard_is.0 heard_is.1 tt (together_untold FreeOne p.over s.over g free.over refl))
+      (none_left p (heard seat asked a p) other (s.over ++ g ∷ []) world.idle heard_is.0 heard_is.1 tt (together_untold FreeOne p.over s.over g free.over (inl refl)))
+
+  -- a snapshot is sealed with its mark
+  pub mark_free : (p : Progress) (held other : List (List VersionWritten)) (s : Session) (x : world.Snapshot) (stamp : ℕ) → s.stand ≡ world.snapshot x → IsFree p held s
+      → IsFree p other (record { over = s.over; stand = world.sealed (world.marking x) stamp })
+  mark_free p held other s x stamp stand free = record {
+    over = free.over;
+    now = subst (λ (o : Option Transaction). FreeNow o other (world.sealed (world.marking x) stamp)) (sym (none_free p.current held s.stand (subst HasNoWork (sym stand) tt) free.now)) refl;
+  }
+
+  -- and a mark is over
+  pub marked_free : (seat : ℕ) (asked : Option Command) (a : Answer) (p : Progress) (held other : List (List VersionWritten)) (s t : Session) (w : Work) (own : ℕ) → s.stand ≡ world.sealed w own → p.current ≡ None
+      → t ≡ record { over = s.over ++ record { work = w; fate = world.marked own w.begin } ∷ []; stand = world.idle } → LeavesNone asked a → IsFree p held s → IsFree (heard seat asked a p) other t
+  marked_free seat asked a p held other s t w own stand none is hears free =
+      let bare : IsBareMark w = subst (λ (o : Option Transaction). FreeNow o held (world.sealed w own)) none (subst (λ (at : Stand). FreeNow p.current held at) stand free.now) in
+      let heard_is = hears seat p none in
+      let g : Finished = record { work = w; fate = world.marked own w.begin } in
+      subst (λ (r : Session). IsFree (heard seat asked a p) other r) (sym is)
+      (none_left p (heard seat asked a p) other (s.over ++ g ∷ []) world.idle heard_is.0 heard_is.1 tt
+      (together_untold FreeOne p.over s.over g free.over (inr (record { bare = bare; stamp = own; safe = w.begin; ended = refl }))))
 
   -- LINES that name a table: the transaction goes on, or ends.
   pub went_free : (seat : ℕ) (c : Command) (a : Answer) (p : Progress) (held other : List (List VersionWritten)) (s t : Session) (told : Transaction) → GoesOnBy a → p.current ≡ Some told

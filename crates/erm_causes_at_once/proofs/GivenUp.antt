@@ -116,6 +116,7 @@ module _ (f : View) (seat : ℕ) where
   decided_same : (a : Answer) (v t : View) → DidDecideBeside seat a v t → SameGiven seat v t
   decided_same (answer.Committed stamp succ pred) v t (r, at, is_succ, is_pred, (u, passes, (w, own, stand, settled))) = at_seat seat u t settled.0.given_up ∙ passes.given_up
   decided_same (answer.Excluded stamp succ pred) v t (u, passes, (w, own, stand, settled)) = at_seat seat u t settled.0.given_up ∙ passes.given_up
+  decided_same (answer.Marked safe stamp) v t (u, passes, (w, own, stand, settled)) = at_seat seat u t settled.0.given_up ∙ passes.given_up
   decided_same a v t did = absurd did
 
   -- a snapshot that was asked whether it is safe
@@ -180,6 +181,7 @@ module _ (f : View) (seat : ℕ) where
     commanded command.Durable a free plain did = leaves (durable_same a did)
     commanded command.Save a free plain did = leaves (saved_same a did)
     commanded (command.Back n) a free plain did = leaves (back_same n a did)
+    commanded command.Mark a free plain did = absurd did
     commanded command.Flush a free plain did = absurd did
     commanded command.Checkpoint a free plain did = absurd did
     commanded (command.Get k key) a free plain did = named_given (command.Get k key) a k refl (named_active (phase_at v seat) (command.Get k key) k refl plain free) did
@@ -194,6 +196,7 @@ module _ (f : View) (seat : ℕ) where
     watched_same (command.Get table key) (answer.Replied r) did = did.passes.given_up
     watched_same (command.Next table from) (answer.Replied r) did = did.passes.given_up
     watched_same (command.Scan table low high) (answer.Replied r) did = did.passes.given_up
+    watched_same command.Mark a did = let (u, passes, marks) = did.sealed in decided_same a did.between t did.decided ∙ at_seat seat u did.between marks.seals.given_up ∙ passes.given_up
     watched_same command.Commit answer.Ended (u, passes, did) = at_seat seat u t did.given_up ∙ passes.given_up
     watched_same command.Abort answer.Aborted (u, passes, did) = at_seat seat u t did.given_up ∙ passes.given_up
     watched_same command.Durable (answer.Durable stamp) (u, passes, did) = at_view seat u t did.0 ∙ passes.given_up

@@ -8,7 +8,7 @@ use Rattle.erm_report.specs.declared.answer.Answer.TheVariants as answer
 use Rattle.erm_script.specs.declared.script.Command.{Command}
 use Rattle.erm_script.specs.declared.script.Command.TheVariants as command
 use Rattle.erm_good_report.specs.Phases.{Closes}
-use Rattle.erm_good_report.specs.Transactions.{Commits, Ending, Excludes, Aborts, Progress, Said, Snapshot, Transaction, ended, goes_on, heard, nothing, own_snapshot, progress_of, snapshot_after, with_ending, with_line, with_look}
+use Rattle.erm_good_report.specs.Transactions.{Commits, Ending, Excludes, Aborts, Progress, Said, Snapshot, Transaction, ended, goes_on, heard, nothing, own_snapshot, progress_of, snapshot_after, with_ending, with_line, with_look, with_mark}
 use Rattle.erm_told.proofs.Executed.{hears}
 
 -- those that are over, and those in progress
@@ -54,6 +54,8 @@ heard_one seat asked (answer.Safe begin) p = omega arith
 heard_one seat asked (answer.Unsafe other stamp) p = omega (arith, ends_none Aborts (record p { snapshot = Some (own_snapshot p) }))
 heard_one seat asked answer.Ended p =
     omega (arith, ends_none Aborts (record p { snapshot = option_map (λ (s : Snapshot). record s { placed = true }) p.snapshot }), one_mapped (λ (s : Snapshot). record s { placed = true }) p.snapshot)
+heard_one seat asked (answer.Marked safe stamp) p =
+    omega (arith, ends_none Aborts (record p { snapshot = option_map (with_mark safe stamp) p.snapshot }), one_mapped (with_mark safe stamp) p.snapshot)
 heard_one seat asked (answer.Sealed stamp) p = omega (arith, one_mapped (λ (t : Transaction). record t { sealed = Some stamp }) p.current)
 heard_one seat asked (answer.Committed stamp succ pred) p = omega (arith, ends_none (Commits stamp succ pred) p)
 heard_one seat asked (answer.Excluded stamp succ pred) p = omega (arith, ends_none (Excludes (Some stamp) succ pred) p)
@@ -98,6 +100,8 @@ pub closes_none : (seat : ℕ) (phase : Phase) (a : Answer) (p : Progress) → C
 closes_none seat Active answer.Aborted p fits = ends_none Aborts p
 closes_none seat Sealed (answer.Committed stamp succ pred) p fits = ends_none (Commits stamp succ pred) p
 closes_none seat Sealed (answer.Excluded stamp succ pred) p fits = ends_none (Excludes (Some stamp) succ pred) p
+closes_none seat Sealed (answer.Marked safe stamp) p fits =
+    omega (arith, ends_none Aborts (record p { snapshot = option_map (with_mark safe stamp) p.snapshot }), one_mapped (with_mark safe stamp) p.snapshot)
 closes_none seat Pending answer.Aborted p fits = ends_none Aborts p
 closes_none seat Safe answer.Aborted p fits = ends_none Aborts p
 closes_none seat phase a p fits = absurd fits

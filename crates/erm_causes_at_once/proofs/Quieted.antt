@@ -1,5 +1,5 @@
 -- Moves of a session that touch no object: a transaction begins, is sealed, or is over; or nothing happens.
-use Rattle.std.proofs.Common.{◌≡◌, ℕ, ◌+◌, List, [], ◌∷◌, ◌++◌, length, Option, Some, None, inl, inr, refl, sym, ap, ◌∙◌, subst, arith}
+use Rattle.std.proofs.Common.{◌≡◌, ℕ, ◌+◌, List, [], ◌∷◌, ◌++◌, length, Option, Some, None, inl, inr, refl, sym, ap, ◌∙◌, subst, arith, true}
 use Rattle.erm_model.specs.declared.outcome.Phase.{Phase}
 use Rattle.erm_model.specs.declared.outcome.Phase.TheVariants.{Idle, Active, Sealed, Pending, Safe}
 use Rattle.erm_model.specs.Lawful.{times_made}
@@ -25,18 +25,19 @@ use Rattle.erm_causes.proofs.Operated.{GoesOnBy}
 use Rattle.erm_world.specs.Snapshots.{snapshot_not_active}
 use Rattle.erm_model.specs.declared.history.VersionWritten.{VersionWritten}
 use Rattle.erm_beside.specs.Calls.{Passes}
-use Rattle.erm_lines_at_once.specs.Answers.{DidAskSnapshotBeside, DidAskedBeside, DidCloseBeside, DidCommandBeside, DidCommitBeside, DidDecideBeside, DidEndBeside, DidLineBeside}
+use Rattle.erm_lines_at_once.specs.Answers.{DidAskSnapshotBeside, DidAskedBeside, DidCloseBeside, DidCommandBeside, DidCommitBeside, DidDecideBeside, DidEndBeside, DidLineBeside, DidOfSnapshotBeside}
 use Rattle.erm_lines_at_once.specs.Operations.{DidOperationBeside}
 use Rattle.erm_lines_at_once.proofs.Watched.{in_phase}
 use Rattle.erm_causes.proofs.Fine.{number_told}
 use Rattle.erm_causes.proofs.Made.{made_over}
 use Rattle.erm_causes.proofs.Moves.{work_now}
 use Rattle.erm_causes.proofs.Quiet.{DoneBy, HasNow, StillBy, idle_with, now_works, refusal_still, same_goes_on, seal_heard}
-use Rattle.erm_causes.proofs.Snapshots.{LeavesNone, leaves_none}
+use Rattle.erm_causes.proofs.Snapshots.{LeavesNone, leaves_none, marked_none}
 use Rattle.erm_told_limits.proofs.Ran.{active_with}
 use Rattle.erm_causes_at_once.proofs.Called.{Once, once_of, out, stayed, whole}
-use Rattle.erm_causes_at_once.proofs.Free.{IsFree, begun_free, done_free, kept_free, same_free, sealed_free, watched_free}
+use Rattle.erm_causes_at_once.proofs.Free.{IsFree, begun_free, done_free, kept_free, same_free, sealed_free, watched_free, marked_free}
 use Rattle.erm_causes_at_once.proofs.Snapshots.{HasNoWork, Watches, ended_bare, ends, idle_rests, line_none, line_watches, looks, snapshot_rests, starts_none, starts_watches, watches}
+use Rattle.erm_told.proofs.Turns.{seals_plain}
 
 -- an answer is heard as one that begins a transaction without lines
 abbrev pub FreshBy : Option Command → Answer → Type 0
@@ -49,6 +50,8 @@ pub data Quieted (asked : Option Command) (a : Answer) (s t : Session) : Type 0 
   done : (w : Work) (fate : Fate) (ending : Ending) → HasNow s.stand w → t ≡ record { over = s.over ++ record { work = w; fate = fate } ∷ []; stand = world.idle }
       → ((succ pred : ℕ) → ending ≡ Excludes None succ pred → ⊥) → DoneBy asked a ending → Quieted asked a s t
   watched : HasNoWork s.stand → Watches s t → LeavesNone asked a → Quieted asked a s t
+  marked : (w : Work) (own : ℕ) → s.stand ≡ world.sealed w own → w.is_mark ≡ true → t ≡ record { over = s.over ++ record { work = w; fate = world.marked own w.begin } ∷ []; stand = world.idle }
+      → LeavesNone asked a → Quieted asked a s t
 
 -- nothing is made by them
 none_made : (stand : Stand) (x : ℕ) → HasNoWork stand → times_made (work_of stand).made x ≡ 0
@@ -70,6 +73,9 @@ quieted_made asked a s t (watched rests (looks is) hears) x = ap (λ (r : Sessio
 quieted_made asked a s t (watched rests (watches y is) hears) x = omega (arith, ap (λ (r : Session). made_in r x) is, none_made s.stand x rests)
 quieted_made asked a s t (watched rests (ends number begin is) hears) x =
     omega (arith, ap (λ (r : Session). made_in r x) is, made_over s.over (world.begun number begin) world.aborts x, none_made s.stand x rests)
+quieted_made asked a s t (marked w own stand marks is hears) x =
+    let same : times_made (work_of s.stand).made x ≡ times_made w.made x = ap (λ (at : Stand). times_made (work_of at).made x) stand in
+    omega (arith, ap (λ (r : Session). made_in r x) is, made_over s.over w (world.marked own w.begin) x, same)
 
 -- and what was touched stays so
 pub quieted_free : NoneRuns → (table : ℕ → ℕ) (f : View) (seat : ℕ) (asked : Option Command) (a : Answer) (p : Progress) (held other : List (List VersionWritten)) (s t : Session)
@@ -94,6 +100,9 @@ quieted_free run table f seat asked a p held other s t tells keeps (done w fate 
     (subst (λ (r : Session). IsFree table f (ended ending p) other r) (sym is)
     (done_free table f p held other s w fate ending has none (λ told at. number_told seat p.current s.stand w told tells (now_works s.stand w has) at) free))
 quieted_free run table f seat asked a p held other s t tells keeps (watched rests did hears) free = watched_free table f seat asked a p held other s t rests did hears free
+quieted_free run table f seat asked a p held other s t tells keeps (marked w own stand marks is hears) free =
+    let none = marked_none seat p.current w own marks (subst (λ (at : Stand). TellsNow seat p.current at) stand tells) in
+    marked_free table f seat asked a p held other s t w own stand none is hears free
 
 -- after others went on
 after_passes : (seat : ℕ) (asked : Option Command) (a : Answer) (v u t : View) → Passes seat v u → Quieted asked a (u.session seat) (t.session seat) → Quieted asked a (v.session seat) (t.session seat)
@@ -103,10 +112,12 @@ after_passes seat asked a v u t passes did = subst (λ (s : Session). Quieted as
 pub decided : (seat : ℕ) (asked : Option Command) (a : Answer) (v t : View) → DidDecideBeside seat a v t → Quieted asked a (v.session seat) (t.session seat)
 decided seat asked (answer.Committed stamp succ pred) v t (r, at, is_succ, is_pred, (u, passes, (w, own, stand, settled))) =
     after_passes seat asked (answer.Committed stamp succ pred) v u t passes
-    (done w (world.commits own r.succ r.pred) (Commits stamp succ pred) (inr (own, stand)) settled.0.own (λ s p is. cc) (λ q p. refl))
+    (done w (world.commits own r.succ r.pred) (Commits stamp succ pred) (inr (own, stand, settled.1)) settled.0.own (λ s p is. cc) (λ q p. refl))
 decided seat asked (answer.Excluded stamp succ pred) v t (u, passes, (w, own, stand, settled)) =
     after_passes seat asked (answer.Excluded stamp succ pred) v u t passes
-    (done w (world.excluded own succ pred) (Excludes (Some stamp) succ pred) (inr (own, stand)) settled.0.own (λ s p is. cc) (λ q p. refl))
+    (done w (world.excluded own succ pred) (Excludes (Some stamp) succ pred) (inr (own, stand, settled.1)) settled.0.own (λ s p is. cc) (λ q p. refl))
+decided seat asked (answer.Marked safe stamp) v t (u, passes, (w, own, stand, settled)) =
+    after_passes seat asked (answer.Marked safe stamp) v u t passes (marked w own stand settled.1 settled.0.own (leaves_none asked (answer.Marked safe stamp) refl))
 decided seat asked a v t did = absurd did
 
 -- it isn't active then
@@ -114,6 +125,7 @@ pub decided_rests : (seat : ℕ) (a : Answer) (v t : View) → DidDecideBeside s
 decided_rests seat (answer.Committed stamp succ pred) v t (r, at, is_succ, is_pred, (u, passes, (w, own, stand, settled))) active =
     let idle = ap (λ (s : Session). phase_of s.stand) settled.0.own in cc
 decided_rests seat (answer.Excluded stamp succ pred) v t (u, passes, (w, own, stand, settled)) active = let idle = ap (λ (s : Session). phase_of s.stand) settled.0.own in cc
+decided_rests seat (answer.Marked safe stamp) v t (u, passes, (w, own, stand, settled)) active = let idle = ap (λ (s : Session). phase_of s.stand) settled.0.own in cc
 decided_rests seat a v t did active = did
 
 -- SAVEPOINTS. Those of a session that has begun no transaction, and has none in progress then, don't count.
@@ -147,10 +159,13 @@ pub pointed_at : (c : Command) (a : Answer) (v : View) (seat : ℕ) (t : View) �
 pointed_at c a v seat t (saves is did) = asked_save v t seat a did
 pointed_at c a v seat t (backs n is did) = asked_back v t seat n a did
 
--- LINES. What a line did: it is a quiet one; or it sealed its transaction, and then it is; or it is one that names a table, or one of savepoints.
+-- LINES. What a line did: it is a quiet one; or it sealed its transaction, or its mark, and then it is; or it is one that names a table, or one of
+-- savepoints.
 pub data Lined (f : View) (seat : ℕ) (asked : Option Command) (a : Answer) (v t : View) : Type 0 where
   quiet : Quieted asked a (v.session seat) (t.session seat) → KeepsAt seat v t → Lined f seat asked a v t
-  sealed_first : (stamp : ℕ) (between : Session) → phase_at v seat ≡ Active → between ≡ record { over = (v.session seat).over; stand = world.sealed (work_at v seat) stamp }
+  sealed_first : (stamp : ℕ) (between : Session) → phase_at v seat ≡ Active → (work_at v seat).is_mark ≡ false → between ≡ record { over = (v.session seat).over; stand = world.sealed (work_at v seat) stamp }
+      → Quieted asked a between (t.session seat) → (phase_at t seat ≡ Active → ⊥) → Lined f seat asked a v t
+  marked_first : (x : world.Snapshot) (stamp : ℕ) (between : Session) → (v.session seat).stand ≡ world.snapshot x → between ≡ record { over = (v.session seat).over; stand = world.sealed (world.marking x) stamp }
       → Quieted asked a between (t.session seat) → (phase_at t seat ≡ Active → ⊥) → Lined f seat asked a v t
   named : (c : Command) (k : ℕ) → asked ≡ Some c → table_of c ≡ Some k → phase_at v seat ≡ Active → DidOperationBeside f seat c a v t → Lined f seat asked a v t
   at_savepoint : (c : Command) (u : View) → asked ≡ Some c → table_of c ≡ None → phase_at v seat ≡ Active → Passes seat v u → Pointed c a u seat t → GoesOnBy a → Lined f seat asked a v t
@@ -223,7 +238,8 @@ module _ (f : View) (seat : ℕ) (v t : View) where
   commit_line a active did =
       let (u, passes, sealed) = did.sealed in
       let own = subst (λ (s : Session). did.between.session seat ≡ record { over = s.over; stand = world.sealed (work_of s.stand) did.stamp }) passes.own sealed.own in
-      sealed_first did.stamp (did.between.session seat) active own (decided seat (Some command.Commit) a did.between t did.decided)
+      let plain = subst (λ (s : Session). (work_of s.stand).is_mark ≡ false) passes.own (seals_plain u seat did.stamp did.between (phase_passed u passes ∙ active) sealed) in
+      sealed_first did.stamp (did.between.session seat) active plain own (decided seat (Some command.Commit) a did.between t did.decided)
       (λ at. decided_rests seat a did.between t did.decided at)
 
   saved_line : (a : Answer) → phase_at v seat ≡ Active → DidCommandBeside f seat command.Save a v t → Lined f seat (Some command.Save) a v t
@@ -260,16 +276,26 @@ module _ (f : View) (seat : ℕ) (v t : View) where
   commanded command.Save a free plain did = saved_line a (active_where NeedsWriter (phase_at v seat) tt plain free) did
   commanded (command.Back n) a free plain did = back_line n a (active_where NeedsWriter (phase_at v seat) tt plain free) did
   commanded command.Durable a free plain did = durable_line a did
+  commanded command.Mark a free plain did = absurd did
   commanded command.Flush a free plain did = absurd did
   commanded command.Checkpoint a free plain did = absurd did
+
+  watched_line : (c : Command) (a : Answer) → HasSnapshot v seat → DidOfSnapshotBeside f seat c a v t → Lined f seat (Some c) a v t
+  watched_line command.Mark a has did =
+      let (u, passes, sealed) = did.sealed in
+      let x = sealed.snapshot in
+      let own = subst (λ (s : Session). did.between.session seat ≡ record { over = s.over; stand = world.sealed (world.marking x) did.stamp }) passes.own sealed.seals.own in
+      let stand : (v.session seat).stand ≡ world.snapshot x = sym (ap (λ (s : Session). s.stand) passes.own) ∙ sealed.stands in
+      marked_first x did.stamp (did.between.session seat) stand own (decided seat (Some command.Mark) a did.between t did.decided) (λ at. decided_rests seat a did.between t did.decided at)
+  watched_line c a has did =
+      let other : c ≡ command.Mark → ⊥ = λ marks. cc in
+      quiet (watched (snapshot_rests v seat has) (line_watches f seat c a v t has other did) (leaves_none (Some c) a (line_none f seat c a v t did)))
+      (watched_keeps (line_watches f seat c a v t has other did) (snapshot_rests v seat has))
 
   asked_line : (c : Command) (a : Answer) (r : Option Answer) → refusal_of (phase_at v seat) c ≡ r → FitsRefusal r c a → DidAskedBeside r f seat c a v t → Lined f seat (Some c) a v t
   asked_line c a None is fits did =
       in_phase (Lined f seat (Some c) a v t) f seat c a v t (λ plain done. commanded c a is plain done)
-      (λ is_there done.
-      let has = snapshot_there v seat is_there in
-      quiet (watched (snapshot_rests v seat has) (line_watches f seat c a v t has done) (leaves_none (Some c) a (line_none f seat c a v t done)))
-      (watched_keeps (line_watches f seat c a v t has done) (snapshot_rests v seat has))) did
+      (λ is_there done. watched_line c a (snapshot_there v seat is_there) done) did
   asked_line c a (Some refusal) is fits passes =
       quiet (still passes.own (subst (StillBy (Some c)) (sym fits) (refusal_still (need_of c) (phase_at v seat) refusal is (Some c))))
       (same_keep (t.session seat).stand (v.session seat).stand (t.saves seat) (v.saves seat) (ap (λ (s : Session). s.stand) passes.own) passes.saves)
@@ -313,6 +339,8 @@ quieted_idle asked begin s t (still is hears) = absurd (hears 0 nothing).1
 quieted_idle asked begin s t (begins number at idle is hears) = idle
 quieted_idle asked begin s t (seals stamp active is hears) = absurd (hears 0 nothing).1
 quieted_idle asked begin s t (done w fate ending has is none hears) = let no : Some (begun 0 begin nothing) ≡ None = ap (λ (p : Progress). p.current) (hears 0 nothing) in cc
+quieted_idle asked begin s t (marked w own stand marks is hears) =
+    let no : Some (begun 0 begin nothing) ≡ None = (hears 0 nothing refl).1 in cc
 quieted_idle asked begin s t (watched rests did hears) =
     let no : Some (begun 0 begin nothing) ≡ None = (hears 0 nothing refl).1 in cc
 
@@ -324,7 +352,9 @@ once_idle f seat c begin v t stand (out why cut w ending told last ended_so shut
 
 pub began_idle : (f : View) (seat : ℕ) (asked : Option Command) (begin : ℕ) (v t : View) → Lined f seat asked (answer.Began begin) v t → (v.session seat).stand ≡ world.idle
 began_idle f seat asked begin v t (quiet did keeps) = quieted_idle asked begin (v.session seat) (t.session seat) did
-began_idle f seat asked begin v t (sealed_first stamp between active is did rests) =
+began_idle f seat asked begin v t (sealed_first stamp between active plain is did rests) =
     let no : world.sealed (work_at v seat) stamp ≡ world.idle = ap (λ (s : Session). s.stand) (sym is) ∙ quieted_idle asked begin between (t.session seat) did in cc
+began_idle f seat asked begin v t (marked_first x stamp between stand is did rests) =
+    let no : world.sealed (world.marking x) stamp ≡ world.idle = ap (λ (s : Session). s.stand) (sym is) ∙ quieted_idle asked begin between (t.session seat) did in cc
 began_idle f seat asked begin v t (named c k is names active did) = once_idle f seat c begin did.at t (v.session seat).stand (once_of f seat c did.at t (answer.Began begin) did.once)
 began_idle f seat asked begin v t (at_savepoint c u is none active passes did hears) = let no : Some (begun 0 begin nothing) ≡ None = ap (λ (p : Progress). p.current) (hears 0 None nothing) in cc

@@ -65,11 +65,15 @@ begin_at f seat c a v t begin fits did e =
 decided_drawn : (seat : ℕ) (a : Answer) (v t : View) (stamp : ℕ) → DidDecideBeside seat a v t → stamp_drawn (Some command.Commit) a ≡ Some stamp → HasDrawn (t.session seat) stamp
 decided_drawn seat (answer.Committed at succ pred) v t stamp (r, at_is, after, before, (u, passes, (w, own, stand, settled))) e =
     let g : Finished = record { work = w; fate = world.commits own r.succ r.pred } in
-    let is : own ≡ stamp = sym settled.2 ∙ at_is ∙ the_number at stamp e in
+    let is : own ≡ stamp = sym settled.3 ∙ at_is ∙ the_number at stamp e in
     inl (g, subst (λ (fs : List Finished). g ∈ fs) (sym (ap (λ (s : Session). s.over) settled.0.own)) (∈-last (u.session seat).over g), ap (λ (n : ℕ). Some n) is)
 decided_drawn seat (answer.Excluded at succ pred) v t stamp (u, passes, (w, own, stand, settled)) e =
     let g : Finished = record { work = w; fate = world.excluded own succ pred } in
-    let is : own ≡ stamp = sym settled.1 ∙ the_number at stamp e in
+    let is : own ≡ stamp = sym settled.2 ∙ the_number at stamp e in
+    inl (g, subst (λ (fs : List Finished). g ∈ fs) (sym (ap (λ (s : Session). s.over) settled.0.own)) (∈-last (u.session seat).over g), ap (λ (n : ℕ). Some n) is)
+decided_drawn seat (answer.Marked safe at) v t stamp (u, passes, (w, own, stand, settled)) e =
+    let g : Finished = record { work = w; fate = world.marked own w.begin } in
+    let is : own ≡ stamp = sym settled.2 ∙ the_number at stamp e in
     inl (g, subst (λ (fs : List Finished). g ∈ fs) (sym (ap (λ (s : Session). s.over) settled.0.own)) (∈-last (u.session seat).over g), ap (λ (n : ℕ). Some n) is)
 decided_drawn seat a v t stamp did e = absurd did
 
@@ -81,25 +85,35 @@ command_drawn f seat command.Commit a v t stamp fits did e = decided_drawn seat 
 command_drawn f seat c (answer.Sealed own) v t stamp fits did e = absurd fits
 command_drawn f seat c a v t stamp fits did e = cc
 
--- no line of a snapshot draws one
-watched_draws : (f : View) (seat : ℕ) (c : Command) (a : Answer) (v t : View) → DidOfSnapshotBeside f seat c a v t → stamp_drawn (Some c) a ≡ None
-watched_draws f seat command.Safe (answer.Safe stamp) v t did = refl
-watched_draws f seat command.Safe (answer.Unsafe other stamp) v t did = refl
-watched_draws f seat command.Safe a v t did = absurd did
-watched_draws f seat (command.Get table key) (answer.Replied r) v t did = refl
-watched_draws f seat (command.Next table from) (answer.Replied r) v t did = refl
-watched_draws f seat (command.Scan table low high) (answer.Replied r) v t did = refl
-watched_draws f seat command.Commit answer.Ended v t did = refl
-watched_draws f seat command.Abort answer.Aborted v t did = refl
-watched_draws f seat command.Durable (answer.Durable stamp) v t did = refl
-watched_draws f seat command.Durable answer.NoReceipt v t did = refl
-watched_draws f seat c a v t did = absurd did
+-- no line of a snapshot draws one but a mark
+watched_draws : (f : View) (seat : ℕ) (c : Command) (a : Answer) (v t : View) → (c ≡ command.Mark → ⊥) → DidOfSnapshotBeside f seat c a v t → stamp_drawn (Some c) a ≡ None
+watched_draws f seat command.Mark a v t other did = absurd (other refl)
+watched_draws f seat command.Safe (answer.Safe stamp) v t other did = refl
+watched_draws f seat command.Safe (answer.Unsafe own stamp) v t other did = refl
+watched_draws f seat command.Safe a v t other did = absurd did
+watched_draws f seat (command.Get table key) (answer.Replied r) v t other did = refl
+watched_draws f seat (command.Next table from) (answer.Replied r) v t other did = refl
+watched_draws f seat (command.Scan table low high) (answer.Replied r) v t other did = refl
+watched_draws f seat command.Commit answer.Ended v t other did = refl
+watched_draws f seat command.Abort answer.Aborted v t other did = refl
+watched_draws f seat command.Durable (answer.Durable stamp) v t other did = refl
+watched_draws f seat command.Durable answer.NoReceipt v t other did = refl
+watched_draws f seat c a v t other did = absurd did
+
+mark_draws : (a : Answer) (stamp : ℕ) → stamp_drawn (Some command.Mark) a ≡ Some stamp → stamp_drawn (Some command.Commit) a ≡ Some stamp
+mark_draws a stamp e = e
+
+watched_drawn : (f : View) (seat : ℕ) (c : Command) (a : Answer) (v t : View) (stamp : ℕ) → DidOfSnapshotBeside f seat c a v t → stamp_drawn (Some c) a ≡ Some stamp → HasDrawn (t.session seat) stamp
+watched_drawn f seat command.Mark a v t stamp did e = decided_drawn seat a did.between t stamp did.decided (mark_draws a stamp e)
+watched_drawn f seat c a v t stamp did e =
+    let other : c ≡ command.Mark → ⊥ = λ marks. cc in
+    let no : None ≡ Some stamp = sym (watched_draws f seat c a v t other did) ∙ e in absurd (cc)
 
 drawn_at : (f : View) (seat : ℕ) (c : Command) (a : Answer) (v t : View) (stamp : ℕ) → IsAnswerTo c a → DidInBeside (phase_at v seat) f seat c a v t → stamp_drawn (Some c) a ≡ Some stamp
     → HasDrawn (t.session seat) stamp
 drawn_at f seat c a v t stamp fits did e =
     in_phase (HasDrawn (t.session seat) stamp) f seat c a v t (λ plain done. command_drawn f seat c a v t stamp fits done e)
-    (λ has done. let no : None ≡ Some stamp = sym (watched_draws f seat c a v t done) ∙ e in absurd (cc)) did
+    (λ has done. watched_drawn f seat c a v t stamp done e) did
 
 -- and has still, later
 continues_drawn : (s t : Session) (stamp : ℕ) → Continues s t → HasDrawn s stamp → HasDrawn t stamp

@@ -35,7 +35,7 @@ use Rattle.erm_lines.specs.Told.{TellsEnded, TellsNow, TellsOne, TellsOver, Tell
 use Rattle.erm_lines.proofs.Keeping.{NoneRuns}
 use Rattle.erm_beside.specs.Calls.{After, RefusedBeside}
 use Rattle.erm_beside.specs.Ends.{MetBeside, WasNewer, WasOwned}
-use Rattle.erm_lines_at_once.specs.Answers.{DidAskedBeside, DidCommandBeside, DidLineBeside, DidOfSnapshotBeside}
+use Rattle.erm_lines_at_once.specs.Answers.{DidAskedBeside, DidCommandBeside, DidLineBeside, DidOfSnapshotBeside, DidDecideBeside}
 use Rattle.erm_lines_at_once.specs.Operations.{DidOnce, DidOperationBeside, WereCutBeside, told_at_once}
 use Rattle.erm_lines_at_once.specs.Parts.{IsRunInPart}
 use Rattle.erm_lines_at_once.proofs.Watched.{in_phase}
@@ -64,6 +64,7 @@ use Rattle.erm_causes_at_once.proofs.Operation.{kept_cut, now, out_fine, out_tou
 use Rattle.erm_causes_at_once.proofs.Touched.{commits_told, given_told, keep_all, line_free, session_first, session_last, table, tabled, told, told_there, touches_all}
 use Rattle.erm_causes_at_once.proofs.Walked.{FreeAt, TellsGiven, told_work}
 use Rattle.erm_told_limits.proofs.Given.{HistoryLaws}
+use Rattle.erm_model.specs.declared.history.VersionWritten.{VersionWritten}
 
 -- the answers that tell of a call's refusal
 abbrev pub IsStop : Answer → Type 0
@@ -102,6 +103,13 @@ operates f seat (command.Scan n low high) a k v t named did = did
 operates f seat (command.Tidy n key) a k v t named did = did
 operates f seat c a k v t named did = let no : None ≡ Some k = named in cc
 
+-- a decision tells of no call's refusal
+never_decided : (seat : ℕ) (a : Answer) (v t : View) → IsStop a → DidDecideBeside seat a v t → ⊥
+never_decided seat (answer.Committed stamp succ pred) v t stopping did = stopping
+never_decided seat (answer.Excluded stamp succ pred) v t stopping did = stopping
+never_decided seat (answer.Marked safe stamp) v t stopping did = stopping
+never_decided seat a v t stopping did = did
+
 -- no call of a snapshot is refused
 never_stopped : (f : View) (seat : ℕ) (c : Command) (a : Answer) (v t : View) → IsStop a → DidOfSnapshotBeside f seat c a v t → ⊥
 never_stopped f seat command.Safe (answer.Safe stamp) v t stopping did = absurd stopping
@@ -110,6 +118,7 @@ never_stopped f seat command.Safe a v t stopping did = absurd did
 never_stopped f seat (command.Get table key) (answer.Replied r) v t stopping did = absurd stopping
 never_stopped f seat (command.Next table from) (answer.Replied r) v t stopping did = absurd stopping
 never_stopped f seat (command.Scan table low high) (answer.Replied r) v t stopping did = absurd stopping
+never_stopped f seat command.Mark a v t stopping did = never_decided seat a did.between t stopping did.decided
 never_stopped f seat command.Commit answer.Ended v t stopping did = absurd stopping
 never_stopped f seat command.Abort answer.Aborted v t stopping did = absurd stopping
 never_stopped f seat command.Durable (answer.Durable stamp) v t stopping did = absurd stopping
@@ -216,21 +225,23 @@ never_over : (m : Moment) (t : Transaction) → m.mode ≡ AtOnce → WasOver m 
 never_over m t mode in_turn = let no : AtOnce ≡ InTurn = sym mode ∙ in_turn in cc
 
 -- what is told of the transaction in progress, which has claimed an object
-bare_claims : (number begin oid : ℕ) (w : Work) (P : Type 0) → world.begun number begin ≡ w → is_claimed w.claims oid ≡ true → P
-bare_claims number begin oid w P is claimed = let no : false ≡ true = ap (λ (x : Work). is_claimed x.claims oid) is ∙ claimed in absurd (cc)
+bare_claims : (u w : Work) (oid : ℕ) (P : Type 0) → u.claims ≡ [] → u ≡ w → is_claimed w.claims oid ≡ true → P
+bare_claims u w oid P none is claimed =
+    let no : false ≡ true = ap (λ (claims : List VersionWritten). is_claimed claims oid) (sym none) ∙ ap (λ (x : Work). is_claimed x.claims oid) is ∙ claimed in absurd (cc)
 
 now_told : (seat : ℕ) (colour : ℕ → ℕ) (current : Option Transaction) (stand : Stand) (w : Work) (oid : ℕ) → TellsNow seat current stand → TouchesNow colour current stand → IsCurrent stand w
     → is_claimed w.claims oid ≡ true → (t : Transaction) × (current ≡ Some t) × TellsWork seat t w × Touches colour t w
 now_told seat colour None world.idle w oid tells touched at claimed = absurd at
 now_told seat colour None (world.active u) w oid tells touched at claimed = absurd tells
-now_told seat colour None (world.sealed u stamp) w oid tells touched at claimed = absurd tells
+now_told seat colour None (world.sealed u stamp) w oid tells touched at claimed =
+    bare_claims u w oid ((t : Transaction) × (None ≡ Some t) × TellsWork seat t w × Touches colour t w) (ap (λ (x : Work). x.claims) touched) at claimed
 now_told seat colour (Some t) world.idle w oid tells touched at claimed = absurd tells
 now_told seat colour (Some t) (world.active u) w oid tells touched at claimed =
     (t, refl, subst (λ (x : Work). TellsWork seat t x) at tells.0.work, subst (λ (x : Work). Touches colour t x) at touched)
 now_told seat colour (Some t) (world.sealed u stamp) w oid tells touched at claimed =
     (t, refl, subst (λ (x : Work). TellsWork seat t x) at tells.0.work, subst (λ (x : Work). Touches colour t x) at touched)
 now_told seat colour None (world.snapshot s) w oid tells touched at claimed =
-    bare_claims s.number s.begin oid w ((t : Transaction) × (None ≡ Some t) × TellsWork seat t w × Touches colour t w) at claimed
+    bare_claims (world.begun s.number s.begin) w oid ((t : Transaction) × (None ≡ Some t) × TellsWork seat t w × Touches colour t w) refl at claimed
 now_told seat colour (Some t) (world.snapshot s) w oid tells touched at claimed = absurd tells
 
 -- one of a session's own is one of all
@@ -340,7 +351,7 @@ module _ (tree : TreeLaws) (laws : HistoryLaws) (begun : NoneRuns)
         owner_is m c k oid other number mode same named is owned.another found.0 (over_in found.0 found.1) tells.session (tells.number ∙ owned.number_is)
         ((subst (λ (w : Work). Touches colour found.0 w) work_is found.2.so_is.touches).claims oid claimed))
         (λ (bare : (s : Snapshot) × TellsEnded s g).
-        bare_claims g.work.number g.work.begin oid owned.work (IsOwnedBy m c other number) (sym bare.1.bare ∙ work_is) claimed)
+        bare_claims g.work owned.work oid (IsOwnedBy m c other number) (ap (λ (x : Work). x.claims) bare.1.bare) work_is claimed)
         (told_or_ended other (TouchesOne colour (history_of f)) theirs.over theirs.snapshots (f.session other).over g over touched numbered within)
     claimed_told claimed (inr now_is) =
         let (t, current, tells, touches) = now_told other colour theirs.current (f.session other).stand owned.work oid

@@ -22,7 +22,7 @@ use Rattle.erm_safe_laws.specs.Safe.{IsReading}
 use Rattle.erm_world.specs.Going.{Extends}
 use Rattle.erm_world.specs.Laws.{IsSerializable}
 use Rattle.erm_world.specs.Safe.{IsSafeIn}
-use Rattle.erm_world.specs.World.{Has, IsSession, Session, Stand, View, Work, history_of, phase_at, phase_of, work_at, work_of}
+use Rattle.erm_world.specs.World.{IsSession, Session, Stand, View, Work, history_of, phase_at, phase_of, work_at, work_of}
 use Rattle.erm_world.specs.World as world
 use Rattle.erm_maps.specs.Runs.{IsAnswered}
 use Rattle.erm_good_report.specs.Phases.{Closes, HasNoSnapshot, IsAnswerTo, refusal_of}
@@ -32,11 +32,11 @@ use Rattle.erm_lines.specs.Executions.{Move, close, flush, line, log, said_in}
 use Rattle.erm_lines.specs.Told.{Tells, TellsWatched}
 use Rattle.erm_lines.proofs.Watched.{pending_where, snapshot_there}
 use Rattle.erm_lines.proofs.Keeping.{NoneRuns}
-use Rattle.erm_lines_at_once.specs.Answers.{DidAskedBeside, DidEndBeside, DidInBeside, DidLineBeside, DidOfSnapshotBeside}
+use Rattle.erm_lines_at_once.specs.Answers.{DidAskedBeside, DidEndBeside, DidInBeside, DidLineBeside, DidOfSnapshotBeside, DidCommandBeside}
 use Rattle.erm_lines_at_once.specs.Executions.{DidOwn, IsOwnRun}
 use Rattle.erm_lines_at_once.specs.Looks.{DidLookBeside}
 use Rattle.erm_lines_at_once.proofs.Watched.{in_phase}
-use Rattle.erm_told.specs.Snapshots.{IsKeptSafe}
+use Rattle.erm_told.specs.Snapshots.{IsKeptSafe, HasNumbered}
 use Rattle.erm_told.proofs.Comes.{Comes, IsPlain, back_none, hears_comes, looks_with, replied_none, saved_none}
 use Rattle.erm_told.proofs.Executed.{Knows, hears, turns}
 use Rattle.erm_told.proofs.Keeping.{kept_like, kept_new, kept_with}
@@ -60,17 +60,33 @@ the_op a b is = cc
 none_is : (o : Option ℕ) (n : ℕ) (P : Type 0) → o ≡ None → o ≡ Some n → P
 none_is o n P none some = let no : None ≡ Some n = sym none ∙ some in absurd (cc)
 
--- WHERE a session has none
-none_at : (o : Option Snapshot) (stand : Stand) → HasNoSnapshot (phase_of stand) → TellsWatched o stand → o ≡ None
-none_at None stand plain told = refl
-none_at (Some s) world.idle plain told = absurd told
-none_at (Some s) (world.active w) plain told = absurd told
-none_at (Some s) (world.sealed w stamp) plain told = absurd told
-none_at (Some s) (world.snapshot x) plain told = absurd (has x.is_safe plain)
+-- WHERE a session has none, nor a mark that waits
+none_at : (o : Option Snapshot) (stand : Stand) → HasNoSnapshot (phase_of stand) → (phase_of stand ≡ phase.Sealed → ⊥) → TellsWatched o stand → o ≡ None
+none_at None stand plain unsealed told = refl
+none_at (Some s) world.idle plain unsealed told = absurd told
+none_at (Some s) (world.active w) plain unsealed told = absurd told
+none_at (Some s) (world.sealed w stamp) plain unsealed told = absurd (unsealed refl)
+none_at (Some s) (world.snapshot x) plain unsealed told = absurd (has x.is_safe plain)
   where
     has : (b : Bool) → HasNoSnapshot (if b then phase.Safe else phase.Pending) → ⊥
     has true plain = plain
     has false plain = plain
+
+-- what a sealed session is asked tells neither that a snapshot is safe, nor a reply, nor a savepoint
+never_sealed : (f : View) (seat : ℕ) (c : Command) (a : Answer) (v t : View) → (IsPlain a → ⊥) → refusal_of phase.Sealed c ≡ None → DidCommandBeside f seat c a v t → ⊥
+never_sealed f seat command.Settle (answer.Safe begin) v t told free did = did
+never_sealed f seat command.Settle (answer.Replied r) v t told free did = did
+never_sealed f seat command.Settle (answer.Saved held) v t told free did = did
+never_sealed f seat command.Settle (answer.Back n) v t told free did = did
+never_sealed f seat command.Settle a v t told free did = told tt
+never_sealed f seat command.Durable (answer.Safe begin) v t told free did = did
+never_sealed f seat command.Durable (answer.Replied r) v t told free did = did
+never_sealed f seat command.Durable (answer.Saved held) v t told free did = did
+never_sealed f seat command.Durable (answer.Back n) v t told free did = did
+never_sealed f seat command.Durable a v t told free did = told tt
+never_sealed f seat command.Flush a v t told free did = did
+never_sealed f seat command.Checkpoint a v t told free did = did
+never_sealed f seat c a v t told free did = absurd (cc)
 
 -- one that isn't known to be safe tells no begin stamp
 untold : (o : Option ℕ) → is_some o ≡ false → o ≡ None
@@ -177,6 +193,7 @@ module _ (f : View) where
     looked (command.Scan table low high) r t free did =
         keeps_look (command.Scan table low high) r t did (subst IsReading (the_op (Scan table low high) did.op did.asked) tt)
         (is_safe_for (command.Scan table low high) x.is_safe refl (free_at (command.Scan table low high) free))
+    looked command.Mark r t free did = absurd did.decided
     looked c r t free did = absurd did
 
   -- A LINE of the session
@@ -193,7 +210,7 @@ module _ (f : View) where
       in_phase (Keeps (heard seat (Some l.command) (answer.Safe begin) p)) f seat command.Safe (answer.Safe begin) v t
       (λ plain began.
       keeps_told p begin keeps
-      (λ s is. absurd (let no : None ≡ Some s = sym (none_at p.snapshot (v.session seat).stand plain tells.watched) ∙ is in cc)) began.asked.2)
+      (λ s is. absurd (let no : None ≡ Some s = sym (none_at p.snapshot (v.session seat).stand plain (λ sealed. let no = ap (λ (ph : Phase). refusal_of ph command.Safe) (sym sealed) ∙ free in cc) tells.watched) ∙ is in cc)) began.asked.2)
       (λ has asked.
       let pending = pending_in (v.session seat).stand (pending_where (phase_at v seat) command.Safe has free refl) in
       let own = watching p.snapshot pending.own (subst (λ (at : Stand). TellsWatched p.snapshot at) pending.is tells.watched) in
@@ -210,17 +227,19 @@ module _ (f : View) where
       let fits = answers_so (phase_at v seat) l.command (answer.Replied r) refl did.fits in
       in_phase (Keeps (heard seat (Some l.command) (answer.Replied r) p)) f seat l.command (answer.Replied r) v t
       (λ plain done.
-      keeps_comes p (heard seat (Some l.command) (answer.Replied r) p) (replied_none seat (Some l.command) r p (none_at p.snapshot (v.session seat).stand plain tells.watched)) keeps)
+      keeps_comes p (heard seat (Some l.command) (answer.Replied r) p) (replied_none seat (Some l.command) r p (none_at p.snapshot (v.session seat).stand plain (λ sealed. never_sealed f seat l.command (answer.Replied r) v t (λ no. no) (subst (λ (ph : Phase). refusal_of ph l.command ≡ None) sealed fits.0) done) tells.watched)) keeps)
       (λ is_there done. let has = snapshot_there v seat is_there in looked v seat p has.0 has.1 tells keeps l.command r t fits.0 done)
       (did_in v t l (answer.Replied r) did fits.0)
 
   -- a savepoint is none of a snapshot's
   never_saved : (seat held : ℕ) (c : Command) (v t : View) → DidOfSnapshotBeside f seat c (answer.Saved held) v t → ⊥
   never_saved seat held command.Safe v t did = did
+  never_saved seat held command.Mark v t did = did.decided
   never_saved seat held c v t did = did
 
   never_back : (seat n : ℕ) (c : Command) (v t : View) → DidOfSnapshotBeside f seat c (answer.Back n) v t → ⊥
   never_back seat n command.Safe v t did = did
+  never_back seat n command.Mark v t did = did.decided
   never_back seat n c v t did = did
 
   saved_line : (v t : View) (l : ScriptLine) (held : ℕ) (p : Progress) → DidLineBeside f l (answer.Saved held) v t → Tells l.session p (v.session l.session) → Keeps p
@@ -230,7 +249,7 @@ module _ (f : View) where
       let fits = answers_so (phase_at v seat) l.command (answer.Saved held) refl did.fits in
       in_phase (Keeps (heard seat (Some l.command) (answer.Saved held) p)) f seat l.command (answer.Saved held) v t
       (λ plain done.
-      keeps_comes p (heard seat (Some l.command) (answer.Saved held) p) (saved_none seat (Some l.command) held p (none_at p.snapshot (v.session seat).stand plain tells.watched)) keeps)
+      keeps_comes p (heard seat (Some l.command) (answer.Saved held) p) (saved_none seat (Some l.command) held p (none_at p.snapshot (v.session seat).stand plain (λ sealed. never_sealed f seat l.command (answer.Saved held) v t (λ no. no) (subst (λ (ph : Phase). refusal_of ph l.command ≡ None) sealed fits.0) done) tells.watched)) keeps)
       (λ is_there done. absurd (never_saved seat held l.command v t done)) (did_in v t l (answer.Saved held) did fits.0)
 
   back_line : (v t : View) (l : ScriptLine) (n : ℕ) (p : Progress) → DidLineBeside f l (answer.Back n) v t → Tells l.session p (v.session l.session) → Keeps p
@@ -240,7 +259,7 @@ module _ (f : View) where
       let fits = answers_so (phase_at v seat) l.command (answer.Back n) refl did.fits in
       in_phase (Keeps (heard seat (Some l.command) (answer.Back n) p)) f seat l.command (answer.Back n) v t
       (λ plain done.
-      keeps_comes p (heard seat (Some l.command) (answer.Back n) p) (back_none seat (Some l.command) n p (none_at p.snapshot (v.session seat).stand plain tells.watched)) keeps)
+      keeps_comes p (heard seat (Some l.command) (answer.Back n) p) (back_none seat (Some l.command) n p (none_at p.snapshot (v.session seat).stand plain (λ sealed. never_sealed f seat l.command (answer.Back n) v t (λ no. no) (subst (λ (ph : Phase). refusal_of ph l.command ≡ None) sealed fits.0) done) tells.watched)) keeps)
       (λ is_there done. absurd (never_back seat n l.command v t done)) (did_in v t l (answer.Back n) did fits.0)
 
   own_line : (v t : View) (l : ScriptLine) (a : Answer) (p : Progress) → DidLineBeside f l a v t → Tells l.session p (v.session l.session) → Keeps p → Keeps (heard l.session (Some l.command) a p)
@@ -329,8 +348,8 @@ told_as o begin other is told = subst (λ (x : Option ℕ). IfSome x (λ stamp. 
 module _ (runs : NoneRuns) (stay : (w u : Work) (steps : List Step) → Extends w u → IsAnswered w steps → IsAnswered u steps)
     (f u last : View) (seat : ℕ) (lawful : IsSerializable sound_law f) (session : IsSession f seat) (more : List Move) (run : IsOwnRun f seat u more last) (ends : last.session seat ≡ f.session seat)
     (p : Progress) (tells : Tells seat p (u.session seat)) where
-  has_above : (w : Work) (begin : ℕ) → Has f seat w → begin ≡ w.begin → 0 < begin
-  has_above w begin has same = let above = (lawful.begins seat w session has).0 in omega (arith, lawful.opened, above, same)
+  has_above : (w : Work) (begin : ℕ) → HasNumbered f seat w.number w.begin → begin ≡ w.begin → 0 < begin
+  has_above w begin (u, has, number, begins) same = let above = (lawful.begins seat u session has).0 in omega (arith, lawful.opened, above, begins, same)
 
   lasts_above : (w : Work) (begin : ℕ) → Lasts w (u.session seat) → begin ≡ w.begin → 0 < begin
   lasts_above w begin lasts same = has_above w begin (has_last f last seat w ends (lasts_own runs stay f seat w more u last run lasts)) same
@@ -338,7 +357,7 @@ module _ (runs : NoneRuns) (stay : (w u : Work) (steps : List Step) → Extends 
   over_above : (s : Snapshot) (begin : ℕ) → s ∈ p.snapshots → s.begin ≡ Some begin → 0 < begin
   over_above s begin m is =
       let found = ended_at seat p.over p.snapshots (u.session seat).over s tells.over m in
-      lasts_above found.0.work begin (lasting.over (found.0, found.1, refl)) (told_as s.begin begin found.0.work.begin is found.2.snapshot.begin_is)
+      lasts_above found.0.work begin (lasting.over found.0.work (found.0, found.1, refl) refl refl) (told_as s.begin begin found.0.work.begin is found.2.snapshot.begin_is)
 
   now_above : (s : Snapshot) (begin : ℕ) → p.snapshot ≡ Some s → s.begin ≡ Some begin → 0 < begin
   now_above s begin at is = from (u.session seat).stand refl (subst (λ (o : Option Snapshot). TellsWatched o (u.session seat).stand) at tells.watched)
@@ -346,7 +365,8 @@ module _ (runs : NoneRuns) (stay : (w u : Work) (steps : List Step) → Extends 
       from : (stand : Stand) → (u.session seat).stand ≡ stand → TellsWatched (Some s) stand → 0 < begin
       from world.idle stood told = absurd told
       from (world.active w) stood told = absurd told
-      from (world.sealed w stamp) stood told = absurd told
+      from (world.sealed w stamp) stood told =
+          lasts_above w begin (lasting.sealed w stamp stood refl refl) (told_as s.begin begin w.begin is told.snapshot.begin_is)
       from (world.snapshot x) stood told =
           lasts_above (world.begun x.number x.begin) begin (lasting.still x stood refl) (told_as s.begin begin x.begin is told.snapshot.begin_is)
 

@@ -10,7 +10,7 @@ use Rattle.erm_world.specs.World.{Session, Stand, View, Work, begun, work_of}
 use Rattle.erm_world.specs.World as world
 use Rattle.erm_good_report.specs.Stamps.{begin_told}
 use Rattle.erm_beside.specs.Calls.{Passes}
-use Rattle.erm_lines_at_once.specs.Answers.{DidAskSafeBeside, DidBeginAndAskBeside, DidOfSnapshotBeside}
+use Rattle.erm_lines_at_once.specs.Answers.{DidAskSafeBeside, DidBeginAndAskBeside, DidOfSnapshotBeside, DidDecideBeside}
 
 -- the session has no transaction: it is idle, or has a snapshot
 abbrev pub HasNoWork : Stand → Type 0
@@ -56,17 +56,18 @@ starts_watches f seat a v t did =
     (begun_watches (u.session seat) (did.between.session seat) (t.session seat) x began.2.own
     (asked_watches f seat a did.between t (x, ap (λ (s : Session). s.stand) began.2.own) did.asked))
 
--- A LINE of a session that has one
-pub line_watches : (f : View) (seat : ℕ) (c : Command) (a : Answer) (v t : View) → HasSnapshot v seat → DidOfSnapshotBeside f seat c a v t → Watches (v.session seat) (t.session seat)
-line_watches f seat command.Safe a v t has did = asked_watches f seat a v t has did
-line_watches f seat (command.Get table key) (answer.Replied r) v t has did = looks did.passes.own
-line_watches f seat (command.Next table from) (answer.Replied r) v t has did = looks did.passes.own
-line_watches f seat (command.Scan table low high) (answer.Replied r) v t has did = looks did.passes.own
-line_watches f seat command.Commit answer.Ended v t has (u, passes, did) = ended_bare v u t seat has passes did
-line_watches f seat command.Abort answer.Aborted v t has (u, passes, did) = ended_bare v u t seat has passes did
-line_watches f seat command.Durable (answer.Durable stamp) v t has (u, passes, did) = looks (ap (λ (x : View). x.session seat) did.0 ∙ passes.own)
-line_watches f seat command.Durable answer.NoReceipt v t has (u, passes, did) = looks (ap (λ (x : View). x.session seat) did.0 ∙ passes.own)
-line_watches f seat c a v t has did = absurd did
+-- A LINE of a session that has one, but for its mark
+pub line_watches : (f : View) (seat : ℕ) (c : Command) (a : Answer) (v t : View) → HasSnapshot v seat → (c ≡ command.Mark → ⊥) → DidOfSnapshotBeside f seat c a v t → Watches (v.session seat) (t.session seat)
+line_watches f seat command.Safe a v t has other did = asked_watches f seat a v t has did
+line_watches f seat (command.Get table key) (answer.Replied r) v t has other did = looks did.passes.own
+line_watches f seat (command.Next table from) (answer.Replied r) v t has other did = looks did.passes.own
+line_watches f seat (command.Scan table low high) (answer.Replied r) v t has other did = looks did.passes.own
+line_watches f seat command.Commit answer.Ended v t has other (u, passes, did) = ended_bare v u t seat has passes did
+line_watches f seat command.Abort answer.Aborted v t has other (u, passes, did) = ended_bare v u t seat has passes did
+line_watches f seat command.Durable (answer.Durable stamp) v t has other (u, passes, did) = looks (ap (λ (x : View). x.session seat) did.0 ∙ passes.own)
+line_watches f seat command.Durable answer.NoReceipt v t has other (u, passes, did) = looks (ap (λ (x : View). x.session seat) did.0 ∙ passes.own)
+line_watches f seat command.Mark a v t has other did = absurd (other refl)
+line_watches f seat c a v t has other did = absurd did
 
 -- none of these begins a transaction
 asked_none : (f : View) (seat : ℕ) (a : Answer) (v t : View) → DidAskSafeBeside f seat a v t → begin_told a ≡ None
@@ -77,12 +78,19 @@ asked_none f seat a v t did = absurd did
 pub starts_none : (f : View) (seat : ℕ) (a : Answer) (v t : View) → DidBeginAndAskBeside f seat a v t → begin_told a ≡ None
 starts_none f seat a v t did = asked_none f seat a did.between t did.asked
 
+decided_none : (seat : ℕ) (a : Answer) (v t : View) → DidDecideBeside seat a v t → begin_told a ≡ None
+decided_none seat (answer.Committed stamp succ pred) v t did = refl
+decided_none seat (answer.Excluded stamp succ pred) v t did = refl
+decided_none seat (answer.Marked safe stamp) v t did = refl
+decided_none seat a v t did = absurd did
+
 pub line_none : (f : View) (seat : ℕ) (c : Command) (a : Answer) (v t : View) → DidOfSnapshotBeside f seat c a v t → begin_told a ≡ None
 line_none f seat command.Safe a v t did = asked_none f seat a v t did
 line_none f seat (command.Get table key) (answer.Replied r) v t did = refl
 line_none f seat (command.Next table from) (answer.Replied r) v t did = refl
 line_none f seat (command.Scan table low high) (answer.Replied r) v t did = refl
 line_none f seat command.Commit answer.Ended v t did = refl
+line_none f seat command.Mark a v t did = decided_none seat a did.between t did.decided
 line_none f seat command.Abort answer.Aborted v t did = refl
 line_none f seat command.Durable (answer.Durable stamp) v t did = refl
 line_none f seat command.Durable answer.NoReceipt v t did = refl

@@ -7,7 +7,7 @@ use Rattle.erm_report.specs.declared.answer.Answer.{Answer}
 use Rattle.erm_report.specs.declared.answer.Answer.TheVariants as answer
 use Rattle.erm_script.specs.declared.script.Command.{Command}
 use Rattle.erm_world.proofs.Lists.{∈-before, ∈-last}
-use Rattle.erm_good_report.specs.Transactions.{Aborts, Commits, Ending, Excludes, Exchange, Progress, Transaction, ended, goes_on, heard, own_snapshot, with_end, with_ending, with_line, with_seal}
+use Rattle.erm_good_report.specs.Transactions.{Aborts, Commits, Ending, Excludes, Exchange, Progress, Transaction, ended, goes_on, heard, own_snapshot, with_end, with_ending, with_line, with_seal, with_mark}
 
 -- it is over, or in progress
 abbrev pub IsToldIn : Progress → Transaction → Type 0
@@ -77,6 +77,7 @@ heard_still seat asked (answer.Began begin) p idle t (inr now) = let no : None �
 heard_still seat asked (answer.Safe begin) p idle t is = still_itself (heard seat asked (answer.Safe begin) p) t is
 heard_still seat asked (answer.Unsafe other stamp) p idle t is = ends_still Aborts (record p { snapshot = Some (own_snapshot p) }) t is
 heard_still seat asked answer.Ended p idle t is = ends_still Aborts (record p { snapshot = option_map with_end p.snapshot }) t is
+heard_still seat asked (answer.Marked safe stamp) p idle t is = ends_still Aborts (record p { snapshot = option_map (with_mark safe stamp) p.snapshot }) t is
 heard_still seat asked (answer.Sealed stamp) p idle t is = sealed_still stamp p t is
 heard_still seat asked (answer.Committed stamp succ pred) p idle t is = ends_still (Commits stamp succ pred) p t is
 heard_still seat asked (answer.Excluded stamp succ pred) p idle t is = ends_still (Excludes (Some stamp) succ pred) p t is

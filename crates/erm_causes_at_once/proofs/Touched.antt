@@ -25,12 +25,11 @@ use Rattle.erm_lines_at_once.specs.Parts.{IsRunInPart}
 use Rattle.erm_told.proofs.Executed.{still_session}
 use Rattle.erm_told.proofs.Going.{continues_itself}
 use Rattle.erm_told_at_once.proofs.Runs.{all_say, at_first, close_of, tells}
-use Rattle.erm_causes.specs.Touched.{IsClosedBy, Together, TouchesAll, TouchesNow, TouchesOver, WasClosed}
+use Rattle.erm_causes.specs.Touched.{IsClosedBy, Together, TouchesAll, TouchesNow, TouchesOver, WasClosed, IsUntold}
 use Rattle.erm_causes.proofs.Begun.{KeepBelow}
 use Rattle.erm_causes.proofs.Causes.{causes_of, commit_told}
 use Rattle.erm_causes.proofs.Beside.{ToldCommit}
 use Rattle.erm_causes.proofs.Coloured.{KeepsTables}
-use Rattle.erm_causes.proofs.Fine.{stampless}
 use Rattle.erm_causes.proofs.Own.{TreeLaws}
 use Rattle.erm_causes.proofs.Quiet.{closed_by_numbers}
 use Rattle.erm_causes.proofs.Runs.{lines_range}
@@ -40,6 +39,7 @@ use Rattle.erm_causes_at_once.proofs.Free.{FreeNow, FreeOne, FreeOver, IsFree}
 use Rattle.erm_causes_at_once.proofs.Tabled.{PartRight, TableAtOnce, table_at_once}
 use Rattle.erm_causes_at_once.proofs.Walked.{FreeAt, Stands, TellsGiven, free_at, run_stands}
 use Rattle.erm_told_limits.proofs.Given.{HistoryLaws}
+use Rattle.erm_causes.proofs.Fine.{untold_keeps}
 
 pub closes_range : (closed : List Closed) → AreMovesInRange (map close_of closed)
 closes_range [] = tt
@@ -50,7 +50,7 @@ over_keeps : (table : ℕ → ℕ) (f : View) (ts : List Transaction) (gs : List
     → KeepBelow table f g.work.begin → KeepsTables table g.work
 over_keeps table f ts gs g stamp free within is keep =
     ⊎_elim (λ (found : (t : Transaction) × (t ∈ ts) × FreeOne table f t g). found.2.keeps stamp is keep)
-    (λ (aborts : g.fate ≡ world.aborts). stampless g.fate stamp (KeepsTables table g.work) aborts is)
+    (λ (untold : IsUntold g). untold_keeps table g stamp untold is)
     (together_over (FreeOne table f) ts gs g free within)
 
 module _ (tree : TreeLaws) (laws : HistoryLaws) (begun : NoneRuns)
@@ -117,6 +117,7 @@ module _ (tree : TreeLaws) (laws : HistoryLaws) (begun : NoneRuns)
       → IsClosedBy (history_of f) g.work (Some stamp) succ pred
   closed_fate seat session g within stamp succ pred (world.commits s u p) is ends = absurd ends
   closed_fate seat session g within stamp succ pred world.aborts is ends = absurd ends
+  closed_fate seat session g within stamp succ pred (world.marked s safe) is ends = absurd ends
   closed_fate seat session g within stamp succ pred (world.excluded s u p) is ends =
       let there : record { work = g.work; fate = world.excluded s u p } ∈ (f.session seat).over =
       subst (λ (fate : Fate). record { work = g.work; fate = fate } ∈ (f.session seat).over) is within in
@@ -150,7 +151,7 @@ module _ (tree : TreeLaws) (laws : HistoryLaws) (begun : NoneRuns)
   touches_now : (current : Option Transaction) (saves : List (List VersionWritten)) (stand : Stand) → FreeNow table f current saves stand → TouchesNow table current stand
   touches_now None saves world.idle now = tt
   touches_now None saves (world.active w) now = absurd now
-  touches_now None saves (world.sealed w stamp) now = absurd now
+  touches_now None saves (world.sealed w stamp) now = now
   touches_now (Some t) saves world.idle now = absurd now
   touches_now (Some t) saves (world.active w) now = (now.fine (keep_all w.begin)).touches
   touches_now (Some t) saves (world.sealed w stamp) now = (now (keep_all w.begin)).0

@@ -31,7 +31,7 @@ use Rattle.erm_lines_at_once.specs.Executions.{DidOwn, IsOwnRun, is_own}
 use Rattle.erm_lines_at_once.specs.Operations.{DidOperationBeside}
 use Rattle.erm_told.proofs.Executed.{hears, told_same}
 use Rattle.erm_told.proofs.Going.{continues_then}
-use Rattle.erm_told.proofs.Sessions.{sealed_untold}
+use Rattle.erm_told.proofs.Sessions.{sealed_untold, now_watching}
 use Rattle.erm_told.proofs.Turns.{TellsAt}
 use Rattle.erm_told_at_once.proofs.Lines.{turns_end, turns_line}
 use Rattle.erm_told_at_once.proofs.Runs.{other_line, own_goes, own_line}
@@ -44,13 +44,14 @@ use Rattle.erm_causes.proofs.Own.{TreeLaws}
 use Rattle.erm_causes.proofs.Saved.{AtSavepoint, at_fine, back, refused, saved, saves_made, saves_of}
 use Rattle.erm_causes.proofs.Tables.{AreMovesInRange}
 use Rattle.erm_causes_at_once.proofs.Called.{operation_made}
-use Rattle.erm_causes_at_once.proofs.Free.{Going, IsFree, active_free, none_now, sealed_free, went_free}
+use Rattle.erm_causes_at_once.proofs.Free.{Going, IsFree, active_free, none_now, sealed_free, went_free, mark_free}
 use Rattle.erm_causes_at_once.proofs.GivenUp.{GaveUp, LeavesGiven, close_given, given_by, gives, leaves, line_given, tried_given}
 use Rattle.erm_causes_at_once.proofs.Operation.{claim_writes, kept_cut, now, operation_free}
-use Rattle.erm_causes_at_once.proofs.Quieted.{Lined, at_savepoint, began_idle, closed_keeps, closed_quiet, lined, named, pointed_at, quiet, quieted_free, quieted_made, rests_keep, sealed_first}
+use Rattle.erm_causes_at_once.proofs.Quieted.{Lined, at_savepoint, began_idle, closed_keeps, closed_quiet, lined, named, pointed_at, quiet, quieted_free, quieted_made, rests_keep, sealed_first, marked_first}
 use Rattle.erm_causes_at_once.proofs.Still.{IsToldIn, StillTold, heard_still}
 use Rattle.erm_told_limits.proofs.Given.{HistoryLaws}
 use Rattle.erm_told_limits.proofs.Ran.{active_with}
+use Rattle.erm_model.specs.Lawful.{times_made}
 
 -- a move of the session did this, and one of another nothing
 abbrev pub OwnDid : View → ℕ → ℕ → Option Command → Answer → View → View → Type 0
@@ -87,8 +88,11 @@ close_did f seat at a v t did = elim (cases_eq at seat) as (λ _. OwnDid f seat 
 -- WHAT IS MADE. No less than before.
 lined_made : (f : View) (seat : ℕ) (asked : Option Command) (a : Answer) (v t : View) → Lined f seat asked a v t → (x : ℕ) → made_in (v.session seat) x ≤ made_in (t.session seat) x
 lined_made f seat asked a v t (quiet did keeps) x = omega (arith, quieted_made asked a (v.session seat) (t.session seat) did x)
-lined_made f seat asked a v t (sealed_first stamp between active is did rests) x =
+lined_made f seat asked a v t (sealed_first stamp between active plain is did rests) x =
     omega (arith, quieted_made asked a between (t.session seat) did x, ap (λ (s : Session). made_in s x) is)
+lined_made f seat asked a v t (marked_first y stamp between stand is did rests) x =
+    let none : times_made (work_of (v.session seat).stand).made x ≡ 0 = ap (λ (at : Stand). times_made (work_of at).made x) stand in
+    omega (arith, quieted_made asked a between (t.session seat) did x, ap (λ (s : Session). made_in s x) is, none)
 lined_made f seat asked a v t (at_savepoint c u is none active passes did on_by) x =
     omega (arith, saves_made u t seat x (pointed_at c a u seat t did), ap (λ (s : Session). made_in s x) passes.own)
 lined_made f seat asked a v t (named c k is names active did) x = operation_made f seat c a v t active did x
@@ -190,12 +194,18 @@ module _ (tree : TreeLaws) (laws : HistoryLaws) (begun : NoneRuns)
       → IsFree table f p (v.saves seat) (v.session seat) → IsFree table f (heard seat asked a p) (t.saves seat) (t.session seat)
   lined_free asked a v t p tells (quiet did keeps) range right goes free =
       quieted_free begun table f seat asked a p (v.saves seat) (t.saves seat) (v.session seat) (t.session seat) tells keeps did free
-  lined_free asked a v t p tells (sealed_first stamp between active is did rests) range right goes free =
+  lined_free asked a v t p tells (sealed_first stamp between active plain is did rests) range right goes free =
       let stand = active_with (v.session seat).stand active in
-      let sealed = sealed_untold seat stamp p.current (work_at v seat) (subst (λ (at : Stand). TellsNow seat p.current at) stand tells) in
+      let sealed = sealed_untold seat stamp p.current (work_at v seat) plain (subst (λ (at : Stand). TellsNow seat p.current at) stand tells) in
       quieted_free begun table f seat asked a p (t.saves seat) (t.saves seat) between (t.session seat) (subst (λ (s : Session). TellsNow seat p.current s.stand) (sym is) sealed)
       (rests_keep (t.session seat).stand between.stand (t.saves seat) (t.saves seat) rests) did
       (subst (λ (s : Session). IsFree table f p (t.saves seat) s) (sym is) (sealed_free table f p (v.saves seat) (t.saves seat) (v.session seat) stamp active free))
+  lined_free asked a v t p tells (marked_first x stamp between stand is did rests) range right goes free =
+      let none = now_watching seat p.current x (subst (λ (at : Stand). TellsNow seat p.current at) stand tells) in
+      let sealed : TellsNow seat p.current (world.sealed (world.marking x) stamp) = subst (λ (o : Option Transaction). TellsNow seat o (world.sealed (world.marking x) stamp)) (sym none) refl in
+      quieted_free begun table f seat asked a p (t.saves seat) (t.saves seat) between (t.session seat) (subst (λ (s : Session). TellsNow seat p.current s.stand) (sym is) sealed)
+      (rests_keep (t.session seat).stand between.stand (t.saves seat) (t.saves seat) rests) did
+      (subst (λ (s : Session). IsFree table f p (t.saves seat) s) (sym is) (mark_free table f p (v.saves seat) (t.saves seat) (v.session seat) x stamp stand free))
   lined_free asked a v t p tells (at_savepoint c u is none active passes did on_by) range right goes free =
       let own : v.session seat ≡ u.session seat = sym passes.own in
       let here : IsFree table f p (u.saves seat) (u.session seat) =

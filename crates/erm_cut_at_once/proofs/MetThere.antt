@@ -222,6 +222,7 @@ module _ (f : View) (told : ℕ → Session) (drew : ℕ → ℕ) (stands : (sea
   of_snapshot seat (command.Get table key) (answer.Replied r) v t did = look_here seat (command.Get table key) r v t did
   of_snapshot seat (command.Next table from) (answer.Replied r) v t did = look_here seat (command.Next table from) r v t did
   of_snapshot seat (command.Scan table low high) (answer.Replied r) v t did = look_here seat (command.Scan table low high) r v t did
+  of_snapshot seat command.Mark a v t did = did
   of_snapshot seat command.Commit answer.Ended v t did = did
   of_snapshot seat command.Abort answer.Aborted v t did = did
   of_snapshot seat command.Durable (answer.Durable stamp) v t did = did

@@ -65,6 +65,8 @@ never_answered f seat c a v t waits did = absurd waits
 never_watched : (f : View) (seat : ℕ) (c : Command) (a : Answer) (v t : View) → IsWait a → DidOfSnapshotBeside f seat c a v t → ⊥
 never_watched f seat command.Safe (answer.WaitSeat other seen) v t waits did = did
 never_watched f seat command.Safe (answer.WaitRing flushed) v t waits did = did
+never_watched f seat command.Mark (answer.WaitSeat other seen) v t waits did = did.decided
+never_watched f seat command.Mark (answer.WaitRing flushed) v t waits did = did.decided
 never_watched f seat c (answer.WaitSeat other seen) v t waits did = absurd did
 never_watched f seat c (answer.WaitRing flushed) v t waits did = absurd did
 never_watched f seat c a v t waits did = absurd waits

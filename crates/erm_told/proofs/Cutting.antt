@@ -33,6 +33,7 @@ module _ (v t : View) (seat cells : ℕ) where
   watched : (c : Command) → DidOfSnapshot v seat c (answer.Cut cells) t → cells ≤ v.opening.cuts
   watched command.Safe did = absurd did
   watched command.Durable did = absurd did
+  watched command.Mark did = absurd did.decided
   watched c did = absurd did
 
   asked : (c : Command) (refusal : Option Answer) → refusal_of (phase_at v seat) c ≡ refusal → FitsRefusal refusal c (answer.Cut cells) → DidAsked refusal v seat c (answer.Cut cells) t

@@ -142,8 +142,8 @@ module _ (runs : NoneRuns) (stay : (w u : Work) (steps : List Step) → Extends 
   sealed_later v t moves seat w u stamp executed session stand number begin = (u, from ((go v t moves executed).2 seat session).sealed u stamp stand, number, begin)
     where
       from : IsStillSealed u stamp (t.session seat) → Has t seat u
-      from (inl still) = inr (subst (λ (at : Stand). IsCurrent at u) (sym still) refl)
-      from (inr (f, rest, front, over, is, stamped)) = inl (f, subst (λ (fs : List Finished). f ∈ fs) (sym over) (∈-second front (f ∷ rest) f (∈-head f rest)), is)
+      from (inl there) = inr (subst (λ (at : Stand). IsCurrent at u) (sym there) refl)
+      from (inr (f, rest, front, all, is, stamped)) = inl (f, subst (λ (fs : List Finished). f ∈ fs) (sym all) (∈-second front (f ∷ rest) f (∈-head f rest)), is)
 
   pub lasts_all : (moves : List Move) (v t : View) (seat : ℕ) (w : Work) → IsExecution v moves t → IsSession v seat → Lasts w (v.session seat) → HasNumbered t seat w.number w.begin
   lasts_all [] v t seat w is session (over u o number begin) = (u, inl (subst (λ (x : View). IsOver (x.session seat).over u) (sym is) o), number, begin)

@@ -197,6 +197,7 @@ module _ (laws : MovingLaws) where
     looked (command.Scan table low high) r t free did =
         keeps_look (command.Scan table low high) r t did (subst IsReading (the_op (Scan table low high) did.op did.asked) tt)
         (is_safe_for (command.Scan table low high) x.is_safe refl (sym (ap (λ (at : Stand). refusal_of (phase_of at) (command.Scan table low high)) stand) ∙ free))
+    looked command.Mark r t free did = absurd did.decided
     looked c r t free did = absurd did
 
   -- A LINE of the session
@@ -241,11 +242,13 @@ module _ (laws : MovingLaws) where
   no_saved : (v t : View) (seat held : ℕ) (c : Command) → DidOfSnapshot v seat c (answer.Saved held) t → ⊥
   no_saved v t seat held command.Safe did = did
   no_saved v t seat held command.Durable did = did
+  no_saved v t seat held command.Mark did = did.decided
   no_saved v t seat held c did = did
 
   no_back : (v t : View) (seat n : ℕ) (c : Command) → DidOfSnapshot v seat c (answer.Back n) t → ⊥
   no_back v t seat n command.Safe did = did
   no_back v t seat n command.Durable did = did
+  no_back v t seat n command.Mark did = did.decided
   no_back v t seat n c did = did
 
   unwatched_line : (v t : View) (l : ScriptLine) (a : Answer) (p : Progress) → DidLine v l a t → refusal_in a ≡ None → (IsPlain a → ⊥) → Tells l.session p (v.session l.session)

@@ -214,7 +214,7 @@ pub ended_told : (seat : ℕ) (ts : List Transaction) (current : Option Transact
 ended_told seat ts (Some t) f ss s x over told now tells none = absurd now
 ended_told seat ts None f ss s x over told now tells none =
     subst (λ (list : List Transaction). TellsOver seat list (ss ++ s ∷ []) (over ++ record { work = world.begun x.number x.begin; fate = world.aborts } ∷ [])) (sym (append-nil ts))
-    (one_ended seat ts ss over s (record { work = world.begun x.number x.begin; fate = world.aborts }) told (record { snapshot = tells; bare = ap (λ (o : Option (ℕ × ℕ)). record (world.begun x.number x.begin) { is_mark = is_some o }) (sym none); ended = ap fate_told (sym none); known = λ marks. absurd (let no : is_some None ≡ true = sym (ap (λ (o : Option (ℕ × ℕ)). is_some o) none) ∙ marks in cc) }))
+    (one_ended seat ts ss over s (record { work = world.begun x.number x.begin; fate = world.aborts }) told (record { snapshot = tells; bare = ap (λ (o : Option (ℕ × ℕ)). record (world.begun x.number x.begin) { is_mark = is_some o }) (sym none); ended = ap fate_told (sym none); known = λ marks. absurd (let no : false ≡ true = sym (ap (λ (o : Option (ℕ × ℕ)). is_some o) none) ∙ marks in cc) }))
 
 -- or with its mark
 pub marked_told : (seat : ℕ) (ts : List Transaction) (current : Option Transaction) (f : Transaction → Transaction) (ss : List Snapshot) (s : Snapshot) (w : Work) (stamp safe own : ℕ) (over : List Finished)

@@ -55,11 +55,13 @@ module _ (v : View) (seat : ℕ) (t : View) where
   never_ended : (tail : ℕ) (c : Command) → DidOfSnapshot v seat c (answer.LogEnd tail) t → ⊥
   never_ended tail command.Safe did = did
   never_ended tail command.Durable did = did
+  never_ended tail command.Mark did = did.decided
   never_ended tail c did = did
 
   never_numbers : (c : Command) → DidOfSnapshot v seat c answer.NumbersEnd t → ⊥
   never_numbers command.Safe did = did
   never_numbers command.Durable did = did
+  never_numbers command.Mark did = did.decided
   never_numbers c did = did
 
   log_told : (tail : ℕ) (c : Command) → IsAnswerTo c (answer.LogEnd tail) → DidIn (phase_at v seat) v seat c (answer.LogEnd tail) t → MayNotBegin v seat (begin.LogEnd tail) t

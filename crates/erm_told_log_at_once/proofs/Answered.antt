@@ -102,6 +102,7 @@ module _ (f : View) (seat cells : ℕ) (v t : View) where
   -- one with a snapshot tidies none
   none_watched : (c : Command) → DidOfSnapshotBeside f seat c (answer.Cut cells) v t → ⊥
   none_watched command.Safe did = did
+  none_watched command.Mark did = did.decided
   none_watched c did = did
 
   cut_by : (c : Command) → DidCommandBeside f seat c (answer.Cut cells) v t → cells ≤ v.opening.cuts
