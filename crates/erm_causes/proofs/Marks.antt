@@ -42,7 +42,7 @@ use Rattle.erm_causes.proofs.Logged.{flushed_there, least_at, mark_there, none_s
 use Rattle.erm_causes.proofs.Waits.{allowed}
 
 -- WHOSE an outcome is. What is sealed is decided as that: a mark waits for no session, and is marked.
-the_mark : (w : Work) → w ≡ record (world.begun w.number w.begin) { is_mark = true } → w.is_mark ≡ true
+pub the_mark : (w : Work) → w ≡ record (world.begun w.number w.begin) { is_mark = true } → w.is_mark ≡ true
 the_mark w bare = ap (λ (x : Work). x.is_mark) bare
 
 decided_none : (v t : View) (seat : ℕ) (a : Answer) → TellsWatched None (v.session seat).stand → DidDecide v seat a t → IsOfSealed None a
@@ -81,7 +81,7 @@ read_only (Some s) = tt
 the_refusal : (a b : Answer) → Some a ≡ Some b → a ≡ b
 the_refusal a b is = cc
 
-settle_refused : (p : Phase) (refusal : Answer) → refusal_of p command.Settle ≡ Some refusal → (o : Option Snapshot) → IsOfSealed o refusal
+pub settle_refused : (p : Phase) (refusal : Answer) → refusal_of p command.Settle ≡ Some refusal → (o : Option Snapshot) → IsOfSealed o refusal
 settle_refused Idle refusal is o = subst (λ (x : Answer). IsOfSealed o x) (the_refusal answer.NotSealed refusal is) (not_sealed o)
 settle_refused Active refusal is o = subst (λ (x : Answer). IsOfSealed o x) (the_refusal answer.NotSealed refusal is) (not_sealed o)
 settle_refused Sealed refusal is o = absurd (let no : None ≡ Some refusal = is in cc)
@@ -100,14 +100,14 @@ log_settles v t command.Settle a o did = absurd did
 log_settles v t c a o did = tt
 
 -- AN END of a session that is sealed.
-closes_of : (o : Option Snapshot) (a : Answer) → IsOfSealed o a → ClosesSealed o a
+pub closes_of : (o : Option Snapshot) (a : Answer) → IsOfSealed o a → ClosesSealed o a
 closes_of None (answer.Marked safe stamp) is = is
 closes_of None a is = tt
 closes_of (Some s) (answer.Committed stamp succ pred) is = is
 closes_of (Some s) (answer.Excluded stamp succ pred) is = is
 closes_of (Some s) a is = tt
 
-closes_aborted : (o : Option Snapshot) → ClosesSealed o answer.Aborted
+pub closes_aborted : (o : Option Snapshot) → ClosesSealed o answer.Aborted
 closes_aborted None = tt
 closes_aborted (Some s) = tt
 

@@ -5,6 +5,7 @@ pub mod Free
 pub mod GivenUp
 pub mod Held
 pub mod Line
+pub mod Marks
 pub mod Numbers
 pub mod Operation
 pub mod Ordered

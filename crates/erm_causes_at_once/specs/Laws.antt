@@ -9,9 +9,12 @@ use Rattle.erm_good_report.specs.Opening.{AtOnce, Opening}
 use Rattle.erm_good_report.specs.Refusals.{HasLogCause, HasRefusalCause, HasSaveCause, HasUnfilledCause, IsInReach, IsOwn, current_of, moment_at}
 use Rattle.erm_good_report.specs.Transactions.{Transaction, held_of}
 use Rattle.erm_causes.specs.Laws.{IsForOthers}
-use Rattle.erm_good_at_once.specs.CutReports.{moment_in}
+use Rattle.erm_good_at_once.specs.CutReports.{moment_in, MarksOweInPart}
 use Rattle.erm_lines_at_once.specs.Laws.{OfRunsAtOnce}
-use Rattle.erm_lines_at_once.specs.Parts.{OfRunsInPart}
+use Rattle.erm_lines_at_once.specs.Parts.{OfRunsInPart, IsRunInPart}
+use Rattle.erm_good_report.specs.Phases.{Closed}
+use Rattle.erm_world.specs.World.{IsSession, View}
+use Rattle.erm_lines.specs.Executions.{IsOpeningOf}
 
 -- each answer that needs no transaction has its cause: of the log's end, of a session's last commit, and of where the log is flushed
 abbrev pub TellsLog : Opening → List ScriptLine → List Answer → List Transaction → Type 0
@@ -75,3 +78,9 @@ RefusesForOthersIn opening whole part answers told = (i : ℕ) (l : ScriptLine) 
 
 abbrev pub RunsInPartRefuseForOthers : Type 0
 RunsInPartRefuseForOthers = OfRunsInPart (λ opening whole part answers told. RefusesForOthersIn opening whole part answers told)
+
+-- What such an execution owes of the marks of its safe snapshots, where all that are closed are sessions.
+abbrev pub RunsInPartMark : Type 0
+RunsInPartMark = (v f : View) (whole part : List ScriptLine) (answers : List Answer) (closed : List Closed) (opening : Opening)
+    → IsRunInPart v whole part answers closed f → ((c : Closed) → c ∈ closed → IsSession v c.session) → IsOpeningOf v opening
+    → MarksOweInPart opening v.opening.sessions whole part answers closed

@@ -139,7 +139,7 @@ module _ (runs : NoneRuns) (stay : (w u : Work) (steps : List Step) → Extends 
   -- and what is sealed is so still, or over
   sealed_later : (v t : View) (moves : List Move) (seat : ℕ) (w u : Work) (stamp : ℕ) → IsExecution v moves t → IsSession v seat → (v.session seat).stand ≡ world.sealed u stamp → u.number ≡ w.number → u.begin ≡ w.begin
       → HasNumbered t seat w.number w.begin
-  sealed_later v t moves seat w u stamp executed session stand number begin = (u, from ((go v t moves executed).2 seat session).sealed u stamp stand, number, begin)
+  sealed_later v t moves seat w u stamp executed session stand number begin = (u, from (((go v t moves executed).2 seat session).sealed u stamp stand), number, begin)
     where
       from : IsStillSealed u stamp (t.session seat) → Has t seat u
       from (inl there) = inr (subst (λ (at : Stand). IsCurrent at u) (sym there) refl)

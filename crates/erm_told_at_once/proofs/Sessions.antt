@@ -73,7 +73,7 @@ module _ (runs : NoneRuns) (stay : (w u : Work) (steps : List Step) → Extends 
     begun_in x number begins = begun_at runs stay v f seat first_there numbered_there (take i said) l a x said i number refl begins (begins_line number begins)
 
   -- WHAT IS TOLD of its snapshots by the lines: the begin stamp that one is told to have is its own
-  tells_lines : Tells seat (progress_of seat said) (lines.0.session seat)
+  pub tells_lines : Tells seat (progress_of seat said) (lines.0.session seat)
   tells_lines = subst (λ (list : List Said). Tells seat (progress_of seat list) (lines.0.session seat)) (said_lines script answers)
       (knows_own runs stay f seat (line_moves script answers) nothing Idle v lines.0 lines.1 first_there).told.tells
 
