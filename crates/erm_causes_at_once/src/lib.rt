@@ -2,8 +2,8 @@
 //! contract of a function that does nothing.
 #![tactic(auto)]
 
-ghost use Rattle.erm_causes_at_once.specs.Laws.{RunsAtOnceAreInReach, RunsAtOnceHaveCauses, RunsAtOnceRefuseForOthers, RunsAtOnceTellLog, RunsAtOnceTellSaves, RunsInPartAreInReach, RunsInPartHaveCauses, RunsInPartRefuseForOthers, RunsInPartTellLog, RunsInPartTellSaves};
-ghost use Rattle.erm_lines_at_once.specs.Laws.{RunsAtOnceAreSerialWithSnapshots, RunsAtOnceHaveSafeSnapshots};
+ghost use Rattle.erm_causes_at_once.specs.Laws.{RunsAtOnceAreInReach, RunsAtOnceHaveCauses, RunsAtOnceRefuseForOthers, RunsAtOnceTellLog, RunsAtOnceTellSaves, RunsInPartAreInReach, RunsInPartHaveCauses, RunsInPartMark, RunsInPartRefuseForOthers, RunsInPartTellLog, RunsInPartTellSaves};
+ghost use Rattle.erm_lines_at_once.specs.Laws.{RunsAtOnceAreSerialWithSnapshots, RunsAtOnceHaveMarks, RunsAtOnceHaveSafeSnapshots};
 ghost use Rattle.erm_lines_at_once.specs.Parts.{RunsInPartAreSerialWithSnapshots, RunsInPartHaveSafeSnapshots};
 
 /// Of an execution that is told in part: each answer that needs no transaction has its cause, and so has each one to a line of savepoints, in the
@@ -46,6 +46,15 @@ pub fn runs_in_part_have_safe_snapshots()
     erm_maps::answers_stay();
     erm_told_order::told_worlds_have_safe_snapshots();
     erm_told_order::told_worlds_are_serial_with_snapshots();
+}
+
+/// Of an execution that is told in part, where all that are closed are sessions: each outcome of what is sealed is that of a mark just where its
+/// session has a snapshot, also at the end, and each mark told tells its stamps, apart from all others. None waits.
+pub fn runs_in_part_have_marks()
+    ensures { RunsInPartMark }
+{
+    erm_maps::begun_transactions_are_runs();
+    erm_maps::answers_stay();
 }
 
 /// Each answer that needs no transaction has its cause. One that the log is at its end tells a place from which no transaction begins
@@ -96,6 +105,13 @@ pub fn runs_at_once_have_safe_snapshots()
     ensures { RunsAtOnceHaveSafeSnapshots }
 {
     runs_in_part_have_safe_snapshots();
+}
+
+/// So it is of a whole execution.
+pub fn runs_at_once_have_marks()
+    ensures { RunsAtOnceHaveMarks }
+{
+    runs_in_part_have_marks();
 }
 
 /// Run in the serial order of all, the commits that the report tells and its safe snapshots that ended give their replies, from the opening's

@@ -26,7 +26,7 @@ use Rattle.erm_beside.specs.Calls.{Passes}
 use Rattle.erm_lines_at_once.specs.Executions.{IsOwnRun}
 use Rattle.erm_told.proofs.Executed.{Knows, hears, turns}
 use Rattle.erm_told.proofs.Going.{continues_then}
-use Rattle.erm_told.proofs.Sessions.{sealed_untold}
+use Rattle.erm_told.proofs.Sessions.{sealed_untold, now_watching}
 use Rattle.erm_told.proofs.Turns.{TellsAt, now_active}
 use Rattle.erm_told_at_once.proofs.Runs.{knows_own, own_goes}
 use Rattle.erm_causes.proofs.Moves.{work_now}
@@ -35,7 +35,7 @@ use Rattle.erm_causes.proofs.Quiet.{SameNow}
 use Rattle.erm_causes.proofs.Saved.{AtSavepoint, back, refused, saved}
 use Rattle.erm_causes.proofs.Tables.{AreMovesInRange}
 use Rattle.erm_causes_at_once.proofs.Called.{Once, once_of, out, stayed, whole}
-use Rattle.erm_causes_at_once.proofs.Quieted.{Lined, Quieted, at_savepoint, begins, done, named, pointed_at, quiet, sealed_first, seals, still, watched}
+use Rattle.erm_causes_at_once.proofs.Quieted.{Lined, Quieted, at_savepoint, begins, done, named, pointed_at, quiet, sealed_first, seals, still, watched, marked, marked_first}
 use Rattle.erm_causes_at_once.proofs.Snapshots.{HasNoWork, Watches}
 use Rattle.erm_causes_at_once.proofs.Snapshots as snapshots
 use Rattle.erm_causes_at_once.proofs.Totals.{count_asked, own_count, own_total}
@@ -44,13 +44,14 @@ use Rattle.erm_told_limits.proofs.Grown.{Apart, Grew, nothing_apart}
 use Rattle.erm_told_limits.proofs.Heard.{may_claim, may_read, was_line}
 use Rattle.erm_told_limits.proofs.Holds.{Laws}
 use Rattle.erm_told_limits.proofs.Limits.{claims_line}
-use Rattle.erm_told_limits.proofs.Lines.{begun_moved, done_moved, same_moved}
+use Rattle.erm_told_limits.proofs.Lines.{begun_moved, done_moved, same_moved, marked_moved}
 use Rattle.erm_told_limits.proofs.Looks.{Looks, MayHaveRead, reads_line}
 use Rattle.erm_told_limits.proofs.Moved.{Moved, mades_in, moved_nothing, moved_on, moved_out, moved_then, moved_within}
 use Rattle.erm_told_limits.proofs.Pigeons.{reads_grow}
 use Rattle.erm_told_limits.proofs.Ran.{active_with}
 use Rattle.erm_told_limits.proofs.Saved.{went_turned}
 use Rattle.erm_limits_at_once.proofs.Tried.{MayBe, operation_looks, operation_moved}
+use Rattle.erm_causes.proofs.Snapshots.{marked_none}
 
 -- A session without a transaction makes and claims nothing where it has a snapshot then, or where that is over.
 bare_moved : (P : ℕ → Type 0) (s t : Session) (n b m c : ℕ) → work_of s.stand ≡ world.begun n b → t.over ≡ s.over → work_of t.stand ≡ world.begun m c → Moved P 0 0 0 s t
@@ -87,6 +88,7 @@ quieted_moved P asked a s t (seals stamp active is hears) =
     (same_moved P s t (ap (λ (r : Session). r.over) is) (ap (λ (r : Session). work_of r.stand) is))
 quieted_moved P asked a s t (done w fate ending has is none hears) = done_moved P s t w fate (sym (work_now s.stand w has)) is
 quieted_moved P asked a s t (watched rests did hears) = watched_moved P s t rests did
+quieted_moved P asked a s t (marked w own stand marks is hears) = done_moved P s t w (world.marked own w.begin) (sym (ap work_of stand)) is
 
 -- an active session's transaction is the run of what is told of it
 one_told : (seat : ℕ) (current : Option Transaction) (w : Work) → TellsNow seat current (world.active w) → (t : Transaction) × (current ≡ Some t)
@@ -110,11 +112,19 @@ pub knows_run : (seat : ℕ) (p : Progress) (phase : Phase) (v : View) → Knows
 knows_run seat p phase v knows active = active_run seat p v knows.told active
 
 -- nor does a seal tell more
-pub sealed_tells : (seat stamp : ℕ) (current : Option Transaction) (s r : Session) → phase_of s.stand ≡ Active → r ≡ record { over = s.over; stand = world.sealed (work_of s.stand) stamp }
+pub sealed_tells : (seat stamp : ℕ) (current : Option Transaction) (s r : Session) → phase_of s.stand ≡ Active → (work_of s.stand).is_mark ≡ false → r ≡ record { over = s.over; stand = world.sealed (work_of s.stand) stamp }
     → TellsNow seat current s.stand → TellsNow seat current r.stand
-sealed_tells seat stamp current s r active is tells =
+sealed_tells seat stamp current s r active plain is tells =
     subst (λ (x : Session). TellsNow seat current x.stand) (sym is)
-    (sealed_untold seat stamp current (work_of s.stand) (subst (λ (at : Stand). TellsNow seat current at) (active_with s.stand active) tells))
+    (sealed_untold seat stamp current (work_of s.stand) plain (subst (λ (at : Stand). TellsNow seat current at) (active_with s.stand active) tells))
+
+-- a snapshot is told as no transaction, and so is its mark
+mark_tells : (seat stamp : ℕ) (current : Option Transaction) (y : world.Snapshot) (s r : Session) → s.stand ≡ world.snapshot y → r ≡ record { over = s.over; stand = world.sealed (world.marking y) stamp }
+    → TellsNow seat current s.stand → (current ≡ None) × TellsNow seat current r.stand
+mark_tells seat stamp current y s r stand is tells =
+    let none = now_watching seat current y (subst (λ (at : Stand). TellsNow seat current at) stand tells) in
+    let sealed : TellsNow seat current (world.sealed (world.marking y) stamp) = subst (λ (o : Option Transaction). TellsNow seat o (world.sealed (world.marking y) stamp)) (sym none) refl in
+    (none, subst (λ (x : Session). TellsNow seat current x.stand) (sym is) sealed)
 
 pub passes_itself : (seat : ℕ) (v : View) → Passes seat v v
 passes_itself seat v = record { own = refl; opening = refl; tail = omega arith; flushed = omega arith; given_up = refl; saves = refl }
@@ -164,6 +174,9 @@ quieted_claims seat asked a p s t tells (done w fate ending has is none hears) f
     let no : None ≡ Some u = sym (ap (λ (q : Progress). q.current) (hears seat p)) ∙ now in cc
 quieted_claims seat asked a p s t tells (watched rests did hears) few u now =
     let no : None ≡ Some u = sym (hears seat p (none_told seat p.current s.stand rests tells)).1 ∙ now in cc
+quieted_claims seat asked a p s t tells (marked w own stand marks is hears) few u now =
+    let none = marked_none seat p.current w own marks (subst (λ (at : Stand). TellsNow seat p.current at) stand tells) in
+    let no : None ≡ Some u = sym (hears seat p none).1 ∙ now in cc
 
 same_reads : (current other : Option Transaction) (w : Work) → SameNow current other → ((t : Transaction) → current ≡ Some t → MayHaveRead w t) → (u : Transaction) → other ≡ Some u → MayHaveRead w u
 same_reads None None w same few u is = cc
@@ -184,6 +197,9 @@ quieted_reads seat asked a p s t tells (done w fate ending has is none hears) fe
     let no : None ≡ Some u = sym (ap (λ (q : Progress). q.current) (hears seat p)) ∙ now in cc
 quieted_reads seat asked a p s t tells (watched rests did hears) few u now =
     let no : None ≡ Some u = sym (hears seat p (none_told seat p.current s.stand rests tells)).1 ∙ now in cc
+quieted_reads seat asked a p s t tells (marked w own stand marks is hears) few u now =
+    let none = marked_none seat p.current w own marks (subst (λ (at : Stand). TellsNow seat p.current at) stand tells) in
+    let no : None ≡ Some u = sym (hears seat p none).1 ∙ now in cc
 
 zero_or_more : (n : ℕ) → (n ≡ 0) ⊎ (0 < n)
 zero_or_more zero = inl refl
@@ -288,8 +304,13 @@ module _ (laws : Laws) (begun : NoneRuns)
   lined_moved asked a v t (quiet did keeps) range run goes =
       moved_within (MayBe f) 0 0 1 (count_asked makes_of asked) (count_asked claims_of asked) 1 (v.session seat) (t.session seat) (omega arith) (omega arith) (omega arith)
       (quieted_moved (MayBe f) asked a (v.session seat) (t.session seat) did)
-  lined_moved asked a v t (sealed_first stamp between active is did rests) range run goes =
+  lined_moved asked a v t (sealed_first stamp between active plain is did rests) range run goes =
       let first = same_moved (MayBe f) (v.session seat) between (ap (λ (r : Session). r.over) is) (ap (λ (r : Session). work_of r.stand) is) in
+      let then = quieted_moved (MayBe f) asked a between (t.session seat) did in
+      moved_within (MayBe f) (0 + 0) (0 + 0) (0 + 1) (count_asked makes_of asked) (count_asked claims_of asked) 1 (v.session seat) (t.session seat) (omega arith) (omega arith) (omega arith)
+      (moved_then (MayBe f) 0 0 0 0 0 1 (v.session seat) between (t.session seat) first then)
+  lined_moved asked a v t (marked_first y stamp between stand is did rests) range run goes =
+      let first = marked_moved (MayBe f) (v.session seat) between y stand (ap (λ (r : Session). r.over) is) (ap (λ (r : Session). work_of r.stand) is) in
       let then = quieted_moved (MayBe f) asked a between (t.session seat) did in
       moved_within (MayBe f) (0 + 0) (0 + 0) (0 + 1) (count_asked makes_of asked) (count_asked claims_of asked) 1 (v.session seat) (t.session seat) (omega arith) (omega arith) (omega arith)
       (moved_then (MayBe f) 0 0 0 0 0 1 (v.session seat) between (t.session seat) first then)
@@ -304,8 +325,11 @@ module _ (laws : Laws) (begun : NoneRuns)
   lined_claims : (asked : Option Command) (a : Answer) (v t : View) (p : Progress) → Lined f seat asked a v t → TellsAt seat p v → Moved (MayBe f) (count_asked makes_of asked) (count_asked claims_of asked) 1 (v.session seat) (t.session seat)
       → ClaimsFew p (v.session seat) → ClaimsFew (heard seat asked a p) (t.session seat)
   lined_claims asked a v t p (quiet did keeps) told moved few = quieted_claims seat asked a p (v.session seat) (t.session seat) told.tells.now did few
-  lined_claims asked a v t p (sealed_first stamp between active is did rests) told moved few =
-      quieted_claims seat asked a p between (t.session seat) (sealed_tells seat stamp p.current (v.session seat) between active is told.tells.now) did (λ u now. omega (arith, few u now, ap (λ (r : Session). length (work_of r.stand).claims) is))
+  lined_claims asked a v t p (sealed_first stamp between active plain is did rests) told moved few =
+      quieted_claims seat asked a p between (t.session seat) (sealed_tells seat stamp p.current (v.session seat) between active plain is told.tells.now) did (λ u now. omega (arith, few u now, ap (λ (r : Session). length (work_of r.stand).claims) is))
+  lined_claims asked a v t p (marked_first y stamp between stand is did rests) told moved few =
+      let it = mark_tells seat stamp p.current y (v.session seat) between stand is told.tells.now in
+      quieted_claims seat asked a p between (t.session seat) it.1 did (λ u now. let no : None ≡ Some u = sym it.0 ∙ now in cc)
   lined_claims asked a v t p (at_savepoint c u is none active passes did hears) told moved few =
       let most = subst (λ (b : Option Command). length (work_at t seat).claims ≤ length (work_at v seat).claims + count_asked claims_of b) is moved.now.claimed in
       subst (λ (b : Option Command). ClaimsFew (heard seat b a p) (t.session seat)) (sym is) (saved_claims seat c a p v t hears most few)
@@ -317,8 +341,11 @@ module _ (laws : Laws) (begun : NoneRuns)
   lined_reads : (asked : Option Command) (a : Answer) (v t : View) (p : Progress) → Lined f seat asked a v t → IsAskedInRange asked → TellsAt seat p v
       → Continues (t.session seat) (f.session seat) → Apart (work_at t seat).reads → ReadsFew p (v.session seat) → ReadsFew (heard seat asked a p) (t.session seat)
   lined_reads asked a v t p (quiet did keeps) range told goes apart few = quieted_reads seat asked a p (v.session seat) (t.session seat) told.tells.now did few
-  lined_reads asked a v t p (sealed_first stamp between active is did rests) range told goes apart few =
-      quieted_reads seat asked a p between (t.session seat) (sealed_tells seat stamp p.current (v.session seat) between active is told.tells.now) did (λ u now. subst (λ (r : Session). MayHaveRead (work_of r.stand) u) (sym is) (few u now))
+  lined_reads asked a v t p (sealed_first stamp between active plain is did rests) range told goes apart few =
+      quieted_reads seat asked a p between (t.session seat) (sealed_tells seat stamp p.current (v.session seat) between active plain is told.tells.now) did (λ u now. subst (λ (r : Session). MayHaveRead (work_of r.stand) u) (sym is) (few u now))
+  lined_reads asked a v t p (marked_first y stamp between stand is did rests) range told goes apart few =
+      let it = mark_tells seat stamp p.current y (v.session seat) between stand is told.tells.now in
+      quieted_reads seat asked a p between (t.session seat) it.1 did (λ u now. let no : None ≡ Some u = sym it.0 ∙ now in cc)
   lined_reads asked a v t p (at_savepoint c u is none active passes did hears) range told goes apart few =
       subst (λ (b : Option Command). ReadsFew (heard seat b a p) (t.session seat)) (sym is)
       (saved_reads seat c a p v t hears (saved_work_reads seat v u t passes (pointed_at c a u seat t did)) few)
