@@ -1,17 +1,23 @@
 -- A log that a disk holds, after calls of the flusher.
-use Rattle.std.proofs.Common.{◌≡◌, ℕ, ◌<◌, ◌++◌, false, List, [], Option, IfSome, sym, ap, subst}
+use Rattle.std.proofs.Common.{◌≡◌, ℕ, ◌<◌, ◌≤◌, ◌++◌, false, List, [], Option, IfSome, sym, ap, subst, arith}
 use Rattle.erm_model.specs.Rows.{Rows}
 use Rattle.erm_block.specs.declared.block.Block.{Block}
 use Rattle.erm_flush.specs.Turns.{GoesOn, HoldsFrom, IsReady, WritesFrom}
-use Rattle.erm_outside.specs.Disk.{Step, Tells}
+use Rattle.erm_outside.specs.Disk.{Step, Tells, contents}
 use Rattle.erm_world.specs.Log.{IsLog, IsStop, Log, Start}
 use Rattle.erm_ckpt.specs.declared.slot.Slots.{Slots}
 use Rattle.erm_ckpt.specs.declared.slot.TheConstants.{LOG_START}
 use Rattle.erm_checkpoint.specs.Taken.{GoesOnTo, HoldsLog, HoldsLogFrom, Takes, slot_at_end, state_at}
+use Rattle.erm_ckpt.proofs.Images.{state_grows}
 use Rattle.erm_crash.specs.Kept.{KeepsBlocks}
+use Rattle.erm_crash.specs.Older.{KeepsMeeting, MeetsOlder}
 use Rattle.erm_told_log.specs.Tail.{BeginBelow, MeetsTail}
 use Rattle.erm_log_run.specs.Keeping.{IsHeld, Keeper, KeepsMoments, KeepsOn, MeetsTold}
-use Rattle.erm_log_run.proofs.Held.{IsFlushing, MomentsGoOn, Onward, all_flushed, held_on, keeps_moments, keeps_on, tells_and, tells_from, told_after}
+use Rattle.erm_log_run.proofs.Held.{GoesOnMeeting, IsFlushing, MeetingsGoOn, MeetsEarlier, MomentsGoOn, Onward, all_flushed, held_on, keeps_moments, keeps_on, meeting_on, tells_and, tells_from, told_after}
+
+-- the log's start is flushed
+start_flushed : (sound : Rows → Type 0) (log : Log) (slots : Slots) (steps : List Step) → HoldsLog sound log slots steps → log.opened.at ≤ log.flushed
+start_flushed sound log slots steps h = let to = h.to in let grows = state_grows (state_at log []) h.front in omega (arith, to, grows)
 
 -- the laws of flushes
 pub record FlushLaws (sound : Rows → Type 0) : Type 0 where
@@ -23,6 +29,10 @@ pub record FlushLaws (sound : Rows → Type 0) : Type 0 where
       → GoesOn before now → IsLog sound now → LOG_START < now.opened.at → HoldsLog sound now slots new
   pub meet : (earlier : List Block) (before now : Log) (slots later : Slots) (old new : List Step) → MeetsTail sound earlier before slots old → HoldsFrom sound before.flushed now old new
       → HoldsLog sound now later new → now.opened ≡ before.opened → ((rest : List Block) × (now.gathered ≡ before.gathered ++ rest)) → IsLog sound now → MeetsTail sound earlier now later new
+  pub meetings : MeetingsGoOn sound
+  pub earlier : MeetsEarlier sound
+  pub older : (before now : Log) (slots : Slots) (found : List Block) (place : ℕ) (old new : List Step) → HoldsLog sound before slots old → place ≤ before.flushed
+      → MeetsOlder sound place found (contents old) → WritesFrom sound before.flushed now old new → KeepsMeeting sound place found old new
 
 -- what a flusher's calls did
 pub record Flushes (sound : Rows → Type 0) (k m : Keeper) : Type 0 where
@@ -54,9 +64,19 @@ module _ (sound : Rows → Type 0) (laws : FlushLaws sound) (k m : Keeper) (f : 
       tells_from (HoldsLog sound k.log k.slots) (WritesFrom sound k.log.flushed m.log) (KeepsBlocks sound (state_at m.log []) m.log.gathered k.log.flushed) k.told m.told f.held.holds
       (λ old new holds writes. laws.keep k.log m.log k.slots old new holds opened f.goes.more f.is begins writes) f.writes
 
+  -- and meets of earlier blocks those that it doesn't pass
+  meeting : GoesOnMeeting sound k m
+  meeting =
+      meeting_on sound laws.meetings k m opened
+      (λ earlier met.
+      tells_from (MeetsTail sound earlier k.log k.slots) (WritesFrom sound k.log.flushed m.log) (KeepsMeeting sound k.log.opened.at earlier) k.told m.told met
+      (λ old new tail writes.
+      laws.older k.log m.log k.slots earlier k.log.opened.at old new tail.holds (start_flushed sound k.log k.slots old tail.holds)
+      (laws.earlier earlier k.log m.log k.slots old f.is opened f.goes.more tail) writes) f.writes)
+
   -- the disk failed
   pub fault_keeps : KeepsMoments sound k m
-  fault_keeps = keeps_moments sound laws.go_on k m on flushing
+  fault_keeps = keeps_moments sound laws.go_on k m on flushing meeting
 
   -- what was written lasts
   holds_flushed : Tells (HoldsFrom sound k.log.flushed m.log) k.told m.told → IfSome m.told (IsReady m.log) → IfSome m.told (HoldsLog sound m.log m.slots)
@@ -83,7 +103,7 @@ module _ (sound : Rows → Type 0) (laws : FlushLaws sound) (k m : Keeper) (f : 
       → IsHeld sound m × KeepsOn sound k m
   kept_so well stops holds tail = (
     held_on sound k m f.held opened f.run well (ap (λ (l : Log). l.pinned) f.goes.log) holds,
-    keeps_on sound laws.go_on k m on (all_flushed sound m.log f.is stops) holds tail flushing,
+    keeps_on sound laws.go_on k m on (all_flushed sound m.log f.is stops) holds tail flushing meeting,
   )
 
   -- all that was gathered is flushed
@@ -102,6 +122,11 @@ pub record CheckpointLaws (sound : Rows → Type 0) : Type 0 where
       → Takes sound before.flushed now slots (slot_at_end now run slots) old new → KeepsBlocks sound (state_at now []) now.gathered before.flushed old new
   pub pass : (earlier : List Block) (log : Log) (slots : Slots) (stamp : ℕ) (steps : List Step) → BeginBelow log.opened.at earlier → IsLog sound log → HoldsLogFrom sound log slots stamp steps
       → log.flushed ≡ stamp → MeetsTail sound earlier log slots steps
+  pub meetings : MeetingsGoOn sound
+  pub earlier : MeetsEarlier sound
+  pub older : (before now : Log) (slots : Slots) (run : ℕ) (found : List Block) (place : ℕ) (old new : List Step) → HoldsLog sound before slots old → place ≤ before.flushed
+      → place ≤ now.opened.at → MeetsOlder sound place found (contents old) → Takes sound before.flushed now slots (slot_at_end now run slots) old new
+      → KeepsMeeting sound place found old new
 
 -- what a checkpoint did
 pub record Checkpoints (sound : Rows → Type 0) (k m : Keeper) : Type 0 where
@@ -123,9 +148,19 @@ module _ (sound : Rows → Type 0) (laws : CheckpointLaws sound) (k m : Keeper) 
       tells_from (HoldsLog sound k.log k.slots) (Takes sound k.log.flushed m.log k.slots (slot_at_end m.log k.run k.slots)) (KeepsBlocks sound (state_at m.log []) m.log.gathered k.log.flushed) k.told m.told f.held.holds
       (λ old new holds takes. laws.keep k.log m.log k.slots k.run old new holds f.goes f.is (subst (λ (s : Start). LOG_START < s.at) (sym begun) f.held.begins) takes) f.takes
 
+  -- and meets of earlier blocks those that it doesn't pass
+  meets_taking : GoesOnMeeting sound k m
+  meets_taking =
+      meeting_on sound laws.meetings k m begun
+      (λ earlier met.
+      tells_from (MeetsTail sound earlier k.log k.slots) (Takes sound k.log.flushed m.log k.slots (slot_at_end m.log k.run k.slots)) (KeepsMeeting sound k.log.opened.at earlier) k.told m.told met
+      (λ old new tail takes.
+      laws.older k.log m.log k.slots k.run earlier k.log.opened.at old new tail.holds (start_flushed sound k.log k.slots old tail.holds)
+      (omega (arith, ap (λ (s : Start). s.at) begun)) (laws.earlier earlier k.log m.log k.slots old f.is begun f.goes.more tail) takes) f.takes)
+
   -- the disk failed
   pub checkpoint_fault_keeps : KeepsMoments sound k m
-  checkpoint_fault_keeps = keeps_moments sound laws.go_on k m further taking
+  checkpoint_fault_keeps = keeps_moments sound laws.go_on k m further taking meets_taking
 
   -- recovery meets none of the blocks then
   passes_all : (stamp : ℕ) → m.log.flushed ≡ stamp → IfSome m.told (HoldsLogFrom sound m.log m.slots stamp) → (earlier : List Block) → MeetsTold sound earlier k → MeetsTold sound earlier m
@@ -145,5 +180,5 @@ module _ (sound : Rows → Type 0) (laws : CheckpointLaws sound) (k m : Keeper) 
       → IfSome m.told (HoldsLogFrom sound m.log m.slots stamp) → IsHeld sound m × KeepsOn sound k m
   checkpoint_keeps stamp well to stops holds lasts = (
     held_on sound k m f.held begun f.run well (ap (λ (l : Log). l.pinned) f.goes.log) holds,
-    keeps_on sound laws.go_on k m further (all_flushed sound m.log f.is stops) holds (passes_all stamp to lasts) taking,
+    keeps_on sound laws.go_on k m further (all_flushed sound m.log f.is stops) holds (passes_all stamp to lasts) taking meets_taking,
   )

@@ -4,14 +4,17 @@ use Rattle.std.specs.Prelude.{is_some}
 use Rattle.std.proofs.lemmas.List.{append-nil}
 use Rattle.erm_model.specs.Rows.{Rows}
 use Rattle.erm_block.specs.declared.block.Block.{Block}
-use Rattle.erm_outside.specs.Disk.{Step, Tells}
+use Rattle.erm_outside.specs.Disk.{Step, Tells, contents}
 use Rattle.erm_world.specs.Log.{IsLog, IsStop, Log, Start, gathered_to, place_behind}
+use Rattle.erm_ckpt.specs.declared.slot.Slots.{Slots}
 use Rattle.erm_ckpt.specs.declared.slot.TheConstants.{LOG_START}
 use Rattle.erm_ckpt.specs.Recovered.{State, state_behind}
 use Rattle.erm_model.specs.declared.limits.TheConstants.{LOG_END}
 use Rattle.erm_checkpoint.specs.Taken.{HoldsLog, state_at}
 use Rattle.erm_crash.specs.Kept.{KeepsBlocks, KeepsSince}
-use Rattle.erm_log_run.specs.Keeping.{IsHeld, Keeper, KeepsMoments, KeepsOn, MeetsTold}
+use Rattle.erm_crash.specs.Older.{KeepsMeeting, MeetsOlder}
+use Rattle.erm_told_log.specs.Tail.{MeetsTail}
+use Rattle.erm_log_run.specs.Keeping.{IsHeld, IsMet, Keeper, KeepsMoments, KeepsOn, MeetsTold}
 
 grows : (at : ℕ) (blocks : List Block) → at ≤ place_behind at blocks
 grows at [] = omega arith
@@ -93,6 +96,27 @@ abbrev pub MomentsGoOn : (Rows → Type 0) → Type 0
 MomentsGoOn sound = (from : State) (blocks more : List Block) (place later : ℕ) (a b c : List Step) → place ≤ later
     → KeepsBlocks sound from blocks place a b → KeepsBlocks sound from (blocks ++ more) later b c → KeepsBlocks sound from (blocks ++ more) place a c
 
+-- what images meet of earlier blocks, they meet at more moments
+abbrev pub GoesOnMeeting : (Rows → Type 0) → Keeper → Keeper → Type 0
+GoesOnMeeting sound k m = (start : Option (List Step)) (earlier : List Block) → MeetsTold sound earlier k → IsMet sound start earlier k → IsMet sound start earlier m
+
+-- and at each from an earlier one on
+abbrev pub MeetingsGoOn : (Rows → Type 0) → Type 0
+MeetingsGoOn sound = (found : List Block) (place : ℕ) (a b c : List Step) → KeepsMeeting sound place found a b → KeepsMeeting sound place found b c → KeepsMeeting sound place found a c
+
+-- a disk that holds a log, also one that has gone on since, meets of the blocks behind which it was opened just those that it doesn't pass
+abbrev pub MeetsEarlier : (Rows → Type 0) → Type 0
+MeetsEarlier sound = (earlier : List Block) (before now : Log) (slots : Slots) (steps : List Step) → IsLog sound now → now.opened ≡ before.opened
+    → ((rest : List Block) × (now.gathered ≡ before.gathered ++ rest)) → MeetsTail sound earlier before slots steps → MeetsOlder sound before.opened.at earlier (contents steps)
+
+-- where they meet them so from now on
+pub meeting_on : (sound : Rows → Type 0) → MeetingsGoOn sound → (k m : Keeper) → m.log.opened ≡ k.log.opened
+    → ((earlier : List Block) → MeetsTold sound earlier k → Tells (KeepsMeeting sound k.log.opened.at earlier) k.told m.told) → GoesOnMeeting sound k m
+meeting_on sound go k m opened meeting start earlier met kept =
+    let P : List Step → List Step → Type 0 = KeepsMeeting sound k.log.opened.at earlier in
+    subst (λ (at : ℕ). Tells (KeepsMeeting sound at earlier) start m.told) (ap (λ (s : Start). s.at) (sym opened))
+    (tells_join P P P start k.told m.told (go earlier k.log.opened.at) kept (meeting earlier met))
+
 module _ (sound : Rows → Type 0) (go_on : MomentsGoOn sound) (k m : Keeper) (on : Onward k m) where
   abbrev Later : List Step → List Step → Type 0
   Later = KeepsBlocks sound (state_at m.log []) m.log.gathered k.log.flushed
@@ -107,17 +131,18 @@ module _ (sound : Rows → Type 0) (go_on : MomentsGoOn sound) (k m : Keeper) (o
       (go_on (state_at m.log []) since.front rest place k.log.flushed a b c low first (subst (λ (bs : List Block). KeepsBlocks sound (state_at m.log []) bs k.log.flushed b c) all later))
 
   -- where the disk failed
-  pub keeps_moments : IsFlushing sound k m → KeepsMoments sound k m
-  keeps_moments flushing = record {
+  pub keeps_moments : IsFlushing sound k m → GoesOnMeeting sound k m → KeepsMoments sound k m
+  keeps_moments flushing meeting = record {
     opened = on.opened;
     keeps = λ start place low kept. tells_join (KeepsSince sound place k.log k.slots) Later (KeepsBlocks sound (state_at m.log []) m.log.gathered place) start k.told m.told
         (joined place low) kept flushing;
+    older = meeting;
   }
 
   -- where all that was gathered is flushed
   pub keeps_on : gathered_to m.log ≡ m.log.flushed → IfSome m.told (HoldsLog sound m.log m.slots) → ((earlier : List Block) → MeetsTold sound earlier k → MeetsTold sound earlier m)
-      → IsFlushing sound k m → KeepsOn sound k m
-  keeps_on all holds tail flushing = record {
+      → IsFlushing sound k m → GoesOnMeeting sound k m → KeepsOn sound k m
+  keeps_on all holds tail flushing meeting = record {
     opened = on.opened;
     further = on.further;
     keeps = λ start place low kept. tells_join (KeepsSince sound place k.log k.slots) (λ b c. HoldsLog sound m.log m.slots c × Later b c) (KeepsSince sound place m.log m.slots) start k.told m.told
@@ -130,6 +155,7 @@ module _ (sound : Rows → Type 0) (go_on : MomentsGoOn sound) (k m : Keeper) (o
           moments = joined place low a b c since both.1;
         }) kept (tells_and (HoldsLog sound m.log m.slots) Later k.told m.told holds flushing);
     tail = tail;
+    older = meeting;
   }
 
 -- what was held is held still

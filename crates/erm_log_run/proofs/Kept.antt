@@ -1,12 +1,12 @@
 -- The moments of a whole run.
-use Rattle.std.proofs.Common.{◌≡◌, ℕ, ◌≤◌, ◌++◌, List, [], ◌∷◌, length, Option, Some, None, IfSome, refl, sym, ap, ◌∙◌, subst, arith}
+use Rattle.std.proofs.Common.{◌≡◌, ℕ, ◌≤◌, ◌++◌, List, [], ◌∷◌, length, Option, Some, None, IfSome, refl, sym, ap, ◌∙◌, append-nil, subst, arith}
 use Rattle.std.proofs.lemmas.List.{length-append}
 use mathlib.Core.Path.{fun_ext}
 use Rattle.erm_model.specs.Rows.{Rows}
 use Rattle.erm_block.specs.declared.block.Block.{Block}
 use Rattle.erm_outside.specs.Disk.{Image, IsImage, Step, Tells, contents}
 use Rattle.erm_outside.specs.declared.disk.File.{File}
-use Rattle.erm_world.specs.Log.{Log}
+use Rattle.erm_world.specs.Log.{IsLog, Log, Start}
 use Rattle.erm_ckpt.specs.declared.slot.Slots.{Slots}
 use Rattle.erm_ckpt.specs.Recovered.{State, base}
 use Rattle.erm_ckpt.specs.States.{MeetsLast}
@@ -14,11 +14,13 @@ use Rattle.erm_ckpt.proofs.Images.{RecoversMeeting}
 use Rattle.erm_checkpoint.specs.Taken.{HoldsLog, state_at}
 use Rattle.erm_crash.specs.Kept.{KeepsBlocks, KeepsSince, RecoversStopped}
 use Rattle.erm_crash.specs.Moments.{IsMoment}
+use Rattle.erm_crash.specs.Older.{KeepsMeeting, MeetsOlder}
 use Rattle.erm_crash.specs.Stops.{MayStop}
 use Rattle.erm_crash.proofs.Moments.{stopped_lower, stopped_more}
 use Rattle.erm_crash.proofs.Stops.{settled_stops}
-use Rattle.erm_log_run.specs.Keeping.{IsKept, Keeper, KeepsMoments, KeepsOn}
-use Rattle.erm_log_run.proofs.Held.{same_start, tells_weaker}
+use Rattle.erm_told_log.specs.Tail.{MeetsTail}
+use Rattle.erm_log_run.specs.Keeping.{IsKept, IsMet, Keeper, KeepsMoments, KeepsOn, MeetsTold}
+use Rattle.erm_log_run.proofs.Held.{MeetsEarlier, same_start, tells_weaker}
 
 -- an end of no list is none
 no_front : {X : Type 0} (xs ys : List X) → xs ++ ys ≡ [] → xs ≡ []
@@ -127,3 +129,33 @@ pub moments_at_fault : (sound : Rows → Type 0) (k m : Keeper) → KeepsMoments
     → Tells (KeepsBlocks sound (state_at k.log []) m.log.gathered k.log.flushed) k.told m.told
 moments_at_fault sound k m on kept =
     subst (λ (s : State). Tells (KeepsBlocks sound s m.log.gathered k.log.flushed) k.told m.told) (same_start k.log m.log on.opened) (on.keeps k.told k.log.flushed (omega arith) kept)
+
+-- a log of which the disk tells meets of the blocks behind which it was opened those that it doesn't pass, from now on
+pub first_met : (sound : Rows → Type 0) → MeetsEarlier sound → (k : Keeper) → IsLog sound k.log → (earlier : List Block) → MeetsTold sound earlier k → IsMet sound k.told earlier k
+first_met sound law k is earlier met = by k.told met
+  where
+    Met : List Step → List Step → Type 0
+    Met = KeepsMeeting sound k.log.opened.at earlier
+
+    older : (steps now : List Step) (tail : MeetsTail sound earlier k.log k.slots steps) → IsMoment steps steps now → (image : Image) → IsImage now image → MeetsOlder sound k.log.opened.at earlier image
+    older steps now tail m image is_image =
+        let one : now ≡ steps = one_moment steps now m in
+        let here : IsImage steps image = subst (λ (x : List Step). IsImage x image) one is_image in
+        let same : image ≡ contents steps = fun_ext (λ (file : File). tail.holds.ready.settled file (image file) (here file)) in
+        subst (MeetsOlder sound k.log.opened.at earlier) (sym same) (law earlier k.log k.log k.slots steps is refl ([], sym (append-nil k.log.gathered)) tail)
+
+    by : (o : Option (List Step)) → IfSome o (MeetsTail sound earlier k.log k.slots) → Tells Met o o
+    by None met = refl
+    by (Some steps) tail = (steps, refl, (([], refl), λ now m image is_image tears. older steps now tail m image is_image))
+
+-- and on, as long as the log is kept, or up to the disk's fault
+met_since : (sound : Rows → Type 0) (k m : Keeper) (earlier : List Block) → m.log.opened ≡ k.log.opened → IsMet sound k.told earlier m → Tells (KeepsMeeting sound k.log.opened.at earlier) k.told m.told
+met_since sound k m earlier opened met = subst (λ (at : ℕ). Tells (KeepsMeeting sound at earlier) k.told m.told) (ap (λ (s : Start). s.at) opened) met
+
+pub met_of : (sound : Rows → Type 0) → MeetsEarlier sound → (k m : Keeper) → IsLog sound k.log → KeepsOn sound k m → (earlier : List Block) → MeetsTold sound earlier k
+    → Tells (KeepsMeeting sound k.log.opened.at earlier) k.told m.told
+met_of sound law k m is on earlier met = met_since sound k m earlier on.opened (on.older k.told earlier met (first_met sound law k is earlier met))
+
+pub met_at_fault : (sound : Rows → Type 0) → MeetsEarlier sound → (k m : Keeper) → IsLog sound k.log → KeepsMoments sound k m → (earlier : List Block) → MeetsTold sound earlier k
+    → Tells (KeepsMeeting sound k.log.opened.at earlier) k.told m.told
+met_at_fault sound law k m is on earlier met = met_since sound k m earlier on.opened (on.older k.told earlier met (first_met sound law k is earlier met))

@@ -14,6 +14,7 @@ use Rattle.erm_world.specs.World.{Finished, IsSession, Opening, Session, View}
 use Rattle.erm_ckpt.specs.declared.slot.Slots.{Slots}
 use Rattle.erm_checkpoint.specs.Taken.{HoldsLog}
 use Rattle.erm_crash.specs.Kept.{KeepsSince, LeavesLog}
+use Rattle.erm_crash.specs.Older.{KeepsMeeting}
 use Rattle.erm_told.proofs.Turns.{Turn}
 use Rattle.erm_told_log.specs.Tail.{MeetsTail}
 use Rattle.erm_log_run.specs.Keeping.{IsHeld, Keeper, KeepsMoments, KeepsOn}
@@ -91,6 +92,9 @@ session_keeps law laws v t k m serial leaves before after was is held slots run 
         (subst (λ (s : Slots). IfSome k.told (MeetsTail law.meets earlier m.log s)) (sym slots)
         (if_some (MeetsTail law.meets earlier k.log k.slots) (MeetsTail law.meets earlier m.log k.slots)
         (λ steps tail. laws.met v t earlier k.log m.log k.slots steps serial leaves before after was is tail) k.told met));
+    older = λ start earlier met kept.
+        subst (λ (o : Option (List Step)). Tells (KeepsMeeting law.meets m.log.opened.at earlier) start o) (sym told)
+        (subst (λ (at : ℕ). Tells (KeepsMeeting law.meets at earlier) start k.told) (ap (λ (s : Start). s.at) (sym opened)) kept);
   },
 )
   where
@@ -106,7 +110,7 @@ session_keeps law laws v t k m serial leaves before after was is held slots run 
 
 -- KEPT ON, one after another.
 pub on_itself : (sound : Rows → Type 0) (k : Keeper) → KeepsOn sound k k
-on_itself sound k = record { opened = refl; further = omega arith; keeps = λ start place low kept. kept; tail = λ earlier met. met }
+on_itself sound k = record { opened = refl; further = omega arith; keeps = λ start place low kept. kept; tail = λ earlier met. met; older = λ start earlier met kept. kept }
 
 pub on_then : (sound : Rows → Type 0) (k l m : Keeper) → KeepsOn sound k l → KeepsOn sound l m → KeepsOn sound k m
 on_then sound k l m first second = record {
@@ -114,10 +118,12 @@ on_then sound k l m first second = record {
   further = (let a = first.further in let b = second.further in omega (arith, a, b));
   keeps = λ start place low kept. second.keeps start place (let a = first.further in omega (arith, low, a)) (first.keeps start place low kept);
   tail = λ earlier met. second.tail earlier (first.tail earlier met);
+  older = λ start earlier met kept. second.older start earlier (first.tail earlier met) (first.older start earlier met kept);
 }
 
 pub moments_then : (sound : Rows → Type 0) (k l m : Keeper) → KeepsOn sound k l → KeepsMoments sound l m → KeepsMoments sound k m
 moments_then sound k l m first second = record {
   opened = second.opened ∙ first.opened;
   keeps = λ start place low kept. second.keeps start place (let a = first.further in omega (arith, low, a)) (first.keeps start place low kept);
+  older = λ start earlier met kept. second.older start earlier (first.tail earlier met) (first.older start earlier met kept);
 }

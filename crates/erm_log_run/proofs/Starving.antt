@@ -17,6 +17,7 @@ use Rattle.erm_world.specs.World.{View}
 use Rattle.erm_lines.specs.Executions.{IsExecution, IsLast, IsOpened, line_moves}
 use Rattle.erm_checkpoint.specs.Taken.{state_at}
 use Rattle.erm_crash.specs.Kept.{KeepsBlocks}
+use Rattle.erm_crash.specs.Older.{KeepsMeeting}
 use Rattle.erm_log_run.specs.declared.stops.LineStop.{LineStop}
 use Rattle.erm_log_run.specs.declared.stops.LineStop.TheVariants.{DiskFault, Memory}
 use Rattle.erm_log_run.specs.declared.stops.RunStop.{RunStop}
@@ -24,7 +25,8 @@ use Rattle.erm_log_run.specs.declared.stops.RunStop.TheVariants as run
 use Rattle.erm_log_run.specs.Closing.{IsClosing}
 use Rattle.erm_log_run.specs.Keeping.{IsKept, Keeper, KeepsOn}
 use Rattle.erm_log_run.specs.Starving.{OnMemory, Starves, WasStarved, WhereStarved}
-use Rattle.erm_log_run.proofs.Kept.{moments_of}
+use Rattle.erm_log_run.proofs.Held.{MeetsEarlier}
+use Rattle.erm_log_run.proofs.Kept.{met_of, moments_of}
 use Rattle.erm_log_run.specs.Saving.{AreRemoved, removed_to}
 use Rattle.erm_log_run.proofs.Leaving.{on_itself}
 use Rattle.erm_log_run.proofs.Older.{older_itself}
@@ -102,9 +104,9 @@ starved_last sound v u t n script answers ends k m each ran is of log on older =
 }
 
 -- A WHOLE RUN.
-pub was_starved : (sound : Rows → Type 0) (v : View) (script : List ScriptLine) (k : Keeper) (told : Option (List Step)) → IsOpened v → ((l : ScriptLine) → l ∈ script → IsInRange l.command)
-    → length script ≤ LAST_NUMBER → IsKept sound k.told k.log.flushed k → Starves sound v script k told → WasStarved sound v script k.log k.slots k.told told
-was_starved sound v script k told opened ranges few kept s = record {
+pub was_starved : (sound : Rows → Type 0) → MeetsEarlier sound → (v : View) (script : List ScriptLine) (k : Keeper) (told : Option (List Step)) → IsOpened v → ((l : ScriptLine) → l ∈ script → IsInRange l.command)
+    → length script ≤ LAST_NUMBER → IsLog sound k.log → IsKept sound k.told k.log.flushed k → Starves sound v script k told → WasStarved sound v script k.log k.slots k.told told
+was_starved sound law v script k told opened ranges few begun kept s = record {
   answers = s.answers;
   view = s.view;
   course = record {
@@ -124,4 +126,5 @@ was_starved sound v script k told opened ranges few kept s = record {
   is = s.is;
   moments = subst (λ (o : Option (List Step)). Tells (KeepsBlocks sound (state_at k.log []) s.now.log.gathered k.log.flushed) k.told o) (sym s.same) (moments_of sound k s.now s.keeps kept);
   older = subst (λ (o : Option (List Step)). Tells (AreRemoved (removed_to k.slots s.answers) k.log.flushed s.now.log.flushed) k.told o) (sym s.same) s.older;
+  met = λ earlier met. subst (λ (o : Option (List Step)). Tells (KeepsMeeting sound k.log.opened.at earlier) k.told o) (sym s.same) (met_of sound law k s.now begun s.keeps earlier met);
 }

@@ -10,6 +10,7 @@ use Rattle.erm_ckpt.specs.declared.slot.Slots.{Slots}
 use Rattle.erm_ckpt.specs.declared.slot.TheConstants.{LOG_START}
 use Rattle.erm_checkpoint.specs.Taken.{HoldsLog, state_at}
 use Rattle.erm_crash.specs.Kept.{KeepsBlocks, KeepsSince}
+use Rattle.erm_crash.specs.Older.{KeepsMeeting}
 use Rattle.erm_told_log.specs.Tail.{MeetsTail}
 use Rattle.erm_log_run.specs.declared.stops.LineStop.{LineStop}
 use Rattle.erm_log_run.specs.declared.stops.LineStop.TheVariants.{DiskFault, Memory}
@@ -46,19 +47,26 @@ IsKept sound start place k = Tells (KeepsSince sound place k.log k.slots) start 
 abbrev pub MeetsTold : (Rows → Type 0) → List Block → Keeper → Type 0
 MeetsTold sound earlier k = IfSome k.told (MeetsTail sound earlier k.log k.slots)
 
+-- of the blocks behind which the log was opened each image at each moment since the disk told this meets just those that it doesn't pass
+abbrev pub IsMet : (Rows → Type 0) → Option (List Step) → List Block → Keeper → Type 0
+IsMet sound start earlier k = Tells (KeepsMeeting sound k.log.opened.at earlier) start k.told
+
 -- The log is kept still, from wherever on and since whenever it was. It is flushed as far as before at least. And recovery meets the last of
--- its blocks that are flushed still, behind whatever earlier blocks it did.
+-- its blocks that are flushed still, behind whatever earlier blocks it did, and so does each image at each moment.
 pub record KeepsOn (sound : Rows → Type 0) (k m : Keeper) : Type 0 where
   pub opened : m.log.opened ≡ k.log.opened
   pub further : k.log.flushed ≤ m.log.flushed
   pub keeps : (start : Option (List Step)) (place : ℕ) → place ≤ k.log.flushed → IsKept sound start place k → IsKept sound start place m
   pub tail : (earlier : List Block) → MeetsTold sound earlier k → MeetsTold sound earlier m
+  pub older : (start : Option (List Step)) (earlier : List Block) → MeetsTold sound earlier k → IsMet sound start earlier k → IsMet sound start earlier m
 
--- at each moment since a log was kept each image has recovered to a front of what is gathered now, from that place on
+-- at each moment since a log was kept each image has recovered to a front of what is gathered now, from that place on, and has met of earlier blocks
+-- those that it doesn't pass
 pub record KeepsMoments (sound : Rows → Type 0) (k m : Keeper) : Type 0 where
   pub opened : m.log.opened ≡ k.log.opened
   pub keeps : (start : Option (List Step)) (place : ℕ) → place ≤ k.log.flushed → IsKept sound start place k
       → Tells (KeepsBlocks sound (state_at m.log []) m.log.gathered place) start m.told
+  pub older : (start : Option (List Step)) (earlier : List Block) → MeetsTold sound earlier k → IsMet sound start earlier k → IsMet sound start earlier m
 
 -- What a call does to a log that was held: where the call was answered, it is held still. Where the disk failed, each image recovers to
 -- what was flushed at least.

@@ -1,5 +1,5 @@
 -- What is so where memory runs out while a script is run.
-use Rattle.std.specs.Prelude.{◌≡◌, ◌<◌, ◌≤◌, List, [], length, Option, Result, Err, Vec}
+use Rattle.std.specs.Prelude.{◌≡◌, ◌<◌, ◌≤◌, List, [], length, Option, IfSome, Result, Err, Vec}
 use Rattle.std.specs.declared.alloc.Global.{Global}
 use Rattle.erm_model.specs.Rows.{Rows}
 use Rattle.erm_outside.specs.Disk.{Step, Tells}
@@ -12,7 +12,10 @@ use Rattle.erm_world.specs.World.{View}
 use Rattle.erm_lines.specs.Executions.{IsCourse, Move, closed_in}
 use Rattle.erm_ckpt.specs.declared.slot.Slots.{Slots}
 use Rattle.erm_checkpoint.specs.Taken.{state_at}
+use Rattle.erm_block.specs.declared.block.Block.{Block}
 use Rattle.erm_crash.specs.Kept.{KeepsBlocks}
+use Rattle.erm_crash.specs.Older.{KeepsMeeting}
+use Rattle.erm_told_log.specs.Tail.{MeetsTail}
 use Rattle.erm_log_run.specs.declared.stops.LineStop.{LineStop}
 use Rattle.erm_log_run.specs.declared.stops.LineStop.TheVariants.{Memory}
 use Rattle.erm_log_run.specs.declared.stops.RunStop.{RunStop}
@@ -48,7 +51,8 @@ pub record Starves (sound : Rows → Type 0) (v : View) (script : List ScriptLin
   pub older : Tells (AreRemoved (removed_to k.slots answers) k.log.flushed now.log.flushed) k.told now.told
 
 -- Memory ran out while a script was run over a world that was just opened, behind some of its lines. At each moment each image recovers to a front of
--- what was gathered up to then, and of the log's older segments just those are gone that the checkpoints removed.
+-- what was gathered up to then, and of the log's older segments just those are gone that the checkpoints removed. Of the blocks behind which the world
+-- was opened each image meets just those that it doesn't pass.
 pub record WasStarved (sound : Rows → Type 0) (v : View) (script : List ScriptLine) (first : Log) (slots : Slots) (before after : Option (List Step)) : Type 0 where
   pub answers : List Answer
   pub view : View
@@ -59,3 +63,4 @@ pub record WasStarved (sound : Rows → Type 0) (v : View) (script : List Script
   pub is : IsLog sound log
   pub moments : Tells (KeepsBlocks sound (state_at first []) log.gathered first.flushed) before after
   pub older : Tells (AreRemoved (removed_to slots answers) first.flushed log.flushed) before after
+  pub met : (earlier : List Block) → IfSome before (MeetsTail sound earlier first slots) → Tells (KeepsMeeting sound first.opened.at earlier) before after

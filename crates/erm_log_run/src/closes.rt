@@ -93,6 +93,9 @@ fn flush_up<W: ScriptWorld, D: Disk>(world: &mut W, store: &mut Store<D>) -> Res
     erm_crash::moments_go_on::<RowsOf<W>>();
     erm_checkpoint::flushed_logs_are_held::<RowsOf<W>>();
     erm_told_log::flushed_logs_meet_more::<RowsOf<W>>();
+    erm_crash::older_blocks_go_on::<RowsOf<W>>();
+    erm_crash::flushes_keep_older_blocks::<RowsOf<W>>();
+    erm_told_log::held_disks_meet_older_blocks::<RowsOf<W>>();
     match store.flusher.flush_all(&mut store.disk, world) {
         FlushStop::Empty { .. } => Ok(()),
         FlushStop::Unfilled { .. } => Ok(()),

@@ -36,6 +36,9 @@ pub fn flush_line<W: ScriptWorld, D: Disk>(
     erm_crash::moments_go_on::<RowsOf<W>>();
     erm_checkpoint::flushed_logs_are_held::<RowsOf<W>>();
     erm_told_log::flushed_logs_meet_more::<RowsOf<W>>();
+    erm_crash::older_blocks_go_on::<RowsOf<W>>();
+    erm_crash::flushes_keep_older_blocks::<RowsOf<W>>();
+    erm_told_log::held_disks_meet_older_blocks::<RowsOf<W>>();
     match store.flusher.flush_turn(&mut store.disk, world) {
         Ok(place) => Ok(Answer::Flushed(place)),
         Err(FlushStop::Empty { at }) => Ok(Answer::Empty(at)),
@@ -66,6 +69,9 @@ pub fn checkpoint_line<W: ScriptWorld, D: Disk>(
     erm_crash::moments_go_on::<RowsOf<W>>();
     erm_checkpoint::flushed_logs_are_held::<RowsOf<W>>();
     erm_told_log::flushed_logs_meet_more::<RowsOf<W>>();
+    erm_crash::older_blocks_go_on::<RowsOf<W>>();
+    erm_crash::flushes_keep_older_blocks::<RowsOf<W>>();
+    erm_told_log::held_disks_meet_older_blocks::<RowsOf<W>>();
     match store.flusher.flush_all(&mut store.disk, world) {
         FlushStop::Empty { .. } => checkpoint_flushed(world, store),
         FlushStop::Unfilled { at } => Ok(Answer::Unfilled(at)),
@@ -95,6 +101,9 @@ fn checkpoint_flushed<W: ScriptWorld, D: Disk>(
     erm_crash::checkpoints_keep::<RowsOf<W>>();
     erm_crash::moments_go_on::<RowsOf<W>>();
     erm_told_log::checkpoints_pass_all::<RowsOf<W>>();
+    erm_crash::older_blocks_go_on::<RowsOf<W>>();
+    erm_crash::checkpoints_keep_older_blocks::<RowsOf<W>>();
+    erm_told_log::held_disks_meet_older_blocks::<RowsOf<W>>();
     let Store {
         disk,
         flusher,

@@ -17,6 +17,7 @@ ghost use Rattle.erm_outside.specs.Faults.{Rose};
 ghost use Rattle.erm_ckpt.specs.declared.slot.TheConstants.{LOG_START};
 ghost use Rattle.erm_checkpoint.specs.Taken.{HoldsLog, state_at};
 ghost use Rattle.erm_crash.specs.Kept.{KeepsBlocks};
+ghost use Rattle.erm_crash.specs.Older.{KeepsMeeting};
 ghost use Rattle.erm_told_log.specs.Tail.{MeetsTail};
 ghost use Rattle.erm_log_run.specs.Keeping.{CountsFaults, IsHeld, Keeps, keeper_of};
 ghost use Rattle.erm_log_run.specs.Lines.{AreLinesOf};
@@ -25,7 +26,7 @@ ghost use Rattle.erm_log_run.specs.Runs.{IsCutReportOf, IsReportOf, OnFault, Ran
 ghost use Rattle.erm_log_run.specs.Saving.{AreRemoved, AreSaved, MayBeRemoved, RemovesTo, removed_to, removing_to, saved_at};
 ghost use Rattle.erm_log_run.specs.Starving.{OnMemory, Starves, WasStarved, WhereStarved};
 
-use crate::{LineStop, RunStop, Store, answer_all, by_seat, close_all, cut_report};
+use crate::{LineStop, RowsOf, RunStop, Store, answer_all, by_seat, close_all, cut_report};
 use erm_model::{Name, Receipt, Seat};
 use erm_outside::Disk;
 use erm_report::{Answer, Line};
@@ -125,6 +126,10 @@ pub fn run_script<W: ScriptWorld, D: Disk>(
     ensures tail { OnOk result ((earlier : List Block) → IfSome (D.told store.old.disk) (MeetsTail W.rows_law.meets earlier (W.log world.old) store.old.slots)
         → IfSome (D.told store.new.disk) (MeetsTail W.rows_law.meets earlier (W.log world.new) store.new.slots)) }
 
+    // And each image at each moment meets of those earlier blocks just the ones that it doesn't pass.
+    ensures met { UnlessMemory result ((earlier : List Block) → IfSome (D.told store.old.disk) (MeetsTail W.rows_law.meets earlier (W.log world.old) store.old.slots)
+        → Tells (KeepsMeeting W.rows_law.meets (W.log world.old).opened.at earlier) (D.told store.old.disk) (D.told store.new.disk)) }
+
     // At each moment each image recovers to a front of what was gathered: to all below a place that a line acknowledges, from some moment
     // on to the end.
     ensures moments { UnlessMemory result (Tells (KeepsBlocks W.rows_law.meets (state_at (W.log world.old) []) (W.log world.new).gathered (W.log world.old).flushed) (D.told store.old.disk) (D.told store.new.disk)) }
@@ -159,6 +164,7 @@ pub fn run_script<W: ScriptWorld, D: Disk>(
     erm_causes::parts_have_causes();
     erm_causes::parts_refuse_with_cause();
     erm_summary::summaries_are_good();
+    erm_told_log::held_disks_meet_older_blocks::<RowsOf<W>>();
     let sessions = names.len() as Seat;
     let mut answers = Vec::with_capacity(alloc, script.len())?;
 

@@ -19,7 +19,7 @@ returns-in-Empty g c =
     let turn = c.in-Empty.ensures.turns in
     let k : Keeper = keeper_of l s (g.D.Disk.told s.disk) in
     let m : Keeper = record { log = n; slots = s.slots; run = s.run; failed = c.flush_all.new.self; told = g.D.Disk.told c.flush_all.new.disk } in
-    let laws : FlushLaws sound = record { go_on = c.moments_go_on.ensures; keep = c.flushes_keep.ensures; hold = c.flushed_logs_are_held.ensures; meet = c.flushed_logs_meet_more.ensures } in
+    let laws : FlushLaws sound = record { go_on = c.moments_go_on.ensures; keep = c.flushes_keep.ensures; hold = c.flushed_logs_are_held.ensures; meet = c.flushed_logs_meet_more.ensures; meetings = c.older_blocks_go_on.ensures; earlier = c.held_disks_meet_older_blocks.ensures; older = c.flushes_keep_older_blocks.ensures } in
     let f : Flushes sound k m = record { held = c.requires.held; slots = refl; run = refl; is = is; goes = turn.2; writes = c.in-Empty.ensures.any_moment c.requires.held.well } in
     let before = g.met.W.ScriptWorld.one_log w c.requires.stands in
     let after = g.met.W.ScriptWorld.one_log new stay.0 in
@@ -50,7 +50,7 @@ returns-in-Unfilled g c =
     let turn = c.in-Unfilled.ensures.turns in
     let k : Keeper = keeper_of l s (g.D.Disk.told s.disk) in
     let m : Keeper = record { log = n; slots = s.slots; run = s.run; failed = c.flush_all.new.self; told = g.D.Disk.told c.flush_all.new.disk } in
-    let laws : FlushLaws sound = record { go_on = c.moments_go_on.ensures; keep = c.flushes_keep.ensures; hold = c.flushed_logs_are_held.ensures; meet = c.flushed_logs_meet_more.ensures } in
+    let laws : FlushLaws sound = record { go_on = c.moments_go_on.ensures; keep = c.flushes_keep.ensures; hold = c.flushed_logs_are_held.ensures; meet = c.flushed_logs_meet_more.ensures; meetings = c.older_blocks_go_on.ensures; earlier = c.held_disks_meet_older_blocks.ensures; older = c.flushes_keep_older_blocks.ensures } in
     let f : Flushes sound k m = record { held = c.requires.held; slots = refl; run = refl; is = is; goes = turn.2; writes = c.in-Unfilled.ensures.any_moment c.requires.held.well } in
     let before = g.met.W.ScriptWorld.one_log w c.requires.stands in
     let after = g.met.W.ScriptWorld.one_log new stay.0 in
@@ -81,7 +81,7 @@ returns-in-DiskFault g c =
     let turn = c.in-DiskFault.ensures.turns in
     let k : Keeper = keeper_of l s (g.D.Disk.told s.disk) in
     let m : Keeper = record { log = n; slots = s.slots; run = s.run; failed = c.flush_all.new.self; told = g.D.Disk.told c.flush_all.new.disk } in
-    let laws : FlushLaws sound = record { go_on = c.moments_go_on.ensures; keep = c.flushes_keep.ensures; hold = c.flushed_logs_are_held.ensures; meet = c.flushed_logs_meet_more.ensures } in
+    let laws : FlushLaws sound = record { go_on = c.moments_go_on.ensures; keep = c.flushes_keep.ensures; hold = c.flushed_logs_are_held.ensures; meet = c.flushed_logs_meet_more.ensures; meetings = c.older_blocks_go_on.ensures; earlier = c.held_disks_meet_older_blocks.ensures; older = c.flushes_keep_older_blocks.ensures } in
     let f : Flushes sound k m = record { held = c.requires.held; slots = refl; run = refl; is = is; goes = turn.2; writes = c.in-DiskFault.ensures.any_moment c.requires.held.well } in
     record {
       stands = stay.0;

@@ -23,7 +23,7 @@ returns-in-Ok g c =
     let did = c.in-Ok.ensures.checkpoints in
     let k : Keeper = keeper_of l s (g.D.Disk.told s.disk) in
     let m : Keeper = record { log = n; slots = c.checkpoint_turn.new.slots; run = s.run; failed = c.checkpoint_turn.new.flusher; told = g.D.Disk.told c.checkpoint_turn.new.disk } in
-    let laws : CheckpointLaws sound = record { go_on = c.moments_go_on.ensures; keep = c.checkpoints_keep.ensures; pass = c.checkpoints_pass_all.ensures } in
+    let laws : CheckpointLaws sound = record { go_on = c.moments_go_on.ensures; keep = c.checkpoints_keep.ensures; pass = c.checkpoints_pass_all.ensures; meetings = c.older_blocks_go_on.ensures; earlier = c.held_disks_meet_older_blocks.ensures; older = c.checkpoints_keep_older_blocks.ensures } in
     let f : Checkpoints sound k m = record { held = c.requires.held; run = refl; is = is; goes = did.2; takes = c.in-Ok.ensures.any_moment c.requires.held.well } in
     let before = g.met.W.ScriptWorld.one_log w c.requires.stands in
     let after = g.met.W.ScriptWorld.one_log new stay.0 in
@@ -71,7 +71,7 @@ returns-in-Err-DiskFault g c =
     let did = subst (λ (stop : CheckpointStop). taken.Checkpoints (Err stop) s.flusher c.checkpoint_turn.new.flusher l n) c.in-Err-DiskFault.field-0-is c.in-Err-DiskFault.ensures.checkpoints in
     let k : Keeper = keeper_of l s (g.D.Disk.told s.disk) in
     let m : Keeper = record { log = n; slots = c.checkpoint_turn.new.slots; run = s.run; failed = c.checkpoint_turn.new.flusher; told = g.D.Disk.told c.checkpoint_turn.new.disk } in
-    let laws : CheckpointLaws sound = record { go_on = c.moments_go_on.ensures; keep = c.checkpoints_keep.ensures; pass = c.checkpoints_pass_all.ensures } in
+    let laws : CheckpointLaws sound = record { go_on = c.moments_go_on.ensures; keep = c.checkpoints_keep.ensures; pass = c.checkpoints_pass_all.ensures; meetings = c.older_blocks_go_on.ensures; earlier = c.held_disks_meet_older_blocks.ensures; older = c.checkpoints_keep_older_blocks.ensures } in
     let f : Checkpoints sound k m = record { held = c.requires.held; run = refl; is = is; goes = did.2; takes = c.in-Err-DiskFault.ensures.any_moment c.requires.held.well } in
     record {
       stands = stay.0;

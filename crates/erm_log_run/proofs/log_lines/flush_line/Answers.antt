@@ -25,7 +25,7 @@ returns-in-Ok g c =
     let turn = c.in-Ok.ensures.turn in
     let k : Keeper = keeper_of l s (g.D.Disk.told s.disk) in
     let m : Keeper = record { log = n; slots = s.slots; run = s.run; failed = c.flush_turn.new.self; told = g.D.Disk.told c.flush_turn.new.disk } in
-    let laws : FlushLaws sound = record { go_on = c.moments_go_on.ensures; keep = c.flushes_keep.ensures; hold = c.flushed_logs_are_held.ensures; meet = c.flushed_logs_meet_more.ensures } in
+    let laws : FlushLaws sound = record { go_on = c.moments_go_on.ensures; keep = c.flushes_keep.ensures; hold = c.flushed_logs_are_held.ensures; meet = c.flushed_logs_meet_more.ensures; meetings = c.older_blocks_go_on.ensures; earlier = c.held_disks_meet_older_blocks.ensures; older = c.flushes_keep_older_blocks.ensures } in
     let f : Flushes sound k m = record { held = c.requires.held; slots = refl; run = refl; is = is; goes = turn.2.goes_on; writes = c.in-Ok.ensures.any_moment c.requires.held.well } in
     let stops : IsStop n n.flushed = subst (IsStop n) (sym (turn.3 ∙ turn.4)) turn.2.stops in
     record {
@@ -56,7 +56,7 @@ returns-in-Err-Empty g c =
     let stays = subst (λ (stop : FlushStop). Stays (Err stop) (g.D.Disk.told s.disk) (g.D.Disk.told c.flush_turn.new.disk)) c.in-Err-Empty.field-0-is c.in-Err-Empty.ensures.stays in
     let k : Keeper = keeper_of l s (g.D.Disk.told s.disk) in
     let m : Keeper = record { log = n; slots = s.slots; run = s.run; failed = c.flush_turn.new.self; told = g.D.Disk.told c.flush_turn.new.disk } in
-    let laws : FlushLaws sound = record { go_on = c.moments_go_on.ensures; keep = c.flushes_keep.ensures; hold = c.flushed_logs_are_held.ensures; meet = c.flushed_logs_meet_more.ensures } in
+    let laws : FlushLaws sound = record { go_on = c.moments_go_on.ensures; keep = c.flushes_keep.ensures; hold = c.flushed_logs_are_held.ensures; meet = c.flushed_logs_meet_more.ensures; meetings = c.older_blocks_go_on.ensures; earlier = c.held_disks_meet_older_blocks.ensures; older = c.flushes_keep_older_blocks.ensures } in
     let f : Flushes sound k m = record { held = c.requires.held; slots = refl; run = refl; is = is; goes = goes_nowhere l n turn.2; writes = c.in-Err-Empty.ensures.any_moment c.requires.held.well } in
     let stops : IsStop n n.flushed = subst (λ (x : Log). IsStop x x.flushed) (sym turn.2) (inl (sym turn.4)) in
     record {
@@ -87,7 +87,7 @@ returns-in-Err-Unfilled g c =
     let stays = subst (λ (stop : FlushStop). Stays (Err stop) (g.D.Disk.told s.disk) (g.D.Disk.told c.flush_turn.new.disk)) c.in-Err-Unfilled.field-0-is c.in-Err-Unfilled.ensures.stays in
     let k : Keeper = keeper_of l s (g.D.Disk.told s.disk) in
     let m : Keeper = record { log = n; slots = s.slots; run = s.run; failed = c.flush_turn.new.self; told = g.D.Disk.told c.flush_turn.new.disk } in
-    let laws : FlushLaws sound = record { go_on = c.moments_go_on.ensures; keep = c.flushes_keep.ensures; hold = c.flushed_logs_are_held.ensures; meet = c.flushed_logs_meet_more.ensures } in
+    let laws : FlushLaws sound = record { go_on = c.moments_go_on.ensures; keep = c.flushes_keep.ensures; hold = c.flushed_logs_are_held.ensures; meet = c.flushed_logs_meet_more.ensures; meetings = c.older_blocks_go_on.ensures; earlier = c.held_disks_meet_older_blocks.ensures; older = c.flushes_keep_older_blocks.ensures } in
     let f : Flushes sound k m = record { held = c.requires.held; slots = refl; run = refl; is = is; goes = goes_nowhere l n turn.2; writes = c.in-Err-Unfilled.ensures.any_moment c.requires.held.well } in
     let stops : IsStop n n.flushed = subst (λ (x : Log). IsStop x x.flushed) (sym turn.2) (inr turn.5) in
     record {
@@ -115,7 +115,7 @@ returns-in-Err-DiskFault g c =
     let turn = subst (λ (stop : FlushStop). Turns (Err stop) s.flusher c.flush_turn.new.self l n) c.in-Err-DiskFault.field-0-is c.in-Err-DiskFault.ensures.turn in
     let k : Keeper = keeper_of l s (g.D.Disk.told s.disk) in
     let m : Keeper = record { log = n; slots = s.slots; run = s.run; failed = c.flush_turn.new.self; told = g.D.Disk.told c.flush_turn.new.disk } in
-    let laws : FlushLaws sound = record { go_on = c.moments_go_on.ensures; keep = c.flushes_keep.ensures; hold = c.flushed_logs_are_held.ensures; meet = c.flushed_logs_meet_more.ensures } in
+    let laws : FlushLaws sound = record { go_on = c.moments_go_on.ensures; keep = c.flushes_keep.ensures; hold = c.flushed_logs_are_held.ensures; meet = c.flushed_logs_meet_more.ensures; meetings = c.older_blocks_go_on.ensures; earlier = c.held_disks_meet_older_blocks.ensures; older = c.flushes_keep_older_blocks.ensures } in
     let f : Flushes sound k m = record { held = c.requires.held; slots = refl; run = refl; is = is; goes = turn.2.goes_on; writes = c.in-Err-DiskFault.ensures.any_moment c.requires.held.well } in
     record {
       stands = stay.0;

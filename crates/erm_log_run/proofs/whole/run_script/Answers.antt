@@ -15,7 +15,7 @@ use Rattle.erm_log_run.specs.Runs.{RanAll, WasCut, WasRun}
 use Rattle.erm_log_run.specs.Saving.{RemovesTo, removed_to, removing_to}
 use Rattle.erm_log_run.specs.Starving.{Starves, WasStarved, WhereStarved}
 use Rattle.erm_log_run.proofs.Good.{CutLaws, RunLaws, is_run, told_cut, told_tight}
-use Rattle.erm_log_run.proofs.Kept.{first_kept, moments_at_fault, moments_of}
+use Rattle.erm_log_run.proofs.Kept.{first_kept, met_at_fault, met_of, moments_at_fault, moments_of}
 use Rattle.erm_log_run.proofs.Lasting.{all_last_at_fault, all_last_now, cut_tells, summary_tells}
 use Rattle.erm_log_run.proofs.Seats.{are_closed}
 use Rattle.erm_log_run.proofs.Starving.{memory_so, starved_first, starved_last, was_starved}
@@ -122,6 +122,7 @@ returns-in-Ok g c =
       flushed = ran.3;
       holds = keeps.0.holds;
       tail = keeps.1.tail;
+      met = met_of sound c.held_disks_meet_older_blocks.ensures k m (g.met.W.LogWorld.is_log w (g.met.W.ScriptWorld.may_flush w c.requires.stands)) keeps.1;
       moments = moments;
       acknowledged = all_last_now sound k m answers lines keeps.1 c.in-Ok.ensures.told (summary_tells opening names script answers closed lines sums) moments;
       cut = tt;
@@ -193,6 +194,7 @@ returns-in-Err-DiskFault g c =
       flushed = tt;
       holds = tt;
       tail = tt;
+      met = met_at_fault sound c.held_disks_meet_older_blocks.ensures k m (g.met.W.LogWorld.is_log w (g.met.W.ScriptWorld.may_flush w c.requires.stands)) keeps;
       moments = moments;
       acknowledged = all_last_at_fault sound k m answers lines keeps told (cut_tells lines c.args.start.stamp c.args.start.run script answers was.fault was.lines_ok) moments;
       cut = (was, (λ fits. told_cut laws v t script opening is names c.requires.sessions lines was fits), older);
@@ -213,7 +215,7 @@ returns-in_err-answers-clause-starved g c =
     let script = c.args.script.now in
     let short = c.requires.short in
     memory_so _ (WasStarved sound v script k.log k.slots k.told k.told)
-    (was_starved sound v script k k.told c.requires.opened c.requires.ranges (omega (arith, short)) kept
+    (was_starved sound c.held_disks_meet_older_blocks.ensures v script k k.told c.requires.opened c.requires.ranges (omega (arith, short)) (g.met.W.LogWorld.is_log w (g.met.W.ScriptWorld.may_flush w c.requires.stands)) kept
     (starved_first sound v script k of (g.met.W.LogWorld.is_log w (g.met.W.ScriptWorld.may_flush w c.requires.stands))))
 
 pub returns-in_err-lines-clause-starved : goal.returns-in_err-lines-clause-starved
@@ -228,7 +230,7 @@ returns-in_err-lines-clause-starved g c =
     let script = c.args.script.now in
     let short = c.requires.short in
     memory_so _ (WasStarved sound v script k.log k.slots k.told k.told)
-    (was_starved sound v script k k.told c.requires.opened c.requires.ranges (omega (arith, short)) kept
+    (was_starved sound c.held_disks_meet_older_blocks.ensures v script k k.told c.requires.opened c.requires.ranges (omega (arith, short)) (g.met.W.LogWorld.is_log w (g.met.W.ScriptWorld.may_flush w c.requires.stands)) kept
     (starved_first sound v script k of (g.met.W.LogWorld.is_log w (g.met.W.ScriptWorld.may_flush w c.requires.stands))))
 
 pub returns : goal.returns
@@ -250,12 +252,13 @@ returns g c =
       flushed = tt;
       holds = tt;
       tail = tt;
+      met = tt;
       moments = tt;
       acknowledged = tt;
       cut = tt;
       fault = tt;
       sound = subst (λ (stop : LineStop). CountsFaults {T = Vec (Option Answer) Global} (Err stop) (g.D.Disk.faults s.disk) (g.D.Disk.faults c.run_all.new.store.disk)) c.in-Err-Memory.field-0-is c.in-Err-Memory.ensures.counts;
-      starved = was_starved sound v script k told c.requires.opened c.requires.ranges (omega (arith, short)) kept starved;
+      starved = was_starved sound c.held_disks_meet_older_blocks.ensures v script k told c.requires.opened c.requires.ranges (omega (arith, short)) (g.met.W.LogWorld.is_log w (g.met.W.ScriptWorld.may_flush w c.requires.stands)) kept starved;
     }
 
 pub returns-in_err-closed-in-Ok-clause-starved : goal.returns-in_err-closed-in-Ok-clause-starved
