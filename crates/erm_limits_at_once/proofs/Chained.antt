@@ -119,7 +119,7 @@ sealed_tells seat stamp current s r active plain is tells =
     (sealed_untold seat stamp current (work_of s.stand) plain (subst (λ (at : Stand). TellsNow seat current at) (active_with s.stand active) tells))
 
 -- a snapshot is told as no transaction, and so is its mark
-mark_tells : (seat stamp : ℕ) (current : Option Transaction) (y : world.Snapshot) (s r : Session) → s.stand ≡ world.snapshot y → r ≡ record { over = s.over; stand = world.sealed (world.marking y) stamp }
+pub mark_tells : (seat stamp : ℕ) (current : Option Transaction) (y : world.Snapshot) (s r : Session) → s.stand ≡ world.snapshot y → r ≡ record { over = s.over; stand = world.sealed (world.marking y) stamp }
     → TellsNow seat current s.stand → (current ≡ None) × TellsNow seat current r.stand
 mark_tells seat stamp current y s r stand is tells =
     let none = now_watching seat current y (subst (λ (at : Stand). TellsNow seat current at) stand tells) in

@@ -1,5 +1,5 @@
 -- What the lines of a session's transactions tell of the records that these touched, and how moves that touch none leave it.
-use Rattle.std.proofs.Common.{◌≡◌, ℕ, Bool, true, cond, List, [], ◌∷◌, ◌++◌, Option, Some, None, refl, sym, ap, subst}
+use Rattle.std.proofs.Common.{◌≡◌, ℕ, Bool, true, cond, List, [], ◌∷◌, ◌++◌, Option, Some, None, refl, sym, ap, subst, inl, inr}
 use Rattle.std.specs.Option.{option_map, option_to_list}
 use Rattle.erm_model.specs.declared.history.VersionWritten.{VersionWritten}
 use Rattle.erm_model.specs.declared.outcome.Phase.TheVariants.{Active}
@@ -15,16 +15,17 @@ use Rattle.erm_good_report.specs.Transactions.{Ending, Exchange, Progress, Trans
 use Rattle.erm_lines.specs.Told.{TellsNow}
 use Rattle.erm_lines.proofs.Keeping.{NoneRuns, begins_bare}
 use Rattle.erm_causes.proofs.Operated.{EndsBy, GoesOnBy}
-use Rattle.erm_causes.specs.Touched.{Together}
+use Rattle.erm_causes.specs.Touched.{Together, IsBareMark}
 use Rattle.erm_causes.proofs.Fine.{number_told}
 use Rattle.erm_causes.proofs.Quiet.{HasNow, SameLines, now_works}
 use Rattle.erm_causes.proofs.Together.{together_one_more, together_untold}
-use Rattle.erm_causes_at_once.proofs.Quieted.{Quieted, begins, done, seals, still, watched}
+use Rattle.erm_causes_at_once.proofs.Quieted.{Quieted, begins, done, seals, still, watched, marked}
 use Rattle.erm_causes_at_once.proofs.Snapshots.{HasNoWork, Watches}
 use Rattle.erm_causes_at_once.proofs.Snapshots as snapshots
 use Rattle.erm_tight.proofs.Marks.{Marks, marks_nothing}
 use Rattle.erm_tight.proofs.Moves.{MarkedNow, now_active, now_has, now_same}
 use Rattle.erm_tight.proofs.Saved.{Goes, goes_nothing}
+use Rattle.erm_causes.proofs.Snapshots.{marked_none}
 
 -- one that is over tells it where it was sealed
 abbrev pub MarksOne : Transaction → Finished → Type 0
@@ -51,7 +52,7 @@ same_marks p q held s same marks = record {
 pub now_rests : (current : Option Transaction) (held other : List (List VersionWritten)) (stand : Stand) → (phase_of stand ≡ Active → ⊥) → MarkedNow current held stand → MarkedNow current other stand
 now_rests None held other world.idle rests now = tt
 now_rests None held other (world.active w) rests now = absurd now
-now_rests None held other (world.sealed w stamp) rests now = absurd now
+now_rests None held other (world.sealed w stamp) rests now = now
 now_rests None held other (world.snapshot x) rests now = tt
 now_rests (Some t) held other world.idle rests now = absurd now
 now_rests (Some t) held other (world.active w) rests now = absurd (rests refl)
@@ -76,6 +77,14 @@ sealed_marks p held other s stamp active marks =
       over = marks.over;
       now = subst (λ (r : Option Transaction). MarkedNow r other (world.sealed (work_of s.stand) stamp)) (sym going.is) going.goes.marks;
     }
+
+-- a snapshot that is sealed with its mark
+pub first_marks : (p : Progress) (held other : Saves) (s : Session) (y : world.Snapshot) (stamp : ℕ) → p.current ≡ None → AreMarks p held s
+    → AreMarks p other (record { over = s.over; stand = world.sealed (world.marking y) stamp })
+first_marks p held other s y stamp none marks = record {
+  over = marks.over;
+  now = subst (λ (r : Option Transaction). MarkedNow r other (world.sealed (world.marking y) stamp)) (sym none) refl;
+}
 
 done_marks : (seat : ℕ) (p : Progress) (held other : Saves) (s : Session) (w : Work) (fate : Fate) (ending : Ending) → HasNow s.stand w → TellsNow seat p.current s.stand → AreMarks p held s
     → AreMarks (ended ending p) other (record { over = s.over ++ record { work = w; fate = fate } ∷ []; stand = world.idle })
@@ -116,7 +125,17 @@ watched_marks p q other s t over now rests (snapshots.watches x is) marks =
 watched_marks p q other s t over now rests (snapshots.ends number begin is) marks =
     let g : Finished = record { work = world.begun number begin; fate = world.aborts } in
     subst (λ (r : Session). AreMarks q other r) (sym is)
-    (none_marks p q other (record { over = s.over ++ g ∷ []; stand = world.idle }) over now (together_untold MarksOne p.over s.over g marks refl) tt)
+    (none_marks p q other (record { over = s.over ++ g ∷ []; stand = world.idle }) over now (together_untold MarksOne p.over s.over g marks (inl refl)) tt)
+
+-- its mark is over
+ended_marks : (p q : Progress) (held other : Saves) (s t : Session) (w : Work) (own : ℕ) → q.over ≡ p.over → q.current ≡ None → p.current ≡ None → s.stand ≡ world.sealed w own
+    → t ≡ record { over = s.over ++ record { work = w; fate = world.marked own w.begin } ∷ []; stand = world.idle } → AreMarks p held s → AreMarks q other t
+ended_marks p q held other s t w own over now none stand is marks =
+    let g : Finished = record { work = w; fate = world.marked own w.begin } in
+    let bare : IsBareMark w = subst (λ (at : Stand). MarkedNow None held at) stand (subst (λ (r : Option Transaction). MarkedNow r held s.stand) none marks.now) in
+    subst (λ (r : Session). AreMarks q other r) (sym is)
+    (none_marks p q other (record { over = s.over ++ g ∷ []; stand = world.idle }) over now
+    (together_untold MarksOne p.over s.over g marks.over (inr (record { bare = bare; stamp = own; safe = w.begin; ended = refl }))) tt)
 
 pub quieted_marks : NoneRuns → (seat : ℕ) (asked : Option Command) (a : Answer) (p : Progress) (held other : List (List VersionWritten)) (s t : Session) → TellsNow seat p.current s.stand
     → KeepsOwnSaves t.stand s.stand other held → Quieted asked a s t → AreMarks p held s → AreMarks (heard seat asked a p) other t
@@ -146,6 +165,10 @@ quieted_marks run seat asked a p held other s t tells keeps (watched rests did h
     let none = now_none p.current held s.stand rests marks.now in
     let heard_is = hears seat p none in
     watched_marks p (heard seat asked a p) other s t heard_is.0 heard_is.1 rests did marks.over
+quieted_marks run seat asked a p held other s t tells keeps (marked w own stand marking is hears) marks =
+    let none = marked_none seat p.current w own marking (subst (λ (at : Stand). TellsNow seat p.current at) stand tells) in
+    let heard_is = hears seat p none in
+    ended_marks p (heard seat asked a p) held other s t w own heard_is.0 heard_is.1 none stand is marks
 
 -- LINES that work on the map: the transaction goes on, or ends.
 lines_now : (c : Command) (a : Answer) (t : Transaction) → works_on_map c ≡ true → (with_line (Some c) a t).lines ≡ t.lines ++ record { asked = c; answer = a } ∷ []

@@ -28,16 +28,16 @@ use Rattle.erm_causes.proofs.Operated.{GoesOnBy}
 use Rattle.erm_causes.proofs.Saved.{AtSavepoint, saves_of}
 use Rattle.erm_causes.proofs.Saved as savepoint
 use Rattle.erm_causes.proofs.Tables.{AreMovesInRange}
-use Rattle.erm_causes_at_once.proofs.Quieted.{Lined, Pointed, at_savepoint, backs, named, quiet, rests_keep, saves, sealed_first}
+use Rattle.erm_causes_at_once.proofs.Quieted.{Lined, Pointed, at_savepoint, backs, named, quiet, rests_keep, saves, sealed_first, marked_first}
 use Rattle.erm_causes_at_once.proofs.Walked.{IsAskedInRange, OwnDid, close_did, log_did, move_did}
 use Rattle.erm_told_limits.proofs.Holds.{Laws}
 use Rattle.erm_told_limits.proofs.Ran.{active_with}
-use Rattle.erm_limits_at_once.proofs.Chained.{goes_from, know_there, passes_itself, sealed_tells}
+use Rattle.erm_limits_at_once.proofs.Chained.{goes_from, know_there, passes_itself, sealed_tells, mark_tells}
 use Rattle.erm_tight.proofs.Moves.{IsGoing, now_active}
 use Rattle.erm_tight.proofs.Saved.{Goes, goes_back, goes_saving, goes_still}
 use Rattle.erm_tight.proofs.Whole.{KeyLaws}
 use Rattle.erm_tight_at_once.proofs.Called.{operation_marks}
-use Rattle.erm_tight_at_once.proofs.Marked.{AreMarks, quieted_marks, sealed_marks, went_marks}
+use Rattle.erm_tight_at_once.proofs.Marked.{AreMarks, quieted_marks, sealed_marks, went_marks, first_marks}
 
 -- SAVEPOINTS. One more is made, or gone back to, or none is.
 module _ (v u : View) (seat : ℕ) (active : phase_at v seat ≡ Active) (p : Progress) (marks : AreMarks p (v.saves seat) (v.session seat)) where
@@ -94,10 +94,14 @@ module _ (keys : KeyLaws) (laws : Laws) (begun : NoneRuns)
       → TellsNow seat p.current (v.session seat).stand → AreMarks p (v.saves seat) (v.session seat) → AreMarks (heard seat asked a p) (t.saves seat) (t.session seat)
   lined_marks asked a v t p (quiet did keeps) range goes tells marks =
       quieted_marks begun seat asked a p (v.saves seat) (t.saves seat) (v.session seat) (t.session seat) tells keeps did marks
-  lined_marks asked a v t p (sealed_first stamp between active is did rests) range goes tells marks =
-      quieted_marks begun seat asked a p (t.saves seat) (t.saves seat) between (t.session seat) (sealed_tells seat stamp p.current (v.session seat) between active is tells)
+  lined_marks asked a v t p (sealed_first stamp between active plain is did rests) range goes tells marks =
+      quieted_marks begun seat asked a p (t.saves seat) (t.saves seat) between (t.session seat) (sealed_tells seat stamp p.current (v.session seat) between active plain is tells)
       (rests_keep (t.session seat).stand between.stand (t.saves seat) (t.saves seat) rests) did
       (subst (λ (s : Session). AreMarks p (t.saves seat) s) (sym is) (sealed_marks p (v.saves seat) (t.saves seat) (v.session seat) stamp active marks))
+  lined_marks asked a v t p (marked_first y stamp between stand is did rests) range goes tells marks =
+      let it = mark_tells seat stamp p.current y (v.session seat) between stand is tells in
+      quieted_marks begun seat asked a p (t.saves seat) (t.saves seat) between (t.session seat) it.1 (rests_keep (t.session seat).stand between.stand (t.saves seat) (t.saves seat) rests) did
+      (subst (λ (s : Session). AreMarks p (t.saves seat) s) (sym is) (first_marks p (v.saves seat) (t.saves seat) (v.session seat) y stamp it.0 marks))
   lined_marks asked a v t p (at_savepoint c u is none active passes did hears) range goes tells marks =
       subst (λ (b : Option Command). AreMarks (heard seat b a p) (t.saves seat) (t.session seat)) (sym is)
       (pointed_marks u t seat (ap (λ (s : Session). phase_of s.stand) passes.own ∙ active) p (passed p v u passes marks) c a did)

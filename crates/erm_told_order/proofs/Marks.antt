@@ -1,5 +1,5 @@
 -- The marks that are told: each is over in the world, whose stamps it tells, apart from those of all transactions, and of each other.
-use Rattle.std.proofs.Common.{◌≡◌, ◌≢◌, ℕ, zero, ◌+◌, ◌<◌, ◌≤◌, true, is_some, List, [], ◌∷◌, ◌++◌, AllPairs, Option, Some, None, IfSome, option_map, option_to_list, filter_map, refl, sym, ap, ◌∙◌, subst, inl, ⊎_elim, arith}
+use Rattle.std.proofs.Common.{◌≡◌, ◌≢◌, ℕ, zero, ◌+◌, ◌<◌, ◌≤◌, true, is_some, List, [], ◌∷◌, ◌++◌, AllPairs, Option, Some, None, IfSome, option_map, option_to_list, filter_map, refl, sym, ap, ◌∙◌, subst, inl, ⊎_elim, arith, inr}
 use Rattle.std.specs.List.{cons_option, range_with_len}
 use Rattle.std.proofs.lemmas.Option.{slice_get_within}
 use Rattle.erm_model.specs.Member.{◌∈◌}
