@@ -32,3 +32,4 @@ pub mod OfWentBack
 pub mod OfWindows
 pub mod Reading
 pub mod Tests
+pub mod Unmarked

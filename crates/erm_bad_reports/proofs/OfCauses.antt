@@ -17,9 +17,10 @@ use Rattle.erm_good_report.specs.Windows.{IsCommit}
 use Rattle.erm_good_report.proofs.Parts.{all_pairs_of_two, each_in}
 use Rattle.erm_good_report.proofs.Decided.{own_window}
 use Rattle.erm_bad_reports.specs.CauseCases.{excluded_with, successor_unknown, window_closed}
-use Rattle.erm_bad_reports.specs.Clauses.{BreaksAlone, Clause, Meets, lines_of, told_of, IsLowAt, IsHighAt, Fit, Answered, Closes, Phases, Stamps, Snapshots, Causes, Refusals, Safe, Serial, Ascending, Runs, LowEnds, HighEnds}
+use Rattle.erm_bad_reports.specs.Clauses.{BreaksAlone, Clause, Meets, lines_of, told_of, IsLowAt, IsHighAt, Fit, Answered, Closes, Phases, Stamps, Snapshots, Causes, Refusals, Safe, Marks, Serial, Ascending, Runs, LowEnds, HighEnds}
 use Rattle.erm_bad_reports.proofs.Reading.{owes_of}
 use Rattle.erm_bad_reports.proofs.Tests.{safe_kept, byte, in_one, no_pair_ascends, one_commit_ordered, stamps_agree, first_snapshot, low_ends, high_ends, phases_kept, refusals_kept}
+use Rattle.erm_bad_reports.proofs.Unmarked.{marks_kept}
 
 -- ---- a successor that no commit is
 its_stamp : (u : Transaction) → u ∈ told_of successor_unknown → (s p q : ℕ) → u.ending ≡ Commits s p q → s ≡ 13
@@ -44,6 +45,7 @@ keeps_but_successor Snapshots not = in_one _ _ (first_snapshot (history_of (told
 keeps_but_successor Causes not = absurd (not refl)
 keeps_but_successor Refusals not = refusals_kept successor_unknown refl (record { own = λ t is. tt; saves = λ t is. tt; log = tt; unfilled = tt }, (record { own = λ t is. λ window. absurd (no_successor_in t window); saves = λ t is. tt; log = tt; unfilled = tt }, tt))
 keeps_but_successor Safe not = safe_kept successor_unknown refl
+keeps_but_successor Marks not = marks_kept successor_unknown refl refl refl
 keeps_but_successor Serial not = one_commit_ordered _
 keeps_but_successor Ascending not = no_pair_ascends
 keeps_but_successor Runs not = record { run = (tt, refl) }
@@ -88,6 +90,7 @@ keeps_but_opens Refusals not = refusals_kept window_closed refl (
   ),
 )
 keeps_but_opens Safe not = safe_kept window_closed refl
+keeps_but_opens Marks not = marks_kept window_closed refl refl refl
 keeps_but_opens Serial not = record { same = IsPermutation-refl (history_of both); ascends = all_pairs_of_two (λ a b. ComesBefore (rank_of a) (rank_of b)) _ _ (inr (refl, omega arith)) }
 keeps_but_opens Ascending not = λ i j d less within. absurd (omega arith)
 keeps_but_opens Runs not = record { run = ((ap reply.Value (sym (value_at-empty 0 1)), tt), ((refl, tt), refl)) }
@@ -136,6 +139,7 @@ module _ (succ pred : ℕ) (low : succ < 2 ^ 64) (high : pred < 2 ^ 64) (shut : 
     ),
   )
   keeps_but_end Safe not = safe_kept (excluded_with succ pred) refl
+  keeps_but_end Marks not = marks_kept (excluded_with succ pred) refl refl refl
   keeps_but_end Serial not = one_commit_ordered _
   keeps_but_end Ascending not = λ i j d less within. absurd (omega arith)
   keeps_but_end Runs not = record { run = ((refl, tt), refl) }

@@ -6,6 +6,7 @@ use Rattle.std.specs.List.{All, slice_get}
 use Rattle.std.proofs.lemmas.List.Elements.{All-from_recursion, All-head}
 use Rattle.erm_model.specs.declared.operation.Reply.TheVariants as reply
 use Rattle.erm_model.specs.Member.{◌∈◌}
+use Rattle.erm_model.proofs.Members.{none_in_nil}
 use Rattle.erm_report.specs.declared.answer.Answer.{Answer}
 use Rattle.erm_report.specs.declared.answer.Answer.TheVariants as answer
 use Rattle.erm_report.specs.declared.line.Line.TheVariants as line
@@ -13,13 +14,15 @@ use Rattle.erm_report.specs.Printable.{FitsTypes}
 use Rattle.erm_script.specs.declared.script.Command.TheVariants as command
 use Rattle.erm_script.specs.declared.script.ScriptLine.{ScriptLine}
 use Rattle.erm_good_report.specs.GoodReport.{IsClosedUnseen, IsLineOfLog, answer_lines, fault_line}
+use Rattle.erm_good_report.specs.Marks.{ClosesSealed}
 use Rattle.erm_good_report.specs.Opening.{InTurn}
 use Rattle.erm_good_report.specs.Phases.{FitsPhase, PhasesAgree, phase_of}
-use Rattle.erm_good_report.specs.Refusals.{HasCause, HasCauses, moment_at}
-use Rattle.erm_good_report.specs.Transactions.{Transaction, history_of, said_of, stamp_of}
+use Rattle.erm_good_report.specs.Refusals.{HasCause, HasCauses, IsLeastUndecided, Moment, moment_at}
+use Rattle.erm_good_report.specs.Transactions.{Transaction, history_of, progress_of, said_of, stamp_of}
 use Rattle.erm_good_report.proofs.Parts.{each_in, each_place}
-use Rattle.erm_bad_reports.specs.CutReports.{BreaksCutAlone, AtLog, CutClause, FaultAt, Fitting, IsNoCutReport, MeetsCut, Once, OwesAllBut, Owing, Unseen, cut_lines_of, told_of_cut, closed_too_early, closed_twice, closed_with, cut_number_too_great, cut_without_begin, fault_at_begin, fault_outside, unfilled_below}
+use Rattle.erm_bad_reports.specs.CutReports.{BreaksCutAlone, AtLog, CutClause, FaultAt, Fitting, IsNoCutReport, MeetsCut, Once, OwesAllBut, Owing, Marking, Unseen, cut_lines_of, told_of_cut, closed_too_early, closed_twice, closed_with, cut_number_too_great, cut_without_begin, fault_at_begin, fault_outside, unfilled_below, whole_of}
 use Rattle.erm_bad_reports.proofs.Tests.{no_looks, none_agree, ring_wait, first_snapshot, in_none, in_one, stamps_agree, reach_from_test, untold_in_reach}
+use Rattle.erm_bad_reports.proofs.Unmarked.{IsUnmarked, marks_by_line, marks_closed, marks_kept, moment, snapshot_at}
 
 -- ---- a fault outside the lines
 keeps_but_fault : (other : CutClause) → other ≢ FaultAt → MeetsCut other fault_outside
@@ -28,6 +31,7 @@ keeps_but_fault AtLog not = tt
 keeps_but_fault Fitting not = All-from_recursion FitsTypes (cut_lines_of fault_outside) ((omega arith, omega arith), (tt, tt))
 keeps_but_fault Once not = λ i j d less within. absurd (omega arith)
 keeps_but_fault Unseen not = λ c (k, at). cc
+keeps_but_fault Marking not = marks_kept (whole_of fault_outside) refl refl refl
 keeps_but_fault Owing not = record {
   phases = record { fits = λ i l a at beside. absurd (cc beside); snapshots = λ i l a at beside. absurd (cc beside) };
   stamps = stamps_agree fault_outside.opening [] [] refl refl refl refl refl refl (in_none _) (in_none _) (in_none _);
@@ -65,6 +69,7 @@ keeps_but_log AtLog not = absurd (not refl)
 keeps_but_log Fitting not = All-from_recursion FitsTypes (cut_lines_of fault_at_begin) ((omega arith, omega arith), ((omega arith, tt), tt))
 keeps_but_log Once not = λ i j d less within. absurd (omega arith)
 keeps_but_log Unseen not = λ c (k, at). cc
+keeps_but_log Marking not = marks_kept (whole_of fault_at_begin) refl refl refl
 keeps_but_log Owing not = record {
   phases = record { fits = λ i l a at beside. absurd (cc beside); snapshots = λ i l a at beside. absurd (cc beside) };
   stamps = stamps_agree fault_at_begin.opening [] [] refl refl refl refl refl refl (in_none _) (in_none _) (in_none _);
@@ -102,6 +107,7 @@ keeps_but_fitting AtLog not = tt
 keeps_but_fitting Fitting not = absurd (not refl)
 keeps_but_fitting Once not = λ i j d less within. absurd (omega arith)
 keeps_but_fitting Unseen not = λ c (k, at). cc
+keeps_but_fitting Marking not = marks_kept (whole_of cut_number_too_great) refl refl refl
 keeps_but_fitting Owing not = record {
   phases = record { fits = λ i l a at. absurd (cc); snapshots = λ i l a at. absurd (cc) };
   stamps = stamps_agree cut_number_too_great.opening [] [] refl refl refl refl refl refl (in_none _) (in_none _) (in_none _);
@@ -124,6 +130,7 @@ keeps_but_owing AtLog not = tt
 keeps_but_owing Fitting not = All-from_recursion FitsTypes (cut_lines_of cut_without_begin) ((omega arith, omega arith), ((omega arith, tt), (tt, tt)))
 keeps_but_owing Once not = λ i j d less within. absurd (omega arith)
 keeps_but_owing Unseen not = λ c (k, at). cc
+keeps_but_owing Marking not = marks_kept (whole_of cut_without_begin) refl refl refl
 keeps_but_owing Owing not = absurd (not refl)
 
 idle_get : (answers : List Answer) (a : Answer) (rest : List Answer) → answers ≡ a ∷ rest → a ≡ answer.Replied (reply.Value None) → PhasesAgree cut_without_begin.script answers → ⊥
@@ -156,6 +163,7 @@ keeps_but_once AtLog not = tt
 keeps_but_once Fitting not = All-from_recursion FitsTypes (cut_lines_of closed_twice) ((omega arith, omega arith), ((omega arith, omega arith), ((omega arith, omega arith), (tt, tt))))
 keeps_but_once Once not = absurd (not refl)
 keeps_but_once Unseen not = each_in (IsClosedUnseen closed_twice.script closed_twice.answers) closed_twice.closed (record { fits = tt; sealed = refl; answered = λ i l above at. absurd (none_left i l above at) }, (record { fits = tt; sealed = refl; answered = λ i l above at. absurd (none_left i l above at) }, tt))
+keeps_but_once Marking not = marks_closed (whole_of closed_twice) refl (each_in (λ c. ClosesSealed (progress_of c.session (said_of closed_twice.script closed_twice.answers)).snapshot c.answer) closed_twice.closed (tt, (tt, tt))) refl
 keeps_but_once Owing not = record {
   phases = record { fits = each_place (λ i l a. FitsPhase (phase_of l.session (take i (said_of closed_twice.script closed_twice.answers))) l.command a) closed_twice.script closed_twice.answers (tt, (tt, tt)); snapshots = no_looks closed_twice.script closed_twice.answers refl };
   stamps = stamps_agree closed_twice.opening (told_of_cut closed_twice) (said_of closed_twice.script closed_twice.answers) refl refl refl refl refl refl (in_one _ _ (omega arith)) (in_one _ _ (omega arith)) (in_one _ _ refl);
@@ -182,6 +190,7 @@ keeps_but_unseen AtLog not = inl refl
 keeps_but_unseen Fitting not = All-from_recursion FitsTypes (cut_lines_of closed_too_early) ((omega arith, omega arith), ((omega arith, omega arith), ((omega arith, omega arith), ((omega arith, tt), tt))))
 keeps_but_unseen Once not = λ i j d less within. absurd (omega arith)
 keeps_but_unseen Unseen not = absurd (not refl)
+keeps_but_unseen Marking not = marks_closed (whole_of closed_too_early) refl (each_in (λ c. ClosesSealed (progress_of c.session (said_of closed_too_early.script closed_too_early.answers)).snapshot c.answer) closed_too_early.closed (tt, tt)) refl
 keeps_but_unseen Owing not = record {
   phases = record { fits = each_place (λ i l a. FitsPhase (phase_of l.session (take i (said_of closed_too_early.script closed_too_early.answers))) l.command a) closed_too_early.script closed_too_early.answers (tt, (tt, tt)); snapshots = no_looks closed_too_early.script closed_too_early.answers refl };
   stamps = stamps_agree closed_too_early.opening (told_of_cut closed_too_early) (said_of closed_too_early.script closed_too_early.answers) refl refl refl refl refl refl (in_one _ _ (omega arith)) (in_one _ _ (omega arith)) (in_one _ _ refl);
@@ -202,19 +211,56 @@ pub unseen_breaks : BreaksCutAlone Unseen closed_too_early
 unseen_breaks = record { breaks = λ unseen. (unseen (closed_with 13) (0, refl)).answered 3 _ (omega arith) refl refl; keeps = keeps_but_unseen }
 
 -- ---- a block that isn't decided below the place flushed
+nobody_told : (stamp : ℕ) (u : Transaction) → u ∈ told_of_cut unfilled_below → stamp_of u ≡ Some stamp → ⊥
+nobody_told stamp = in_one (λ u. stamp_of u ≡ Some stamp → ⊥) _ (λ is. cc is)
+
+-- a flush, and a checkpoint, come to the commit that waits
+unfilled_marks : MeetsCut Marking unfilled_below
+unfilled_marks = marks_by_line (whole_of unfilled_below) refl (λ c (k, at). cc)
+    (each_place (λ i l a. IsUnmarked (moment (whole_of unfilled_below) i l) [] (snapshot_at (whole_of unfilled_below) i l) l.command a) unfilled_below.script unfilled_below.answers (
+      record { settles = tt; causes = λ s is. tt; stops = λ place is. cc is },
+      (
+        record { settles = tt; causes = λ s is. tt; stops = λ place is. cc is },
+        (
+          record { settles = tt; causes = λ s is. tt; stops = λ place is. record { beyond = λ x waits. absurd (none_in_nil x waits.told); at = inl (still place) } },
+          (record { settles = tt; causes = λ s is. tt; stops = λ place is. record { beyond = λ x waits. absurd (none_in_nil x waits.told); at = inl (later place) } }, tt),
+        ),
+      ),
+    ))
+  where
+    abbrev flush : ScriptLine
+    flush = record { line = 3; session = 0; command = command.Flush }
+
+    abbrev checkpoint : ScriptLine
+    checkpoint = record { line = 4; session = 0; command = command.Checkpoint }
+
+    still : (place : ℕ) → IsLeastUndecided (moment (whole_of unfilled_below) 2 flush) place
+    still place = record {
+      session = 1;
+      transaction = _;
+      sealed = record { current = refl; sealed = refl; stamp_is = in_one (λ u. u.session ≡ 1 → u.number ≡ 1 → IfSome (stamp_of u) (λ told. told ≡ place)) _ (λ session number. tt) };
+      least = λ other undecided. absurd (nobody_told other undecided.whole undecided.of undecided.told);
+    }
+
+    later : (place : ℕ) → IsLeastUndecided (moment (whole_of unfilled_below) 3 checkpoint) place
+    later place = record {
+      session = 1;
+      transaction = _;
+      sealed = record { current = refl; sealed = refl; stamp_is = in_one (λ u. u.session ≡ 1 → u.number ≡ 1 → IfSome (stamp_of u) (λ told. told ≡ place)) _ (λ session number. tt) };
+      least = λ other undecided. absurd (nobody_told other undecided.whole undecided.of undecided.told);
+    }
+
 keeps_but_unfilled : (other : CutClause) → other ≢ Owing → MeetsCut other unfilled_below
 keeps_but_unfilled FaultAt not = refl
 keeps_but_unfilled AtLog not = inl refl
 keeps_but_unfilled Fitting not = All-from_recursion FitsTypes (cut_lines_of unfilled_below) ((omega arith, omega arith), ((omega arith, omega arith), ((omega arith, omega arith), ((omega arith, omega arith), ((omega arith, omega arith), ((omega arith, tt), tt))))))
 keeps_but_unfilled Once not = λ i j d less within. absurd (omega arith)
 keeps_but_unfilled Unseen not = λ c (k, at). cc
+keeps_but_unfilled Marking not = unfilled_marks
 keeps_but_unfilled Owing not = absurd (not refl)
 
 is_below : HasCauses InTurn unfilled_below.opening unfilled_below.script unfilled_below.answers (told_of_cut unfilled_below) → ⊥
 is_below refusals = let cause = (refusals.each 3 _ _ refl refl).unfilled in let above : 18 ≤ 13 = cause.0 in omega (arith, above)
-
-nobody_told : (stamp : ℕ) (u : Transaction) → u ∈ told_of_cut unfilled_below → stamp_of u ≡ Some stamp → ⊥
-nobody_told stamp = in_one (λ u. stamp_of u ≡ Some stamp → ⊥) _ (λ is. cc is)
 
 pub unfilled_breaks : BreaksCutAlone Owing unfilled_below × OwesAllBut 3 unfilled_below
 unfilled_breaks = (
@@ -235,7 +281,7 @@ unfilled_breaks = (
             saves = λ t is. tt;
             log = (
               let above : 13 < 18 = omega arith in above,
-              inl (record {
+              inl (inl (record {
                 session = 1;
                 transaction = _;
                 sealed = record {
@@ -244,7 +290,7 @@ unfilled_breaks = (
                   stamp_is = in_one (λ u. u.session ≡ 1 → u.number ≡ 1 → IfSome (stamp_of u) (λ told. told ≡ 18)) _ (λ session number. tt);
                 };
                 least = λ other undecided. absurd (nobody_told other undecided.whole undecided.of undecided.told);
-              }),
+              })),
             );
             unfilled = tt;
           },

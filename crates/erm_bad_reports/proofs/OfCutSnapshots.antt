@@ -13,11 +13,12 @@ use Rattle.erm_good_report.specs.Phases.{Closed, phase_of}
 use Rattle.erm_good_report.specs.Transactions.{HasSnapshot, Said, Snapshot, history_of, looks_of, said_of, transactions_of}
 use Rattle.erm_good_report.proofs.Decided.{own_window}
 use Rattle.erm_bad_reports.specs.Clauses.{Case, told_of}
-use Rattle.erm_bad_reports.specs.CutReports.{BreaksCutAlone, AtLog, CutClause, FaultAt, Fitting, IsNoCutReport, MeetsCut, Once, OwesAllButSafe, Owing, Unseen, cut_reply_of_now, cut_lines_of, whole_of}
+use Rattle.erm_bad_reports.specs.CutReports.{BreaksCutAlone, AtLog, CutClause, FaultAt, Fitting, IsNoCutReport, MeetsCut, Once, OwesAllButSafe, Owing, Marking, Unseen, cut_reply_of_now, cut_lines_of, whole_of}
 use Rattle.erm_bad_reports.proofs.OfCutWaits.{said_read}
 use Rattle.erm_bad_reports.proofs.OfReplies.{value_seen}
 use Rattle.erm_bad_reports.proofs.OfSnapshots.{phases_by_line}
 use Rattle.erm_bad_reports.proofs.Tests.{byte, first_snapshot, in_one, refusals_kept, stamps_agree}
+use Rattle.erm_bad_reports.proofs.Unmarked.{marks_kept}
 
 abbrev whole : Case
 whole = whole_of cut_reply_of_now
@@ -32,6 +33,7 @@ keeps_but_owing AtLog not = tt
 keeps_but_owing Fitting not = All-from_recursion FitsTypes (cut_lines_of cut_reply_of_now) ((omega arith, omega arith), ((omega arith, omega arith), ((omega arith, omega arith), ((omega arith, tt), ((omega arith, (omega arith, omega arith, omega arith)), ((omega arith, byte 1 (omega arith)), (tt, tt)))))))
 keeps_but_owing Once not = λ i j d less within. absurd (omega arith)
 keeps_but_owing Unseen not = λ c (k, at). cc
+keeps_but_owing Marking not = marks_kept (whole_of cut_reply_of_now) refl refl refl
 keeps_but_owing Owing not = absurd (not refl)
 
 owes_all_but_safe : OwesAllButSafe cut_reply_of_now

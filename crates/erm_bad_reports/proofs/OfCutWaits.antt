@@ -17,11 +17,12 @@ use Rattle.erm_good_report.specs.Stamps.{AllInTime, Told, begin_told, stamp_prin
 use Rattle.erm_good_report.specs.Transactions.{Said, Transaction, history_of, said_of, stamp_of, stamp_of_ending, steps_of}
 use Rattle.erm_good_report.proofs.Parts.{each_in}
 use Rattle.erm_bad_reports.specs.Clauses.{Case, told_of}
-use Rattle.erm_bad_reports.specs.CutReports.{BreaksCutAlone, AtLog, CutClause, FaultAt, Fitting, IsNoCutReport, MeetsCut, Once, OwesAllButPart, Owing, Unseen, begun_at_a_wait, cut_lines_of, whole_of}
+use Rattle.erm_bad_reports.specs.CutReports.{BreaksCutAlone, AtLog, CutClause, FaultAt, Fitting, IsNoCutReport, MeetsCut, Once, OwesAllButPart, Owing, Marking, Unseen, begun_at_a_wait, cut_lines_of, whole_of}
 use Rattle.erm_bad_reports.specs.StampParts.{Part, MeetsPart, Differ, Least, Begun, Sealed, Begins, Draws, Ascends, Flushes, FlushesFirst, BeginsAscend, Stops, UntoldAfter, UntoldBefore}
 use Rattle.erm_bad_reports.proofs.OfStampParts.{any_place}
 use Rattle.erm_bad_reports.proofs.OfUntold.{first_waited}
 use Rattle.erm_bad_reports.proofs.Tests.{begins_ascend, begins_stop, first_snapshot, flushed_begin, flushed_drawn, phases_kept, refusals_kept, ring_wait, safe_kept, stamps_ascend, stamps_differ, stamps_drawn, untold_after, untold_before}
+use Rattle.erm_bad_reports.proofs.Unmarked.{marks_kept}
 
 -- ---- what was said is read off the lines
 no_end : (xs : List Line) (x : Line) → xs ++ x ∷ [] ≡ [] → ⊥
@@ -57,6 +58,7 @@ keeps_but_owing AtLog not = tt
 keeps_but_owing Fitting not = All-from_recursion FitsTypes (cut_lines_of begun_at_a_wait) ((omega arith, omega arith), ((omega arith, omega arith), ((omega arith, omega arith), ((omega arith, omega arith), ((omega arith, omega arith), ((omega arith, omega arith), ((omega arith, (omega arith, omega arith)), ((omega arith, omega arith), (tt, tt)))))))))
 keeps_but_owing Once not = λ i j d less within. absurd (omega arith)
 keeps_but_owing Unseen not = λ c (k, at). cc
+keeps_but_owing Marking not = marks_kept (whole_of begun_at_a_wait) refl refl refl
 keeps_but_owing Owing not = absurd (not refl)
 
 parts_but_begins : (other : Part) → other ≢ Begins → MeetsPart other whole

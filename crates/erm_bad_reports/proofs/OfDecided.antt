@@ -16,9 +16,10 @@ use Rattle.erm_good_report.specs.Stamps.{Told}
 use Rattle.erm_good_report.specs.Windows.{IsCommit}
 use Rattle.erm_good_report.proofs.Parts.{all_pairs_of_two, each_in}
 use Rattle.erm_bad_reports.specs.CauseCases.{decided_later, excluded_later}
-use Rattle.erm_bad_reports.specs.Clauses.{BreaksAlone, Clause, Meets, lines_of, told_of, IsLowAt, IsHighAt, Fit, Answered, Closes, Phases, Stamps, Snapshots, Causes, Refusals, Safe, Serial, Ascending, Runs, LowEnds, HighEnds}
+use Rattle.erm_bad_reports.specs.Clauses.{BreaksAlone, Clause, Meets, lines_of, told_of, IsLowAt, IsHighAt, Fit, Answered, Closes, Phases, Stamps, Snapshots, Causes, Refusals, Safe, Marks, Serial, Ascending, Runs, LowEnds, HighEnds}
 use Rattle.erm_bad_reports.proofs.Reading.{owes_of}
 use Rattle.erm_bad_reports.proofs.Tests.{safe_kept, byte, first_snapshot, one_commit_ordered, phases_kept, stamps_agree}
+use Rattle.erm_bad_reports.proofs.Unmarked.{marks_kept}
 
 abbrev later_told : List Transaction
 later_told = told_of decided_later
@@ -52,6 +53,7 @@ keeps_but_later Causes not = each_in (λ t. HasCauseOf t.ending later_told t) la
     (window _ refl (record { line = _; of = (0, refl); names = refl }), (record { opens = omega arith; closes = omega arith; succ_cause = inl refl; pred_cause = inl refl }, tt))
 keeps_but_later Refusals not = absurd (not refl)
 keeps_but_later Safe not = safe_kept decided_later refl
+keeps_but_later Marks not = marks_kept decided_later refl refl refl
 keeps_but_later Serial not = record { same = IsPermutation-refl (history_of later_told); ascends = all_pairs_of_two (λ a b. ComesBefore (rank_of a) (rank_of b)) _ _ (inr (refl, omega arith)) }
 keeps_but_later Ascending not = λ i j d less within. absurd (omega arith)
 keeps_but_later Runs not = record { run = ((ap reply.Value (sym (value_at-empty 0 1)), tt), ((refl, tt), refl)) }
@@ -115,6 +117,7 @@ keeps_but_excluded Causes not = each_in (λ t. HasCauseOf t.ending excluded_told
     (shut _ refl (record { line = _; of = (0, refl); names = refl }), (record { opens = omega arith; closes = omega arith; succ_cause = inl refl; pred_cause = inl refl }, tt))
 keeps_but_excluded Refusals not = absurd (not refl)
 keeps_but_excluded Safe not = safe_kept excluded_later refl
+keeps_but_excluded Marks not = marks_kept excluded_later refl refl refl
 keeps_but_excluded Serial not = one_commit_ordered _
 keeps_but_excluded Ascending not = λ i j d less within. absurd (omega arith)
 keeps_but_excluded Runs not = record { run = ((refl, tt), refl) }

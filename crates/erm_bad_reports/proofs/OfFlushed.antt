@@ -12,10 +12,11 @@ use Rattle.erm_good_report.specs.Phases.{phase_of}
 use Rattle.erm_good_report.specs.Refusals.{HasCause, IsAboveAll, Moment, flushed_at}
 use Rattle.erm_good_report.specs.Transactions.{Said, Transaction, history_of, progress_of, said_of}
 use Rattle.erm_good_report.proofs.Decided.{own_window}
-use Rattle.erm_bad_reports.specs.Clauses.{Clause, Meets, lines_of, told_of, Fit, Answered, Closes, Phases, Stamps, Snapshots, Causes, Refusals, Safe, Serial, Ascending, Runs, LowEnds, HighEnds}
+use Rattle.erm_bad_reports.specs.Clauses.{Clause, Meets, lines_of, told_of, Fit, Answered, Closes, Phases, Stamps, Snapshots, Causes, Refusals, Safe, Marks, Serial, Ascending, Runs, LowEnds, HighEnds}
 use Rattle.erm_bad_reports.specs.StampParts.{BreaksPartAlone, Part, MeetsPart, Differ, Least, Begun, Sealed as SealedPart, Begins, Draws, Ascends, Flushes, FlushesFirst, BeginsAscend, Stops, UntoldAfter, UntoldBefore, begun_below_the_flushed, drawn_below_the_flushed}
 use Rattle.erm_bad_reports.proofs.Reading.{owes_of}
 use Rattle.erm_bad_reports.proofs.Tests.{safe_kept, begin_over, in_one, no_commit_ordered, one_commit_ordered, no_pair_ascends, first_snapshot, flushed_begin, flushed_drawn, low_ends, high_ends, phases_kept, refusals_kept, stamps_ascend, stamps_begin, stamps_differ, stamps_drawn, begins_ascend, begins_stop, untold_after, untold_before}
+use Rattle.erm_bad_reports.proofs.Unmarked.{marks_kept}
 
 -- a place of a report, where one is asked for
 any_place : Said
@@ -52,6 +53,7 @@ keeps_but_flushes Causes not = in_one _ _ tt
 keeps_but_flushes Refusals not = refusals_kept begun_below_the_flushed refl
     (checkpointed _ 18 (omega arith) (λ session. refl) (λ session. idle_open), (record { own = λ t is. tt; saves = λ t is. tt; log = tt; unfilled = tt }, (record { own = λ t is. tt; saves = λ t is. tt; log = tt; unfilled = tt }, tt)))
 keeps_but_flushes Safe not = safe_kept begun_below_the_flushed refl
+keeps_but_flushes Marks not = marks_kept begun_below_the_flushed refl refl refl
 keeps_but_flushes Serial not = no_commit_ordered
 keeps_but_flushes Ascending not = no_pair_ascends
 keeps_but_flushes Runs not = record { run = refl }
@@ -98,6 +100,7 @@ keeps_but_first Causes not = in_one _ _ (record { opens = omega arith; closes = 
 keeps_but_first Refusals not = refusals_kept drawn_below_the_flushed refl
     (record { own = λ t is. tt; saves = λ t is. tt; log = tt; unfilled = tt }, (checkpointed _ 18 (omega arith) begin_over begin_open, (record { own = λ t is. own_window _ t _; saves = λ t is. tt; log = tt; unfilled = tt }, tt)))
 keeps_but_first Safe not = safe_kept drawn_below_the_flushed refl
+keeps_but_first Marks not = marks_kept drawn_below_the_flushed refl refl refl
 keeps_but_first Serial not = one_commit_ordered _
 keeps_but_first Ascending not = no_pair_ascends
 keeps_but_first Runs not = record { run = (tt, refl) }

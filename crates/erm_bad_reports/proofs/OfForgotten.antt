@@ -21,12 +21,13 @@ use Rattle.erm_good_report.specs.Windows.{DeletesKey, IsCommit, PutsKey, WasPut}
 use Rattle.erm_good_report.proofs.Decided.{AreOverBelow, own_window, window_over}
 use Rattle.erm_good_report.proofs.Parts.{all_pairs_from_test, each_in}
 use Rattle.erm_bad_reports.specs.Cases.{opening_at}
-use Rattle.erm_bad_reports.specs.Clauses.{BreaksAlone, Clause, Meets, lines_of, told_of, IsLowAt, IsHighAt, Fit, Answered, Closes, Phases, Stamps, Snapshots, Causes, Refusals, Safe, Serial, Ascending, Runs, LowEnds, HighEnds}
+use Rattle.erm_bad_reports.specs.Clauses.{BreaksAlone, Clause, Meets, lines_of, told_of, IsLowAt, IsHighAt, Fit, Answered, Closes, Phases, Stamps, Snapshots, Causes, Refusals, Safe, Marks, Serial, Ascending, Runs, LowEnds, HighEnds}
 use Rattle.erm_bad_reports.specs.SaveCases.{saved, undone_lines_forgotten, undone_put_forgotten}
 use Rattle.erm_bad_reports.proofs.OfSaves.{in_mode, made_save, went_back}
 use Rattle.erm_bad_reports.proofs.OfWindows.{highs_of, lows_of}
 use Rattle.erm_bad_reports.proofs.Reading.{told_read}
 use Rattle.erm_bad_reports.proofs.Tests.{byte, first_snapshot, less_from, one_commit_ordered, phases_kept, reaches, refusals_kept, safe_kept, stamps_agree}
+use Rattle.erm_bad_reports.proofs.Unmarked.{marks_kept}
 
 -- ---- a get that is undone is a read, and a put that is undone overwrites
 undone_lines_forgotten_in_reach : (mode : Mode) → reaches (undone_lines_forgotten mode) ≡ true
@@ -71,6 +72,7 @@ undone_lines_forgotten_keeps mode Snapshots not = each_in (λ t. HasSnapshotRepl
 undone_lines_forgotten_keeps mode Causes not = each_in (λ t. HasCauseOf t.ending (told_of (undone_lines_forgotten mode)) t) (told_of (undone_lines_forgotten mode)) (record { opens = omega arith; closes = omega arith; succ_cause = inl refl; pred_cause = inl refl }, (record { opens = omega arith; closes = omega arith; succ_cause = inl refl; pred_cause = inr (_, (0, refl), omega arith, record { succ = 13; pred = 0; ending = refl; table = 0; line = record { line = _; of = (0, refl); names = refl }; other = record { line = _; of = (1, refl); names = refl }; writes = inl (record { line = _; of = (0, refl); names = refl; writes = refl }) }) }, (record { opens = omega arith; closes = omega arith; succ_cause = inl refl; pred_cause = inr (_, (0, refl), omega arith, record { succ = 13; pred = 0; ending = refl; table = 0; line = record { line = _; of = (0, refl); names = refl }; other = record { line = _; of = (1, refl); names = refl }; writes = inl (record { line = _; of = (0, refl); names = refl; writes = refl }) }) }, tt)))
 undone_lines_forgotten_keeps mode Refusals not = refusals_kept (undone_lines_forgotten mode) (undone_lines_forgotten_in_reach mode) (record { own = λ t is. tt; saves = λ t is. tt; log = tt; unfilled = tt }, (record { own = λ t is. tt; saves = λ t is. tt; log = tt; unfilled = tt }, (record { own = λ t is. own_window _ t _; saves = λ t is. tt; log = tt; unfilled = tt }, (record { own = λ t is. tt; saves = λ t is. tt; log = tt; unfilled = tt }, (record { own = λ t is. tt; saves = made_save 0 _ _ refl refl (omega arith); log = tt; unfilled = tt }, (record { own = λ t is. tt; saves = λ t is. tt; log = tt; unfilled = tt }, (record { own = λ t is. tt; saves = went_back 1 1 _ _ refl refl (omega arith) (omega arith); log = tt; unfilled = tt }, (record { own = λ t is. tt; saves = λ t is. tt; log = tt; unfilled = tt }, (record { own = λ t is. tt; saves = made_save 0 _ _ refl refl (omega arith); log = tt; unfilled = tt }, (record { own = λ t is. tt; saves = λ t is. tt; log = tt; unfilled = tt }, (record { own = λ t is. tt; saves = went_back 1 1 _ _ refl refl (omega arith) (omega arith); log = tt; unfilled = tt }, (record { own = λ t is. window_over (at_commit mode 11 12 1) t 33 33 13 (first_over mode); saves = λ t is. tt; log = tt; unfilled = tt }, (record { own = λ t is. window_over (at_commit mode 12 13 2) t 42 42 13 (both_over mode); saves = λ t is. tt; log = tt; unfilled = tt }, tt)))))))))))))
 undone_lines_forgotten_keeps mode Safe not = safe_kept (undone_lines_forgotten mode) refl
+undone_lines_forgotten_keeps mode Marks not = marks_kept (undone_lines_forgotten mode) refl refl refl
 undone_lines_forgotten_keeps mode Serial not = record { same = IsPermutation-refl (history_of (told_of (undone_lines_forgotten mode))); ascends = all_pairs_from_test (λ a b. ComesBefore (rank_of a) (rank_of b)) (λ a b. nat_lt a.succ b.succ) (λ a b pass. inl (less_from a.succ b.succ pass)) (history_of (told_of (undone_lines_forgotten mode))) refl }
 undone_lines_forgotten_keeps mode Ascending not = λ i j d less within. absurd (omega arith)
 undone_lines_forgotten_keeps mode Runs not = record { run = ((refl, tt), ((refl, (refl, (refl, tt))), ((refl, (ap reply.Value (sym there), (refl, tt))), refl))) }
@@ -168,6 +170,7 @@ undone_put_forgotten_keeps mode Causes not = each_in (λ t. HasCauseOf t.ending 
 )
 undone_put_forgotten_keeps mode Refusals not = refusals_kept (undone_put_forgotten mode) (undone_put_forgotten_in_reach mode) (record { own = λ t is. tt; saves = λ t is. tt; log = tt; unfilled = tt }, (record { own = λ t is. tt; saves = λ t is. tt; log = tt; unfilled = tt }, (record { own = λ t is. own_window _ t _; saves = λ t is. tt; log = tt; unfilled = tt }, (record { own = λ t is. tt; saves = λ t is. tt; log = tt; unfilled = tt }, (record { own = λ t is. tt; saves = made_save 0 _ _ refl refl (omega arith); log = tt; unfilled = tt }, (record { own = λ t is. tt; saves = λ t is. tt; log = tt; unfilled = tt }, (record { own = λ t is. tt; saves = went_back 1 1 _ _ refl refl (omega arith) (omega arith); log = tt; unfilled = tt }, (record { own = λ t is. window_over (at_next mode 7 8) t 33 33 13 (one_over mode); saves = λ t is. tt; log = tt; unfilled = tt }, (record { own = λ t is. tt; saves = λ t is. tt; log = tt; unfilled = tt }, (record { own = λ t is. tt; saves = λ t is. tt; log = tt; unfilled = tt }, (record { own = λ t is. window_over (at_next mode 10 11) t 42 42 13 (two_over mode); saves = λ t is. tt; log = tt; unfilled = tt }, tt)))))))))))
 undone_put_forgotten_keeps mode Safe not = safe_kept (undone_put_forgotten mode) refl
+undone_put_forgotten_keeps mode Marks not = marks_kept (undone_put_forgotten mode) refl refl refl
 undone_put_forgotten_keeps mode Serial not = record { same = IsPermutation-refl (history_of (told_of (undone_put_forgotten mode))); ascends = all_pairs_from_test (λ a b. ComesBefore (rank_of a) (rank_of b)) (λ a b. nat_lt a.succ b.succ) (λ a b pass. inl (less_from a.succ b.succ pass)) (history_of (told_of (undone_put_forgotten mode))) refl }
 undone_put_forgotten_keeps mode Ascending not = λ i j d less within. absurd (omega arith)
 undone_put_forgotten_keeps mode Runs not = record { run = ((refl, tt), ((refl, (refl, (refl, tt))), ((ap reply.Value (sym there), tt), refl))) }

@@ -17,12 +17,13 @@ use Rattle.erm_good_report.specs.Transactions.{history_of, said_of, stamp_of, st
 use Rattle.erm_good_report.proofs.Decided.{own_window}
 use Rattle.erm_good_report.proofs.Parts.{each_in}
 use Rattle.erm_good_report.proofs.SnapshotTests.{safe_there, snapshots_at}
-use Rattle.erm_bad_reports.specs.Clauses.{Clause, Meets, lines_of, told_of, Fit, Answered, Closes, Phases, Stamps, Snapshots, Causes, Refusals, Safe, Serial, Ascending, Runs, LowEnds, HighEnds}
+use Rattle.erm_bad_reports.specs.Clauses.{Clause, Meets, lines_of, told_of, Fit, Answered, Closes, Phases, Stamps, Snapshots, Causes, Refusals, Safe, Marks, Serial, Ascending, Runs, LowEnds, HighEnds}
 use Rattle.erm_bad_reports.specs.Cases.{commit_by}
 use Rattle.erm_bad_reports.specs.SafeCases.{safe_at_last}
 use Rattle.erm_bad_reports.proofs.Tests.{first_snapshot, high_ends, low_ends, no_pair_ascends, one_commit_ordered, refusals_kept, stamps_agree}
 use Rattle.erm_good_report.specs.GoodReport.{IsGoodReport}
 use Rattle.erm_bad_reports.proofs.OfSnapshots.{OwesSafe, phases_by_line, safe_by_line}
+use Rattle.erm_bad_reports.proofs.Unmarked.{marks_kept}
 
 pub of_three : {X : Type 0} (R : X → X → Type 0) (a b c : X) → R a b → R a c → R b c → AllPairs R (a ∷ b ∷ c ∷ [])
 of_three R a b c first far last i (suc (suc (suc j))) d less within = absurd (omega (arith, within))
@@ -66,6 +67,7 @@ keeps Snapshots = each_in (λ t. HasSnapshotReplies (history_of (told_of safe_at
 keeps Causes = each_in (λ t. HasCauseOf t.ending (told_of safe_at_last) t) (told_of safe_at_last) (record { opens = omega arith; closes = omega arith; succ_cause = inl refl; pred_cause = inl refl }, (record { opens = omega arith; closes = omega arith; succ_cause = inl refl; pred_cause = inl refl }, tt))
 keeps Refusals = refusals_kept safe_at_last refl (record { own = λ t is. tt; saves = λ t is. tt; log = tt; unfilled = tt }, (record { own = λ t is. tt; saves = λ t is. tt; log = tt; unfilled = tt }, (record { own = λ t is. own_window _ t _; saves = λ t is. tt; log = tt; unfilled = tt }, (record { own = λ t is. absurd (cc is.1); saves = λ t is. tt; log = tt; unfilled = tt }, (record { own = λ t is. own_window _ t _; saves = λ t is. tt; log = tt; unfilled = tt }, (record { own = λ t is. tt; saves = λ t is. tt; log = tt; unfilled = tt }, (record { own = λ t is. tt; saves = λ t is. tt; log = tt; unfilled = tt }, (record { own = λ t is. tt; saves = λ t is. tt; log = tt; unfilled = tt }, tt))))))))
 keeps Safe = safe_by_line safe_at_last (λ session number. 18) refl (λ is. absurd (cc), (λ is. absurd (cc), (λ is. absurd (cc), (λ is. record { in_turn = refl; another = λ same. omega (arith, same); from = inl (_, refl, omega arith); below = omega arith }, (λ is. absurd (cc), (λ is. (refl, safe_there _ 18 refl), (λ is. absurd (cc), (λ is. absurd (cc), tt)))))))) (tt, (tt, (tt, (owes, (tt, (owes, (owes, (owes, tt))))))))
+keeps Marks = marks_kept safe_at_last refl refl refl
 keeps Serial = record {
   same = record { moves = (1, 2) ∷ []; below = (omega arith, omega arith, tt); is = refl };
   ascends = of_three (λ a b. ComesBefore (rank_of a) (rank_of b)) _ _ _ (inl (omega arith)) (inl (omega arith)) (inr (refl, omega arith));
@@ -84,5 +86,6 @@ is_good = record {
   each = keeps Answered;
   closes = keeps Closes;
   owes = record { phases = keeps Phases; stamps = keeps Stamps; snapshots = keeps Snapshots; causes = keeps Causes; refusals = keeps Refusals; safe = keeps Safe };
+  marks = keeps Marks;
   order = record { serial = keeps Serial; ascends = keeps Ascending; run = keeps Runs };
 }

@@ -25,13 +25,14 @@ use Rattle.erm_good_report.proofs.Snapshots.{no_safe}
 use Rattle.erm_good_at_once.specs.GoodAtOnce.{IsGoodAtOnce}
 use Rattle.erm_good_at_once.specs.Rising.{StampsRise, stamp_met}
 use Rattle.erm_bad_reports.specs.Cases.{opening_at}
-use Rattle.erm_bad_reports.specs.Clauses.{Case, Clause, Meets, lines_of, told_of, IsLowAt, IsHighAt, Fit, Answered, Closes, Phases, Stamps, Snapshots, Causes, Refusals, Safe, Serial, Ascending, Runs, LowEnds, HighEnds}
+use Rattle.erm_bad_reports.specs.Clauses.{Case, Clause, Meets, lines_of, told_of, IsLowAt, IsHighAt, Fit, Answered, Closes, Phases, Stamps, Snapshots, Causes, Refusals, Safe, Marks, Serial, Ascending, Runs, LowEnds, HighEnds}
 use Rattle.erm_bad_reports.specs.SaveCases.{claim_stays, gets, gone_back, new_key_undone}
 use Rattle.erm_bad_reports.proofs.OfSaves.{in_mode, made_save, not_there, went_back}
 use Rattle.erm_bad_reports.proofs.OfStampsOfTwo.{in_time}
 use Rattle.erm_bad_reports.proofs.OfUntold.{none_kept}
 use Rattle.erm_bad_reports.proofs.OfWatched.{named_kept}
 use Rattle.erm_bad_reports.proofs.Tests.{byte, first_snapshot, less_from, no_pair_ascends, none_overwrites, one_commit_ordered, phases_kept, reaches, refusals_kept, safe_kept, stamps_agree}
+use Rattle.erm_bad_reports.proofs.Unmarked.{marks_kept}
 
 -- a report that keeps each clause is a tight one
 tight_at : (told : List Transaction) (t : Transaction) (ending : Ending) → IsLowAt ending told t → IsHighAt ending told t → IsTightAt ending told t
@@ -49,6 +50,7 @@ good_of k keeps = record {
   each = keeps Answered;
   closes = keeps Closes;
   owes = record { phases = keeps Phases; stamps = keeps Stamps; snapshots = keeps Snapshots; causes = keeps Causes; refusals = keeps Refusals; safe = keeps Safe };
+  marks = keeps Marks;
   order = record { serial = keeps Serial; ascends = keeps Ascending; run = keeps Runs };
 }
 
@@ -111,6 +113,7 @@ gone_back_keeps mode Snapshots = each_in (λ t. HasSnapshotReplies (history_of (
 gone_back_keeps mode Causes = each_in (λ t. HasCauseOf t.ending (told_of (gone_back mode)) t) (told_of (gone_back mode)) (record { opens = omega arith; closes = omega arith; succ_cause = inl refl; pred_cause = inl refl }, (record { opens = omega arith; closes = omega arith; succ_cause = inl refl; pred_cause = inr (_, (0, refl), omega arith, record { succ = 13; pred = 0; ending = refl; table = 0; line = record { line = _; of = (0, refl); names = refl }; other = record { line = _; of = (1, refl); names = refl }; writes = inl (record { line = _; of = (0, refl); names = refl; writes = refl }) }) }, tt))
 gone_back_keeps mode Refusals = refusals_kept (gone_back mode) (gone_back_in_reach mode) (record { own = λ t is. tt; saves = λ t is. tt; log = tt; unfilled = tt }, (record { own = λ t is. tt; saves = λ t is. tt; log = tt; unfilled = tt }, (record { own = λ t is. tt; saves = λ t is. tt; log = tt; unfilled = tt }, (record { own = λ t is. own_window _ t _; saves = λ t is. tt; log = tt; unfilled = tt }, (record { own = λ t is. tt; saves = λ t is. tt; log = tt; unfilled = tt }, (record { own = λ t is. tt; saves = made_save 0 _ _ refl refl (omega arith); log = tt; unfilled = tt }, (record { own = λ t is. tt; saves = λ t is. tt; log = tt; unfilled = tt }, (record { own = λ t is. tt; saves = λ t is. tt; log = tt; unfilled = tt }, (record { own = λ t is. tt; saves = went_back 1 1 _ _ refl refl (omega arith) (omega arith); log = tt; unfilled = tt }, (record { own = λ t is. tt; saves = λ t is. tt; log = tt; unfilled = tt }, (record { own = λ t is. tt; saves = not_there 2 1 _ _ refl refl (omega arith); log = tt; unfilled = tt }, (record { own = λ t is. window_over (at_commit mode) t 38 38 13 (first_over mode); saves = λ t is. tt; log = tt; unfilled = tt }, tt))))))))))))
 gone_back_keeps mode Safe = safe_kept (gone_back mode) refl
+gone_back_keeps mode Marks = marks_kept (gone_back mode) refl refl refl
 gone_back_keeps mode Serial = record { same = IsPermutation-refl (history_of (told_of (gone_back mode))); ascends = all_pairs_of_two (λ a b. ComesBefore (rank_of a) (rank_of b)) _ _ (inl (omega arith)) }
 gone_back_keeps mode Ascending = all_pairs_of_two (λ a b. key_cmp a.key b.key ≡ Less) _ _ refl
 gone_back_keeps mode Runs = record { run = ((refl, (refl, tt)), ((refl, (refl, (ap reply.Value (sym put_again), (refl, (ap reply.Value (sym first_key), tt))))), refl)) }
@@ -161,6 +164,7 @@ claim_stays_keeps mode Snapshots = each_in (λ t. HasSnapshotReplies (history_of
 claim_stays_keeps mode Causes = each_in (λ t. HasCauseOf t.ending (told_of (claim_stays mode)) t) (told_of (claim_stays mode)) (record { opens = omega arith; closes = omega arith; succ_cause = inl refl; pred_cause = inl refl }, (tt, tt))
 claim_stays_keeps mode Refusals = claim_stays_causes mode
 claim_stays_keeps mode Safe = safe_kept (claim_stays mode) refl
+claim_stays_keeps mode Marks = marks_kept (claim_stays mode) refl refl refl
 claim_stays_keeps mode Serial = one_commit_ordered _
 claim_stays_keeps mode Ascending = no_pair_ascends
 claim_stays_keeps mode Runs = record { run = ((refl, (refl, (refl, tt))), refl) }
@@ -220,6 +224,7 @@ new_key_undone_keeps mode Snapshots = each_in (λ t. HasSnapshotReplies (history
 new_key_undone_keeps mode Causes = each_in (λ t. HasCauseOf t.ending (told_of (new_key_undone mode)) t) (told_of (new_key_undone mode)) (record { opens = omega arith; closes = omega arith; succ_cause = inl refl; pred_cause = inl refl }, (record { opens = omega arith; closes = omega arith; succ_cause = inl refl; pred_cause = inr (_, (0, refl), omega arith, record { succ = 13; pred = 0; ending = refl; table = 0; line = record { line = _; of = (1, refl); names = refl }; other = record { line = _; of = (0, refl); names = refl }; writes = inl (record { line = _; of = (1, refl); names = refl; writes = refl }) }) }, tt))
 new_key_undone_keeps mode Refusals = refusals_kept (new_key_undone mode) (new_key_undone_in_reach mode) (record { own = λ t is. tt; saves = λ t is. tt; log = tt; unfilled = tt }, (record { own = λ t is. tt; saves = made_save 0 _ _ refl refl (omega arith); log = tt; unfilled = tt }, (record { own = λ t is. tt; saves = λ t is. tt; log = tt; unfilled = tt }, (record { own = λ t is. tt; saves = went_back 1 1 _ _ refl refl (omega arith) (omega arith); log = tt; unfilled = tt }, (record { own = λ t is. own_window _ t _; saves = λ t is. tt; log = tt; unfilled = tt }, (record { own = λ t is. tt; saves = λ t is. tt; log = tt; unfilled = tt }, (record { own = λ t is. tt; saves = λ t is. tt; log = tt; unfilled = tt }, (record { own = λ t is. window_over (at_last mode) t 33 33 13 (undone_over mode); saves = λ t is. tt; log = tt; unfilled = tt }, tt))))))))
 new_key_undone_keeps mode Safe = safe_kept (new_key_undone mode) refl
+new_key_undone_keeps mode Marks = marks_kept (new_key_undone mode) refl refl refl
 new_key_undone_keeps mode Serial = record { same = IsPermutation-refl (history_of (told_of (new_key_undone mode))); ascends = all_pairs_of_two (λ a b. ComesBefore (rank_of a) (rank_of b)) _ _ (inl (omega arith)) }
 new_key_undone_keeps mode Ascending = no_pair_ascends
 new_key_undone_keeps mode Runs = record { run = ((refl, (refl, (refl, tt))), ((ap reply.Value (sym (value_at-empty 0 1)), tt), refl)) }

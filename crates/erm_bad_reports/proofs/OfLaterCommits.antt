@@ -12,10 +12,11 @@ use Rattle.erm_good_report.specs.Stamps.{Told}
 use Rattle.erm_good_report.specs.Transactions.{Commits, Transaction, history_of, progress_of, said_of, stamp_of, stamp_of_ending, steps_of}
 use Rattle.erm_good_report.specs.Windows.{IsCommit}
 use Rattle.erm_good_report.proofs.Parts.{each_in}
-use Rattle.erm_bad_reports.specs.Clauses.{BreaksAlone, Case, Clause, Meets, lines_of, told_of, IsLowAt, IsHighAt, Fit, Answered, Closes, Phases, Stamps, Snapshots, Causes, Refusals, Safe, Serial, Ascending, Runs, LowEnds, HighEnds}
+use Rattle.erm_bad_reports.specs.Clauses.{BreaksAlone, Case, Clause, Meets, lines_of, told_of, IsLowAt, IsHighAt, Fit, Answered, Closes, Phases, Stamps, Snapshots, Causes, Refusals, Safe, Marks, Serial, Ascending, Runs, LowEnds, HighEnds}
 use Rattle.erm_bad_reports.specs.Refused.{refused_first}
 use Rattle.erm_bad_reports.proofs.Reading.{owes_of}
 use Rattle.erm_bad_reports.proofs.Tests.{safe_kept, begins_over, byte, said_begun, one_commit_ordered, stamps_agree, first_snapshot, phases_kept}
+use Rattle.erm_bad_reports.proofs.Unmarked.{marks_kept}
 
 -- no transaction is over behind the begins of both sessions
 none_over : (session : ℕ) (t : Transaction) → t ∈ (progress_of session (said_begun 1 ∷ said_begun 2 ∷ [])).over → ⊥
@@ -50,6 +51,7 @@ keeps_but_later Snapshots not = each_in (λ t. HasSnapshotReplies (history_of la
 keeps_but_later Causes not = each_in (λ t. HasCauseOf t.ending later_told t) later_told (tt, (record { opens = omega arith; closes = omega arith; succ_cause = inl refl; pred_cause = inl refl }, tt))
 keeps_but_later Refusals not = absurd (not refl)
 keeps_but_later Safe not = safe_kept newer_later refl
+keeps_but_later Marks not = marks_kept newer_later refl refl refl
 keeps_but_later Serial not = one_commit_ordered _
 keeps_but_later Ascending not = λ i j d less within. absurd (omega arith)
 keeps_but_later Runs not = record { run = ((refl, tt), refl) }
@@ -99,6 +101,7 @@ keeps_but_shut Snapshots not = each_in (λ t. HasSnapshotReplies (history_of shu
 keeps_but_shut Causes not = each_in (λ t. HasCauseOf t.ending shut_told t) shut_told (shut_cause _ refl (record { line = _; of = (0, refl); names = refl }), (record { opens = omega arith; closes = omega arith; succ_cause = inl refl; pred_cause = inl refl }, tt))
 keeps_but_shut Refusals not = absurd (not refl)
 keeps_but_shut Safe not = safe_kept shut_later refl
+keeps_but_shut Marks not = marks_kept shut_later refl refl refl
 keeps_but_shut Serial not = one_commit_ordered _
 keeps_but_shut Ascending not = λ i j d less within. absurd (omega arith)
 keeps_but_shut Runs not = record { run = ((refl, tt), refl) }

@@ -14,11 +14,12 @@ use Rattle.erm_good_report.specs.Phases.{Closed, FitsPhase, phase_of}
 use Rattle.erm_good_report.specs.Refusals.{HasCause, moment_at}
 use Rattle.erm_good_report.specs.Transactions.{said_of}
 use Rattle.erm_good_report.proofs.Parts.{each_place}
-use Rattle.erm_bad_reports.specs.Clauses.{BreaksAlone, Clause, Meets, lines_of, told_of, Fit, Answered, Closes, Phases, Stamps, Snapshots, Causes, Refusals, Safe, Serial, Ascending, Runs, LowEnds, HighEnds}
+use Rattle.erm_bad_reports.specs.Clauses.{BreaksAlone, Clause, Meets, lines_of, told_of, Fit, Answered, Closes, Phases, Stamps, Snapshots, Causes, Refusals, Safe, Marks, Serial, Ascending, Runs, LowEnds, HighEnds}
 use Rattle.erm_good_report.proofs.Determining.{after_answers, report_lines_by_parts}
 use Rattle.erm_bad_reports.specs.Cases.{commit_left_out, number_too_great, line_left_out, left_open, got_without_begin}
 use Rattle.erm_bad_reports.proofs.Reading.{closes_of, no_map, owes_of}
 use Rattle.erm_bad_reports.proofs.Tests.{safe_kept, no_looks, in_none, in_one, no_commit_ordered, no_pair_ascends, stamps_agree, first_snapshot, reach_from_test, untold_in_reach}
+use Rattle.erm_bad_reports.proofs.Unmarked.{marks_kept}
 
 -- ---- a commit is counted that has no line
 pub lines_refused : (opening : Opening) → IsGoodReport InTurn opening [] [] commit_left_out → ⊥
@@ -43,6 +44,7 @@ keeps_but_fit Snapshots not = in_none _
 keeps_but_fit Causes not = in_none _
 keeps_but_fit Refusals not = record { each = λ i l a at. absurd (cc); reach = λ i l a at. absurd (cc); untold = untold_in_reach InTurn number_too_great.opening number_too_great.script number_too_great.report.answers (told_of number_too_great) refl }
 keeps_but_fit Safe not = safe_kept number_too_great refl
+keeps_but_fit Marks not = marks_kept number_too_great refl refl refl
 keeps_but_fit Serial not = no_commit_ordered
 keeps_but_fit Ascending not = no_pair_ascends
 keeps_but_fit Runs not = record { run = refl }
@@ -66,6 +68,7 @@ keeps_but_answered Snapshots not = in_none _
 keeps_but_answered Causes not = in_none _
 keeps_but_answered Refusals not = record { each = λ i l a at beside. absurd (cc beside); reach = λ i l a at beside. absurd (cc beside); untold = untold_in_reach InTurn line_left_out.opening line_left_out.script line_left_out.report.answers (told_of line_left_out) refl }
 keeps_but_answered Safe not = safe_kept line_left_out refl
+keeps_but_answered Marks not = marks_kept line_left_out refl refl refl
 keeps_but_answered Serial not = no_commit_ordered
 keeps_but_answered Ascending not = no_pair_ascends
 keeps_but_answered Runs not = record { run = refl }
@@ -94,6 +97,7 @@ keeps_but_closes Snapshots not = in_one _ _ (first_snapshot [] left_open.opening
 keeps_but_closes Causes not = in_one _ _ tt
 keeps_but_closes Refusals not = record { each = each_place (λ i l a. HasCause (moment_at InTurn left_open.opening left_open.script left_open.report.answers (told_of left_open) i l) l.command a) left_open.script left_open.report.answers (record { own = λ t is. tt; saves = λ t is. tt; log = tt; unfilled = tt }, tt); reach = reach_from_test (moment_at InTurn left_open.opening left_open.script left_open.report.answers (told_of left_open)) left_open.script left_open.report.answers refl; untold = untold_in_reach InTurn left_open.opening left_open.script left_open.report.answers (told_of left_open) refl }
 keeps_but_closes Safe not = safe_kept left_open refl
+keeps_but_closes Marks not = marks_kept left_open refl refl refl
 keeps_but_closes Serial not = no_commit_ordered
 keeps_but_closes Ascending not = no_pair_ascends
 keeps_but_closes Runs not = record { run = refl }
@@ -117,6 +121,7 @@ keeps_but_phases Snapshots not = in_none _
 keeps_but_phases Causes not = in_none _
 keeps_but_phases Refusals not = record { each = each_place (λ i l a. HasCause (moment_at InTurn got_without_begin.opening got_without_begin.script got_without_begin.report.answers (told_of got_without_begin) i l) l.command a) got_without_begin.script got_without_begin.report.answers (record { own = λ t is. tt; saves = λ t is. tt; log = tt; unfilled = tt }, tt); reach = reach_from_test (moment_at InTurn got_without_begin.opening got_without_begin.script got_without_begin.report.answers (told_of got_without_begin)) got_without_begin.script got_without_begin.report.answers refl; untold = untold_in_reach InTurn got_without_begin.opening got_without_begin.script got_without_begin.report.answers (told_of got_without_begin) refl }
 keeps_but_phases Safe not = safe_kept got_without_begin refl
+keeps_but_phases Marks not = marks_kept got_without_begin refl refl refl
 keeps_but_phases Serial not = no_commit_ordered
 keeps_but_phases Ascending not = no_pair_ascends
 keeps_but_phases Runs not = record { run = refl }

@@ -4,10 +4,11 @@ use Rattle.std.specs.FinMap.{empty}
 use Rattle.std.proofs.lemmas.List.Elements.{All-from_recursion}
 use Rattle.erm_report.specs.Printable.{FitsTypes}
 use Rattle.erm_good_report.specs.Transactions.{history_of, said_of}
-use Rattle.erm_bad_reports.specs.Clauses.{BreaksAlone, Clause, Meets, lines_of, told_of, Fit, Answered, Closes, Phases, Stamps, Snapshots, Causes, Refusals, Serial, Ascending, Runs, LowEnds, HighEnds, Safe}
+use Rattle.erm_bad_reports.specs.Clauses.{BreaksAlone, Clause, Meets, lines_of, told_of, Fit, Answered, Closes, Phases, Stamps, Snapshots, Causes, Refusals, Serial, Ascending, Runs, LowEnds, HighEnds, Safe, Marks}
 use Rattle.erm_bad_reports.specs.LogCases.{checkpoint_beside_sealed, checkpoint_goes_back}
 use Rattle.erm_bad_reports.proofs.Reading.{owes_of}
 use Rattle.erm_bad_reports.proofs.Tests.{safe_kept, first_snapshot, high_ends, in_none, in_one, low_ends, no_commit_ordered, no_pair_ascends, one_commit_ordered, phases_kept, stamps_agree}
+use Rattle.erm_bad_reports.proofs.Unmarked.{marks_kept}
 
 -- ---- beside a transaction that is sealed
 keeps_but_beside : (other : Clause) → other ≢ Refusals → Meets other checkpoint_beside_sealed
@@ -20,6 +21,7 @@ keeps_but_beside Snapshots not = in_one _ _ (first_snapshot (history_of (told_of
 keeps_but_beside Causes not = in_one _ _ (record { opens = omega arith; closes = omega arith; succ_cause = inl refl; pred_cause = inl refl })
 keeps_but_beside Refusals not = absurd (not refl)
 keeps_but_beside Safe not = safe_kept checkpoint_beside_sealed refl
+keeps_but_beside Marks not = marks_kept checkpoint_beside_sealed refl refl refl
 keeps_but_beside Serial not = one_commit_ordered _
 keeps_but_beside Ascending not = no_pair_ascends
 keeps_but_beside Runs not = record { run = (tt, refl) }
@@ -43,6 +45,7 @@ keeps_but_back Snapshots not = in_none _
 keeps_but_back Causes not = in_none _
 keeps_but_back Refusals not = absurd (not refl)
 keeps_but_back Safe not = safe_kept checkpoint_goes_back refl
+keeps_but_back Marks not = marks_kept checkpoint_goes_back refl refl refl
 keeps_but_back Serial not = no_commit_ordered
 keeps_but_back Ascending not = no_pair_ascends
 keeps_but_back Runs not = record { run = refl }

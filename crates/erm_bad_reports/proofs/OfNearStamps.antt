@@ -17,12 +17,13 @@ use Rattle.erm_good_report.specs.Transactions.{Commits, Said, Transaction, Unfin
 use Rattle.erm_good_report.specs.Windows.{IsCommit}
 use Rattle.erm_good_report.proofs.Decided.{own_window}
 use Rattle.erm_good_report.proofs.Parts.{all_pairs_of_two, each_in}
-use Rattle.erm_bad_reports.specs.Clauses.{Clause, Meets, lines_of, told_of, IsLowAt, IsHighAt, Fit, Answered, Closes, Phases, Stamps, Snapshots, Causes, Refusals, Safe, Serial, Ascending, Runs, LowEnds, HighEnds}
+use Rattle.erm_bad_reports.specs.Clauses.{Clause, Meets, lines_of, told_of, IsLowAt, IsHighAt, Fit, Answered, Closes, Phases, Stamps, Snapshots, Causes, Refusals, Safe, Marks, Serial, Ascending, Runs, LowEnds, HighEnds}
 use Rattle.erm_bad_reports.specs.StampParts.{BreaksPartAlone, Part, MeetsPart, Differ, Least, Begun, Sealed, Begins, Draws, Ascends, Flushes, FlushesFirst, BeginsAscend, Stops, UntoldAfter, UntoldBefore, begun_at_a_newer, drawn_within}
 use Rattle.erm_bad_reports.proofs.OfStampParts.{any_place}
 use Rattle.erm_bad_reports.proofs.OfStampsOfTwo.{in_time}
 use Rattle.erm_bad_reports.proofs.Reading.{owes_of}
 use Rattle.erm_bad_reports.proofs.Tests.{begins_ascend, begins_stop, byte, first_snapshot, flushed_begin, flushed_drawn, high_ends, low_ends, most_from, no_pair_ascends, one_commit_ordered, phases_kept, refusals_kept, safe_kept, stamps_begin, stamps_differ, stamps_drawn, untold_after, untold_before}
+use Rattle.erm_bad_reports.proofs.Unmarked.{marks_kept}
 
 -- ---- within the block of an earlier one
 abbrev near_told : List Transaction
@@ -48,6 +49,7 @@ keeps_but_near Refusals not = refusals_kept drawn_within refl (
   (record { own = λ t is. tt; saves = λ t is. tt; log = tt; unfilled = tt }, (record { own = λ t is. own_window _ t _; saves = λ t is. tt; log = tt; unfilled = tt }, (record { own = λ t is. own_window _ t _; saves = λ t is. tt; log = tt; unfilled = tt }, tt))),
 )
 keeps_but_near Safe not = safe_kept drawn_within refl
+keeps_but_near Marks not = marks_kept drawn_within refl refl refl
 keeps_but_near Serial not = record { same = IsPermutation-refl (history_of near_told); ascends = all_pairs_of_two (λ a b. ComesBefore (rank_of a) (rank_of b)) _ _ (inl (omega arith)) }
 keeps_but_near Ascending not = no_pair_ascends
 keeps_but_near Runs not = record { run = (tt, (tt, refl)) }
@@ -148,6 +150,7 @@ keeps_but_newer Refusals not = refusals_kept begun_at_a_newer refl (
   ),
 )
 keeps_but_newer Safe not = safe_kept begun_at_a_newer refl
+keeps_but_newer Marks not = marks_kept begun_at_a_newer refl refl refl
 keeps_but_newer Serial not = one_commit_ordered _
 keeps_but_newer Ascending not = λ i j d less within. absurd (omega arith)
 keeps_but_newer Runs not = record { run = ((refl, tt), refl) }

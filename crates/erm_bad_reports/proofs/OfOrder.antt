@@ -22,10 +22,11 @@ use Rattle.erm_good_report.specs.Refusals.{HasCause, moment_at}
 use Rattle.erm_good_report.specs.Transactions.{said_of, Transaction, history_of, stamp_of, stamp_of_ending, steps_of}
 use Rattle.erm_good_report.proofs.Parts.{each_in, each_place}
 use Rattle.erm_good_report.proofs.Decided.{own_window}
-use Rattle.erm_bad_reports.specs.Clauses.{BreaksAlone, Clause, Meets, lines_of, told_of, Fit, Answered, Closes, Phases, Stamps, Snapshots, Causes, Refusals, Safe, Serial, Ascending, Runs, LowEnds, HighEnds}
+use Rattle.erm_bad_reports.specs.Clauses.{BreaksAlone, Clause, Meets, lines_of, told_of, Fit, Answered, Closes, Phases, Stamps, Snapshots, Causes, Refusals, Safe, Marks, Serial, Ascending, Runs, LowEnds, HighEnds}
 use Rattle.erm_bad_reports.specs.Cases.{order_turned_round, pairs_turned_round, pair_from_nowhere}
 use Rattle.erm_bad_reports.proofs.Reading.{orders_of}
 use Rattle.erm_bad_reports.proofs.Tests.{safe_kept, no_looks, byte, in_none, no_commit_ordered, one_commit_ordered, no_pair_ascends, stamps_agree, first_snapshot, low_ends, high_ends, reach_from_test, untold_in_reach}
+use Rattle.erm_bad_reports.proofs.Unmarked.{marks_kept}
 
 -- ---- commits in another order
 abbrev told : List Transaction
@@ -54,6 +55,7 @@ keeps_but_serial Causes not = each_in (λ t. HasCauseOf t.ending told t) told (
 )
 keeps_but_serial Refusals not = record { each = each_place (λ i l a. HasCause (moment_at InTurn order_turned_round.opening order_turned_round.script order_turned_round.report.answers (told_of order_turned_round) i l) l.command a) order_turned_round.script order_turned_round.report.answers (record { own = λ t is. tt; saves = λ t is. tt; log = tt; unfilled = tt }, (record { own = λ t is. own_window _ t _; saves = λ t is. tt; log = tt; unfilled = tt }, (record { own = λ t is. tt; saves = λ t is. tt; log = tt; unfilled = tt }, (record { own = λ t is. own_window _ t _; saves = λ t is. tt; log = tt; unfilled = tt }, tt)))); reach = reach_from_test (moment_at InTurn order_turned_round.opening order_turned_round.script order_turned_round.report.answers (told_of order_turned_round)) order_turned_round.script order_turned_round.report.answers refl; untold = untold_in_reach InTurn order_turned_round.opening order_turned_round.script order_turned_round.report.answers (told_of order_turned_round) refl }
 keeps_but_serial Safe not = safe_kept order_turned_round refl
+keeps_but_serial Marks not = marks_kept order_turned_round refl refl refl
 keeps_but_serial Serial not = absurd (not refl)
 keeps_but_serial Ascending not = no_pair_ascends
 keeps_but_serial Runs not = record { run = (tt, (tt, refl)) }
@@ -95,6 +97,7 @@ keeps_but_ascending Snapshots not = in_none _
 keeps_but_ascending Causes not = in_none _
 keeps_but_ascending Refusals not = record { each = each_place (λ i l a. HasCause (moment_at InTurn pairs_turned_round.opening pairs_turned_round.script pairs_turned_round.report.answers (told_of pairs_turned_round) i l) l.command a) pairs_turned_round.script pairs_turned_round.report.answers tt; reach = reach_from_test (moment_at InTurn pairs_turned_round.opening pairs_turned_round.script pairs_turned_round.report.answers (told_of pairs_turned_round)) pairs_turned_round.script pairs_turned_round.report.answers refl; untold = untold_in_reach InTurn pairs_turned_round.opening pairs_turned_round.script pairs_turned_round.report.answers (told_of pairs_turned_round) refl }
 keeps_but_ascending Safe not = safe_kept pairs_turned_round refl
+keeps_but_ascending Marks not = marks_kept pairs_turned_round refl refl refl
 keeps_but_ascending Serial not = no_commit_ordered
 keeps_but_ascending Ascending not = absurd (not refl)
 keeps_but_ascending Runs not = record { run = refl }
@@ -118,6 +121,7 @@ keeps_but_runs Snapshots not = in_none _
 keeps_but_runs Causes not = in_none _
 keeps_but_runs Refusals not = record { each = each_place (λ i l a. HasCause (moment_at InTurn pair_from_nowhere.opening pair_from_nowhere.script pair_from_nowhere.report.answers (told_of pair_from_nowhere) i l) l.command a) pair_from_nowhere.script pair_from_nowhere.report.answers tt; reach = reach_from_test (moment_at InTurn pair_from_nowhere.opening pair_from_nowhere.script pair_from_nowhere.report.answers (told_of pair_from_nowhere)) pair_from_nowhere.script pair_from_nowhere.report.answers refl; untold = untold_in_reach InTurn pair_from_nowhere.opening pair_from_nowhere.script pair_from_nowhere.report.answers (told_of pair_from_nowhere) refl }
 keeps_but_runs Safe not = safe_kept pair_from_nowhere refl
+keeps_but_runs Marks not = marks_kept pair_from_nowhere refl refl refl
 keeps_but_runs Serial not = no_commit_ordered
 keeps_but_runs Ascending not = λ i j d less within. absurd (omega arith)
 keeps_but_runs Runs not = absurd (not refl)

@@ -18,11 +18,12 @@ use Rattle.erm_good_report.specs.Transactions.{history_of, said_of}
 use Rattle.erm_good_report.proofs.Decided.{own_window}
 use Rattle.erm_good_report.proofs.Parts.{each_in}
 use Rattle.erm_good_report.proofs.SnapshotTests.{safe_there, snapshots_at}
-use Rattle.erm_bad_reports.specs.Clauses.{BreaksAlone, Clause, Meets, lines_of, placed_of, told_of, Fit, Answered, Closes, Phases, Stamps, Snapshots, Causes, Refusals, Safe, Serial, Ascending, Runs, LowEnds, HighEnds}
+use Rattle.erm_bad_reports.specs.Clauses.{BreaksAlone, Clause, Meets, lines_of, placed_of, told_of, Fit, Answered, Closes, Phases, Stamps, Snapshots, Causes, Refusals, Safe, Marks, Serial, Ascending, Runs, LowEnds, HighEnds}
 use Rattle.erm_bad_reports.specs.SafeCases.{snapshot_behind, snapshot_left_out, snapshots_turned}
 use Rattle.erm_bad_reports.proofs.OfSnapshots.{OwesSafe, phases_by_line, safe_by_line}
 use Rattle.erm_bad_reports.proofs.Reading.{orders_of}
 use Rattle.erm_bad_reports.proofs.Tests.{first_snapshot, high_ends, in_none, in_one, low_ends, no_pair_ascends, refusals_kept, stamps_agree}
+use Rattle.erm_bad_reports.proofs.Unmarked.{marks_kept}
 
 -- what a line of the order tells of it
 told_commit : (b : Bool) (names : List (List ℕ)) (session : List ℕ) (number stamp succ pred : ℕ) (c : Committed) → line.Commit session number stamp succ pred ≡ line_in_order b names c
@@ -66,6 +67,7 @@ keeps_but_behind Causes not = in_one _ _ (record { opens = omega arith; closes =
 keeps_but_behind Refusals not = refusals_kept snapshot_behind refl (record { own = λ t is. tt; saves = λ t is. tt; log = tt; unfilled = tt }, (record { own = λ t is. tt; saves = λ t is. tt; log = tt; unfilled = tt }, (record { own = λ t is. own_window _ t _; saves = λ t is. tt; log = tt; unfilled = tt }, (record { own = λ t is. tt; saves = λ t is. tt; log = tt; unfilled = tt }, tt))))
 keeps_but_behind Safe not = safe_by_line snapshot_behind (λ session number. 13) refl (λ is. (refl, safe_there _ 13 refl), (λ is. absurd (cc), (λ is. absurd (cc), (λ is. absurd (cc), tt))))
     (behind_owes, (tt, (tt, (behind_owes, tt))))
+keeps_but_behind Marks not = marks_kept snapshot_behind refl refl refl
 keeps_but_behind Serial not = absurd (not refl)
 keeps_but_behind Ascending not = no_pair_ascends
 keeps_but_behind Runs not = record { run = (tt, (tt, refl)) }
@@ -113,6 +115,7 @@ keeps_but_turned Causes not = in_none _
 keeps_but_turned Refusals not = refusals_kept snapshots_turned refl (record { own = λ t is. tt; saves = λ t is. tt; log = tt; unfilled = tt }, (record { own = λ t is. tt; saves = λ t is. tt; log = tt; unfilled = tt }, (record { own = λ t is. tt; saves = λ t is. tt; log = tt; unfilled = tt }, (record { own = λ t is. tt; saves = λ t is. tt; log = tt; unfilled = tt }, tt))))
 keeps_but_turned Safe not = safe_by_line snapshots_turned (λ session number. 13) refl (λ is. (refl, safe_there _ 13 refl), (λ is. (refl, safe_there _ 13 refl), (λ is. absurd (cc), (λ is. absurd (cc), tt))))
     (one_owes, (other_owes, (one_owes, (other_owes, tt))))
+keeps_but_turned Marks not = marks_kept snapshots_turned refl refl refl
 keeps_but_turned Serial not = absurd (not refl)
 keeps_but_turned Ascending not = no_pair_ascends
 keeps_but_turned Runs not = record { run = (tt, (tt, refl)) }
@@ -172,6 +175,7 @@ keeps_but_left Snapshots not = in_none _
 keeps_but_left Causes not = in_none _
 keeps_but_left Refusals not = refusals_kept snapshot_left_out refl (record { own = λ t is. tt; saves = λ t is. tt; log = tt; unfilled = tt }, (record { own = λ t is. tt; saves = λ t is. tt; log = tt; unfilled = tt }, tt))
 keeps_but_left Safe not = safe_by_line snapshot_left_out (λ session number. 13) refl (λ is. (refl, safe_there _ 13 refl), (λ is. absurd (cc), tt)) (left_owes, (left_owes, tt))
+keeps_but_left Marks not = marks_kept snapshot_left_out refl refl refl
 keeps_but_left Serial not = absurd (not refl)
 keeps_but_left Ascending not = no_pair_ascends
 keeps_but_left Runs not = record { run = refl }

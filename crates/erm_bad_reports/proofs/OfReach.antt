@@ -5,9 +5,10 @@ use Rattle.std.proofs.lemmas.List.Elements.{All-from_recursion}
 use Rattle.erm_report.specs.Printable.{FitsTypes}
 use Rattle.erm_good_report.specs.Transactions.{history_of, said_of}
 use Rattle.erm_bad_reports.specs.Cases.{begun_out_of_reach, drawn_out_of_reach}
-use Rattle.erm_bad_reports.specs.Clauses.{BreaksAlone, Clause, Meets, lines_of, told_of, Fit, Answered, Closes, Phases, Stamps, Snapshots, Causes, Refusals, Safe, Serial, Ascending, Runs, LowEnds, HighEnds}
+use Rattle.erm_bad_reports.specs.Clauses.{BreaksAlone, Clause, Meets, lines_of, told_of, Fit, Answered, Closes, Phases, Stamps, Snapshots, Causes, Refusals, Safe, Marks, Serial, Ascending, Runs, LowEnds, HighEnds}
 use Rattle.erm_bad_reports.proofs.Reading.{owes_of}
 use Rattle.erm_bad_reports.proofs.Tests.{safe_kept, first_snapshot, high_ends, in_one, low_ends, no_commit_ordered, no_pair_ascends, one_commit_ordered, phases_kept, stamps_agree}
+use Rattle.erm_bad_reports.proofs.Unmarked.{marks_kept}
 
 -- ---- a begin
 keeps_but_begun_far : (other : Clause) → other ≢ Refusals → Meets other begun_out_of_reach
@@ -20,6 +21,7 @@ keeps_but_begun_far Snapshots not = in_one _ _ (first_snapshot (history_of (told
 keeps_but_begun_far Causes not = in_one _ _ (tt)
 keeps_but_begun_far Refusals not = absurd (not refl)
 keeps_but_begun_far Safe not = safe_kept begun_out_of_reach refl
+keeps_but_begun_far Marks not = marks_kept begun_out_of_reach refl refl refl
 keeps_but_begun_far Serial not = no_commit_ordered
 keeps_but_begun_far Ascending not = no_pair_ascends
 keeps_but_begun_far Runs not = record { run = refl }
@@ -43,6 +45,7 @@ keeps_but_drawn_far Snapshots not = in_one _ _ (first_snapshot (history_of (told
 keeps_but_drawn_far Causes not = in_one _ _ (record { opens = omega arith; closes = omega arith; succ_cause = inl refl; pred_cause = inl refl })
 keeps_but_drawn_far Refusals not = absurd (not refl)
 keeps_but_drawn_far Safe not = safe_kept drawn_out_of_reach refl
+keeps_but_drawn_far Marks not = marks_kept drawn_out_of_reach refl refl refl
 keeps_but_drawn_far Serial not = one_commit_ordered _
 keeps_but_drawn_far Ascending not = no_pair_ascends
 keeps_but_drawn_far Runs not = record { run = (tt, refl) }

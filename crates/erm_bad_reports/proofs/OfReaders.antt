@@ -20,10 +20,11 @@ use Rattle.erm_good_report.specs.Stamps.{Told}
 use Rattle.erm_good_report.specs.Windows.{IsCommit}
 use Rattle.erm_good_report.proofs.Parts.{all_pairs_of_two, each_in}
 use Rattle.erm_good_report.proofs.Decided.{AreOverBelow, no_window_over, own_window, window_over}
-use Rattle.erm_bad_reports.specs.Clauses.{BreaksAlone, Clause, Meets, lines_of, told_of, IsLowAt, IsHighAt, Fit, Answered, Closes, Phases, Stamps, Snapshots, Causes, Refusals, Serial, Ascending, Runs, LowEnds, HighEnds, Safe}
+use Rattle.erm_bad_reports.specs.Clauses.{BreaksAlone, Clause, Meets, lines_of, told_of, IsLowAt, IsHighAt, Fit, Answered, Closes, Phases, Stamps, Snapshots, Causes, Refusals, Serial, Ascending, Runs, LowEnds, HighEnds, Safe, Marks}
 use Rattle.erm_bad_reports.specs.ReaderCases.{reader_excludes, reader_precedes, reader_waits}
 use Rattle.erm_bad_reports.proofs.Reading.{owes_of}
 use Rattle.erm_bad_reports.proofs.Tests.{byte, first_snapshot, no_pair_ascends, phases_kept, refusals_kept, stamps_agree, safe_kept}
+use Rattle.erm_bad_reports.proofs.Unmarked.{marks_kept}
 
 -- what the key is got by
 abbrev got : Exchange
@@ -83,6 +84,7 @@ keeps_but_precedes Refusals not = refusals_kept reader_precedes refl (
   ),
 )
 keeps_but_precedes Safe not = safe_kept reader_precedes refl
+keeps_but_precedes Marks not = marks_kept reader_precedes refl refl refl
 keeps_but_precedes Serial not = record { same = IsPermutation-refl (history_of precedes_told); ascends = all_pairs_of_two (λ a b. ComesBefore (rank_of a) (rank_of b)) _ _ (inl (omega arith)) }
 keeps_but_precedes Ascending not = no_pair_ascends
 keeps_but_precedes Runs not = record { run = ((ap reply.Value (sym (value_at-empty 0 1)), tt), ((ap reply.Value (sym (value_at-empty 0 1)), tt), refl)) }
@@ -136,6 +138,7 @@ keeps_but_waits Causes not = each_in (λ t. HasCauseOf t.ending waits_told t) wa
 )
 keeps_but_waits Refusals not = absurd (not refl)
 keeps_but_waits Safe not = safe_kept reader_waits refl
+keeps_but_waits Marks not = marks_kept reader_waits refl refl refl
 keeps_but_waits Serial not = record { same = IsPermutation-refl (history_of waits_told); ascends = all_pairs_of_two (λ a b. ComesBefore (rank_of a) (rank_of b)) _ _ (inl (omega arith)) }
 keeps_but_waits Ascending not = no_pair_ascends
 keeps_but_waits Runs not = record { run = ((ap reply.Value (sym (value_at-empty 0 1)), tt), ((ap reply.Value (sym (value_at-empty 0 1)), tt), refl)) }
@@ -224,6 +227,7 @@ keeps_but_excludes Refusals not = refusals_kept reader_excludes refl (
   ),
 )
 keeps_but_excludes Safe not = safe_kept reader_excludes refl
+keeps_but_excludes Marks not = marks_kept reader_excludes refl refl refl
 keeps_but_excludes Serial not = record { same = IsPermutation-refl (history_of excludes_told); ascends = all_pairs_of_two (λ a b. ComesBefore (rank_of a) (rank_of b)) _ _ (inl (omega arith)) }
 keeps_but_excludes Ascending not = λ i j d less within. absurd (omega arith)
 keeps_but_excludes Runs not = record { run = ((refl, tt), ((ap reply.Value (sym (value_at-insert empty 0 1 (1 ∷ []) 0 2 ∙ value_at-empty 0 2)), tt), refl)) }

@@ -1,5 +1,5 @@
 -- Answers that have no cause, one by one.
-use Rattle.std.proofs.Common.{◌≡◌, ◌≢◌, ℕ, ◌+◌, ◌<◌, ◌≤◌, List, [], ◌∷◌, take, Some, None, refl, sym, subst, inl, arith, true}
+use Rattle.std.proofs.Common.{◌≡◌, ◌≢◌, ℕ, zero, suc, ◌+◌, ◌<◌, ◌≤◌, not, List, [], ◌∷◌, slice_get, take, Some, None, refl, sym, subst, inl, inr, arith, true}
 use Rattle.std.specs.List.{AllByRecursion}
 use Rattle.std.specs.Prelude.{IfSome}
 use Rattle.std.proofs.lemmas.List.Elements.{All-from_recursion}
@@ -14,16 +14,19 @@ use Rattle.erm_report.specs.declared.answer.Answer.{Answer}
 use Rattle.erm_report.specs.declared.answer.Answer.TheVariants as answer
 use Rattle.erm_report.specs.Printable.{FitsAnswer, FitsTypes}
 use Rattle.erm_script.specs.declared.script.Command.TheVariants as command
+use Rattle.erm_script.specs.declared.script.ScriptLine.{ScriptLine}
 use Rattle.erm_good_report.specs.Causes.{HasCauseOf}
 use Rattle.erm_good_report.specs.Opening.{InTurn, Opening}
 use Rattle.erm_good_report.specs.Phases.{FitsPhase, phase_of}
+use Rattle.erm_good_report.specs.Refusals.{IsLeastOpen, NoneIsSealed}
 use Rattle.erm_good_report.specs.Stamps.{StampsAgree, begin_told}
-use Rattle.erm_good_report.specs.Transactions.{Commits, Aborts, Exchange, Said, Transaction, history_of, said_of, steps_of}
-use Rattle.erm_good_report.proofs.Parts.{each_in}
-use Rattle.erm_bad_reports.specs.Clauses.{BreaksAlone, Clause, Meets, lines_of, told_of, IsLowAt, IsHighAt, Fit, Answered, Closes, Phases, Stamps, Snapshots, Causes, Refusals, Serial, Ascending, Runs, LowEnds, HighEnds, Safe}
+use Rattle.erm_good_report.specs.Transactions.{Commits, Aborts, Exchange, Said, Snapshot, Transaction, history_of, said_of, steps_of}
+use Rattle.erm_good_report.proofs.Parts.{all_pass, each_in}
+use Rattle.erm_bad_reports.specs.Clauses.{BreaksAlone, Clause, Meets, lines_of, told_of, IsLowAt, IsHighAt, Fit, Answered, Closes, Phases, Stamps, Snapshots, Causes, Refusals, Serial, Ascending, Runs, LowEnds, HighEnds, Safe, Marks}
 use Rattle.erm_bad_reports.specs.Refused.{NoneTellsCells, alone, answers_alone, before_abort, answers_before_abort, before_settle, answers_before_settle, after_commit, answers_after_commit, newer_than_nothing, oids_beyond, reads_alone}
 use Rattle.erm_bad_reports.proofs.Reading.{owes_of}
 use Rattle.erm_bad_reports.proofs.Tests.{safe_kept, placed_alone, tell_none, in_none, in_one, no_commit_ordered, one_commit_ordered, no_pair_ascends, stamps_agree, first_snapshot, phases_kept, low_ends, high_ends}
+use Rattle.erm_bad_reports.proofs.Unmarked.{marks_calm, marks_kept, marks_quiet, moment, stops}
 
 -- the stamps of no transaction, where a report has one place
 stamps_of_one_place : (opening : Opening) (s : Said) → begin_told s.answer ≡ None → StampsAgree InTurn opening [] (s ∷ [])
@@ -51,6 +54,10 @@ stamps_of_one_place opening s none = record {
 
 -- ---- a line of a session that has no transaction
 module _ (r : Exchange) (calm : tell_none (said_of (alone r).script (alone r).report.answers) ≡ true) (fits : FitsAnswer r.answer) (phase : FitsPhase Idle r.asked r.answer) (begins : begin_told r.answer ≡ None) (closes : Meets Closes (alone r)) (none : told_of (alone r) ≡ []) (breaks : Meets Refusals (alone r) → ⊥) where
+  nothing_before : (i : ℕ) (l : ScriptLine) → slice_get (alone r).script i ≡ Some l → NoneIsSealed (moment (alone r) i l)
+  nothing_before zero l at session is = cc is
+  nothing_before (suc i) l at session is = cc at
+
   keeps_alone : (other : Clause) → other ≢ Refusals → Meets other (alone r)
   keeps_alone Fit not = All-from_recursion FitsTypes (lines_of (alone r)) ((omega arith, omega arith), ((omega arith, fits), (omega arith, (omega arith, (tt, tt)))))
   keeps_alone Answered not = refl
@@ -61,6 +68,7 @@ module _ (r : Exchange) (calm : tell_none (said_of (alone r).script (alone r).re
   keeps_alone Causes not = subst (λ (ts : List Transaction). (t : Transaction) → t ∈ ts → HasCauseOf t.ending ts t) (sym none) (in_none _)
   keeps_alone Refusals not = absurd (not refl)
   keeps_alone Safe not = safe_kept (alone r) calm
+  keeps_alone Marks not = marks_calm (alone r) calm refl calm (λ i place l a at told is. nothing_before i l at)
   keeps_alone Serial not = placed_alone (alone r) (alone r).report.order calm (subst (λ (ts : List Transaction). IsSerialOrder rank_of (history_of ts) []) (sym none) no_commit_ordered)
   keeps_alone Ascending not = no_pair_ascends
   keeps_alone Runs not = record { run = refl }
@@ -84,8 +92,8 @@ alone_break = (
           (
             breaks_alone _ refl (omega arith) tt refl (record { each = refl; fits = λ c (k, at). cc }) refl (λ refusals. let log = (refusals.each 0 _ _ refl refl).log in let place : 14 ≡ 13 = log.0 in omega (arith, place)),
             (
-              breaks_alone _ refl (omega arith) tt refl (record { each = refl; fits = λ c (k, at). cc }) refl (λ refusals. let cause = (refusals.each 0 _ _ refl refl).unfilled in nobody_sealed cause.1.transaction cause.1.sealed.current),
-              (breaks_alone _ refl (omega arith) tt refl (record { each = refl; fits = λ c (k, at). cc }) refl (λ refusals. let cause = (refusals.each 0 _ _ refl refl).unfilled in nobody_sealed cause.1.transaction cause.1.sealed.current), tt),
+              breaks_alone _ refl (omega arith) tt refl (record { each = refl; fits = λ c (k, at). cc }) refl (λ refusals. let cause = (refusals.each 0 _ _ refl refl).unfilled in nobody_open _ cause.1),
+              (breaks_alone _ refl (omega arith) tt refl (record { each = refl; fits = λ c (k, at). cc }) refl (λ refusals. let cause = (refusals.each 0 _ _ refl refl).unfilled in nobody_open _ cause.1), tt),
             ),
           ),
         ),
@@ -97,11 +105,18 @@ alone_break = (
     nobody_sealed : (t : Transaction) → None ≡ Some t → ⊥
     nobody_sealed t is = cc
 
+    nothing_watched : (s : Snapshot) → None ≡ Some s → ⊥
+    nothing_watched s is = cc
+
+    nobody_open : (r : Exchange) → IsLeastOpen (moment (alone r) 0 (record { line = 1; session = 1; command = r.asked })) 13 → ⊥
+    nobody_open r (inl undecided) = nobody_sealed undecided.transaction undecided.sealed.current
+    nobody_open r (inr mark) = nothing_watched mark.snapshot mark.current
+
 -- ---- a line of a transaction that aborts
 abbrev aborts : Exchange → Transaction
 aborts r = record { session = 1; number = 1; begin = 13; lines = r ∷ []; sealed = None; ending = Aborts }
 
-module _ (r : Exchange) (calm : tell_none (said_of (before_abort r).script (before_abort r).report.answers) ≡ true) (fits : FitsAnswer r.answer) (phase : FitsPhase Active r.asked r.answer)
+module _ (r : Exchange) (calm : tell_none (said_of (before_abort r).script (before_abort r).report.answers) ≡ true) (quiet : all_pass (λ b. not (stops b)) (before_abort r).report.answers ≡ true) (fits : FitsAnswer r.answer) (phase : FitsPhase Active r.asked r.answer)
     (then : FitsPhase (phase_of 1 (take 2 (said_of (before_abort r).script (before_abort r).report.answers))) command.Abort answer.Aborted) (closes : Meets Closes (before_abort r))
     (stamps : Meets Stamps (before_abort r)) (one : told_of (before_abort r) ≡ aborts r ∷ []) (steps : steps_of (aborts r) ≡ []) (breaks : Meets Refusals (before_abort r) → ⊥) where
   keeps_before_abort : (other : Clause) → other ≢ Refusals → Meets other (before_abort r)
@@ -115,6 +130,7 @@ module _ (r : Exchange) (calm : tell_none (said_of (before_abort r).script (befo
   keeps_before_abort Causes not = subst (λ (ts : List Transaction). (t : Transaction) → t ∈ ts → HasCauseOf t.ending ts t) (sym one) (in_one _ _ tt)
   keeps_before_abort Refusals not = absurd (not refl)
   keeps_before_abort Safe not = safe_kept (before_abort r) calm
+  keeps_before_abort Marks not = marks_quiet (before_abort r) calm refl calm quiet
   keeps_before_abort Serial not = placed_alone (before_abort r) (before_abort r).report.order calm (subst (λ (ts : List Transaction). IsSerialOrder rank_of (history_of ts) []) (sym one) no_commit_ordered)
   keeps_before_abort Ascending not = no_pair_ascends
   keeps_before_abort Runs not = record { run = refl }
@@ -126,16 +142,16 @@ module _ (r : Exchange) (calm : tell_none (said_of (before_abort r).script (befo
 
 pub before_abort_break : AllByRecursion (λ r. BreaksAlone Refusals (before_abort r)) answers_before_abort
 before_abort_break = (
-  breaks_before_abort _ refl (omega arith, omega arith) tt tt (record { each = refl; fits = λ c (k, at). cc }) (stamps_agree _ _ _ refl refl refl refl refl refl (in_one _ _ (omega arith)) (in_one _ _ tt) (in_one _ _ tt)) refl refl (λ refusals. let cause = (refusals.each 1 _ _ refl refl).own _ (_, refl, refl) in let current : None ≡ Some cause.1.other = cause.1.sealed.current in cc),
+  breaks_before_abort _ refl refl (omega arith, omega arith) tt tt (record { each = refl; fits = λ c (k, at). cc }) (stamps_agree _ _ _ refl refl refl refl refl refl (in_one _ _ (omega arith)) (in_one _ _ tt) (in_one _ _ tt)) refl refl (λ refusals. let cause = (refusals.each 1 _ _ refl refl).own _ (_, refl, refl) in let current : None ≡ Some cause.1.other = cause.1.sealed.current in cc),
   (
-    breaks_before_abort _ refl tt tt tt (record { each = refl; fits = λ c (k, at). cc }) (stamps_agree _ _ _ refl refl refl refl refl refl (in_one _ _ (omega arith)) (in_one _ _ tt) (in_one _ _ tt)) refl refl (λ refusals. let many : (512 < 16) × (512 < 13) = (refusals.each 1 _ _ refl refl).own _ (_, refl, refl) in omega (arith, many.0)),
+    breaks_before_abort _ refl refl tt tt tt (record { each = refl; fits = λ c (k, at). cc }) (stamps_agree _ _ _ refl refl refl refl refl refl (in_one _ _ (omega arith)) (in_one _ _ tt) (in_one _ _ tt)) refl refl (λ refusals. let many : (512 < 16) × (512 < 13) = (refusals.each 1 _ _ refl refl).own _ (_, refl, refl) in omega (arith, many.0)),
     (
-      breaks_before_abort _ refl tt tt tt (record { each = refl; fits = λ c (k, at). cc }) (stamps_agree _ _ _ refl refl refl refl refl refl (in_one _ _ (omega arith)) (in_one _ _ tt) (in_one _ _ tt)) refl refl (λ refusals. let many : 128 < 26 = (refusals.each 1 _ _ refl refl).own _ (_, refl, refl) in omega (arith, many)),
+      breaks_before_abort _ refl refl tt tt tt (record { each = refl; fits = λ c (k, at). cc }) (stamps_agree _ _ _ refl refl refl refl refl refl (in_one _ _ (omega arith)) (in_one _ _ tt) (in_one _ _ tt)) refl refl (λ refusals. let many : 128 < 26 = (refusals.each 1 _ _ refl refl).own _ (_, refl, refl) in omega (arith, many)),
       (
-        breaks_before_abort _ refl (omega arith) tt tt (record { each = refl; fits = λ c (k, at). cc }) (stamps_agree _ _ _ refl refl refl refl refl refl (in_one _ _ (omega arith)) (in_one _ _ tt) (in_one _ _ tt)) refl refl (λ refusals. let many : ((65536 ≤ 65536) × (65536 ≤ 16777266)) × (65536 < 16410) = (refusals.each 1 _ _ refl refl).own _ (_, refl, refl) in omega (arith, many.1)),
+        breaks_before_abort _ refl refl (omega arith) tt tt (record { each = refl; fits = λ c (k, at). cc }) (stamps_agree _ _ _ refl refl refl refl refl refl (in_one _ _ (omega arith)) (in_one _ _ tt) (in_one _ _ tt)) refl refl (λ refusals. let many : ((65536 ≤ 65536) × (65536 ≤ 16777266)) × (65536 < 16410) = (refusals.each 1 _ _ refl refl).own _ (_, refl, refl) in omega (arith, many.1)),
         (
-          breaks_before_abort _ refl (omega arith) tt tt (record { each = refl; fits = λ c (k, at). cc }) (stamps_agree _ _ _ refl refl refl refl refl refl (in_one _ _ (omega arith)) (in_one _ _ tt) (in_one _ _ tt)) refl refl (λ refusals. let many : ((65536 ≤ 20000000) × (20000000 ≤ 16777266)) × (65536 < 16410) = (refusals.each 1 _ _ refl refl).own _ (_, refl, refl) in omega (arith, many.0.1)),
-          (breaks_before_abort _ refl (omega arith) tt tt (record { each = refl; fits = λ c (k, at). cc }) (stamps_agree _ _ _ refl refl refl refl refl refl (in_one _ _ (omega arith)) (in_one _ _ tt) (in_one _ _ tt)) refl refl (λ refusals. let many : ((16384 ≤ 16384) × (16384 ≤ 16434)) × (16384 < 30) = (refusals.each 1 _ _ refl refl).own _ (_, refl, refl) in omega (arith, many.1)), tt),
+          breaks_before_abort _ refl refl (omega arith) tt tt (record { each = refl; fits = λ c (k, at). cc }) (stamps_agree _ _ _ refl refl refl refl refl refl (in_one _ _ (omega arith)) (in_one _ _ tt) (in_one _ _ tt)) refl refl (λ refusals. let many : ((65536 ≤ 20000000) × (20000000 ≤ 16777266)) × (65536 < 16410) = (refusals.each 1 _ _ refl refl).own _ (_, refl, refl) in omega (arith, many.0.1)),
+          (breaks_before_abort _ refl refl (omega arith) tt tt (record { each = refl; fits = λ c (k, at). cc }) (stamps_agree _ _ _ refl refl refl refl refl refl (in_one _ _ (omega arith)) (in_one _ _ tt) (in_one _ _ tt)) refl refl (λ refusals. let many : ((16384 ≤ 16384) × (16384 ≤ 16434)) × (16384 < 30) = (refusals.each 1 _ _ refl refl).own _ (_, refl, refl) in omega (arith, many.1)), tt),
         ),
       ),
     ),
@@ -146,7 +162,7 @@ before_abort_break = (
 abbrev settled : Transaction
 settled = record { session = 1; number = 1; begin = 13; lines = []; sealed = None; ending = Commits 18 18 0 }
 
-module _ (a : Answer) (calm : tell_none (said_of (before_settle a).script (before_settle a).report.answers) ≡ true) (fits : FitsAnswer a) (phase : FitsPhase Active command.Commit a)
+module _ (a : Answer) (calm : tell_none (said_of (before_settle a).script (before_settle a).report.answers) ≡ true) (quiet : all_pass (λ b. not (stops b)) (before_settle a).report.answers ≡ true) (fits : FitsAnswer a) (phase : FitsPhase Active command.Commit a)
     (then : FitsPhase (phase_of 1 (take 2 (said_of (before_settle a).script (before_settle a).report.answers))) command.Settle (answer.Committed 18 18 0)) (closes : Meets Closes (before_settle a))
     (stamps : Meets Stamps (before_settle a)) (one : told_of (before_settle a) ≡ settled ∷ []) (breaks : Meets Refusals (before_settle a) → ⊥) where
   keeps_before_settle : (other : Clause) → other ≢ Refusals → Meets other (before_settle a)
@@ -161,6 +177,7 @@ module _ (a : Answer) (calm : tell_none (said_of (before_settle a).script (befor
       (in_one _ _ (record { opens = omega arith; closes = omega arith; succ_cause = inl refl; pred_cause = inl refl }))
   keeps_before_settle Refusals not = absurd (not refl)
   keeps_before_settle Safe not = safe_kept (before_settle a) calm
+  keeps_before_settle Marks not = marks_quiet (before_settle a) calm refl calm quiet
   keeps_before_settle Serial not = placed_alone (before_settle a) (before_settle a).report.order calm (subst (λ (ts : List Transaction). IsSerialOrder rank_of (history_of ts) (before_settle a).report.order) (sym one) (one_commit_ordered _))
   keeps_before_settle Ascending not = no_pair_ascends
   keeps_before_settle Runs not = record { run = (tt, refl) }
@@ -172,15 +189,15 @@ module _ (a : Answer) (calm : tell_none (said_of (before_settle a).script (befor
 
 pub before_settle_break : AllByRecursion (λ a. BreaksAlone Refusals (before_settle a)) answers_before_settle
 before_settle_break = (
-  breaks_before_settle _ refl (omega arith, omega arith) tt tt (record { each = refl; fits = λ c (k, at). cc }) (stamps_agree _ _ _ refl refl refl refl refl refl (in_one _ _ (omega arith)) (in_one _ _ (omega arith)) (in_one _ _ tt)) refl (λ refusals. let cause = (refusals.each 1 _ _ refl refl).own _ (_, refl, refl) in let current : None ≡ Some cause.1.other = cause.1.sealed.current in cc),
-  (breaks_before_settle _ refl (omega arith) tt tt (record { each = refl; fits = λ c (k, at). cc }) (stamps_agree _ _ _ refl refl refl refl refl refl (in_one _ _ (omega arith)) (in_one _ _ (omega arith)) (in_one _ _ tt)) refl (λ refusals. let cause = (refusals.each 1 _ _ refl refl).own _ (_, refl, refl) in let own : 18 ≡ cause.1.own = cause.1.own_is settled (0, refl) refl refl in let full : 32781 < cause.1.own + 5 = cause.1.full in omega (arith, own, full)), tt),
+  breaks_before_settle _ refl refl (omega arith, omega arith) tt tt (record { each = refl; fits = λ c (k, at). cc }) (stamps_agree _ _ _ refl refl refl refl refl refl (in_one _ _ (omega arith)) (in_one _ _ (omega arith)) (in_one _ _ tt)) refl (λ refusals. let cause = (refusals.each 1 _ _ refl refl).own _ (_, refl, refl) in let current : None ≡ Some cause.1.other = cause.1.sealed.current in cc),
+  (breaks_before_settle _ refl refl (omega arith) tt tt (record { each = refl; fits = λ c (k, at). cc }) (stamps_agree _ _ _ refl refl refl refl refl refl (in_one _ _ (omega arith)) (in_one _ _ (omega arith)) (in_one _ _ tt)) refl (λ refusals. let cause = (refusals.each 1 _ _ refl refl).own _ (_, refl, refl) in let own : 18 ≡ cause.1.own = cause.1.own_is settled (0, refl) refl refl in let full : 32781 < cause.1.own + 5 = cause.1.full in omega (arith, own, full)), tt),
 )
 
 -- ---- a line after a commit
 abbrev committed : Transaction
 committed = record { session = 1; number = 1; begin = 13; lines = []; sealed = None; ending = Commits 13 13 0 }
 
-module _ (r : Exchange) (calm : tell_none (said_of (after_commit r).script (after_commit r).report.answers) ≡ true) (fits : FitsAnswer r.answer) (phase : FitsPhase Idle r.asked r.answer) (closes : Meets Closes (after_commit r))
+module _ (r : Exchange) (calm : tell_none (said_of (after_commit r).script (after_commit r).report.answers) ≡ true) (quiet : all_pass (λ b. not (stops b)) (after_commit r).report.answers ≡ true) (fits : FitsAnswer r.answer) (phase : FitsPhase Idle r.asked r.answer) (closes : Meets Closes (after_commit r))
     (stamps : Meets Stamps (after_commit r)) (one : told_of (after_commit r) ≡ committed ∷ []) (breaks : Meets Refusals (after_commit r) → ⊥) where
   keeps_after_commit : (other : Clause) → other ≢ Refusals → Meets other (after_commit r)
   keeps_after_commit Fit not = All-from_recursion FitsTypes (lines_of (after_commit r)) ((omega arith, omega arith), ((omega arith, omega arith), ((omega arith, (omega arith, omega arith, omega arith)), ((omega arith, fits), (omega arith, ((omega arith, omega arith, omega arith, omega arith), (omega arith, (tt, tt))))))))
@@ -194,6 +211,7 @@ module _ (r : Exchange) (calm : tell_none (said_of (after_commit r).script (afte
       (in_one _ _ (record { opens = omega arith; closes = omega arith; succ_cause = inl refl; pred_cause = inl refl }))
   keeps_after_commit Refusals not = absurd (not refl)
   keeps_after_commit Safe not = safe_kept (after_commit r) calm
+  keeps_after_commit Marks not = marks_quiet (after_commit r) calm refl calm quiet
   keeps_after_commit Serial not = placed_alone (after_commit r) (after_commit r).report.order calm (subst (λ (ts : List Transaction). IsSerialOrder rank_of (history_of ts) (after_commit r).report.order) (sym one) (one_commit_ordered _))
   keeps_after_commit Ascending not = no_pair_ascends
   keeps_after_commit Runs not = record { run = (tt, refl) }
@@ -205,10 +223,10 @@ module _ (r : Exchange) (calm : tell_none (said_of (after_commit r).script (afte
 
 pub after_commit_break : AllByRecursion (λ r. BreaksAlone Refusals (after_commit r)) answers_after_commit
 after_commit_break = (
-  breaks_after_commit _ refl tt tt (record { each = refl; fits = λ c (k, at). cc }) (stamps_agree _ _ _ refl refl refl refl refl refl (in_one _ _ (omega arith)) (in_one _ _ (omega arith)) (in_one _ _ tt)) refl (λ refusals. let last : Some 13 ≡ None = (refusals.each 2 _ _ refl refl).log in cc),
+  breaks_after_commit _ refl refl tt tt (record { each = refl; fits = λ c (k, at). cc }) (stamps_agree _ _ _ refl refl refl refl refl refl (in_one _ _ (omega arith)) (in_one _ _ (omega arith)) (in_one _ _ tt)) refl (λ refusals. let last : Some 13 ≡ None = (refusals.each 2 _ _ refl refl).log in cc),
   (
-    breaks_after_commit _ refl (omega arith) tt (record { each = refl; fits = λ c (k, at). cc }) (stamps_agree _ _ _ refl refl refl refl refl refl (in_one _ _ (omega arith)) (in_one _ _ (omega arith)) (in_one _ _ tt)) refl (λ refusals. let log = (refusals.each 2 _ _ refl refl).log in let below : 13 < 13 = log.1 refl in omega (arith, below)),
-    (breaks_after_commit _ refl (omega arith) tt (record { each = refl; fits = λ c (k, at). cc }) (stamps_agree _ _ _ refl refl refl refl refl refl (in_one _ _ (omega arith)) (in_one _ _ (omega arith)) (in_one _ _ tt)) refl (λ refusals. let log = (refusals.each 2 _ _ refl refl).log in let below : 13 < 13 = log.2 13 (1, committed, inl ((0, refl), refl)) in omega (arith, below)), tt),
+    breaks_after_commit _ refl refl (omega arith) tt (record { each = refl; fits = λ c (k, at). cc }) (stamps_agree _ _ _ refl refl refl refl refl refl (in_one _ _ (omega arith)) (in_one _ _ (omega arith)) (in_one _ _ tt)) refl (λ refusals. let log = (refusals.each 2 _ _ refl refl).log in let below : 13 < 13 = log.1 refl in omega (arith, below)),
+    (breaks_after_commit _ refl refl (omega arith) tt (record { each = refl; fits = λ c (k, at). cc }) (stamps_agree _ _ _ refl refl refl refl refl refl (in_one _ _ (omega arith)) (in_one _ _ (omega arith)) (in_one _ _ tt)) refl (λ refusals. let log = (refusals.each 2 _ _ refl refl).log in let below : 13 < 13 = log.2 13 (1, committed, inl ((0, refl), refl)) in omega (arith, below)), tt),
   ),
 )
 
@@ -223,6 +241,7 @@ keeps_but_newer Snapshots not = in_one _ _ (first_snapshot [] empty 13 [] refl t
 keeps_but_newer Causes not = in_one _ _ tt
 keeps_but_newer Refusals not = absurd (not refl)
 keeps_but_newer Safe not = safe_kept newer_than_nothing refl
+keeps_but_newer Marks not = marks_kept newer_than_nothing refl refl refl
 keeps_but_newer Serial not = no_commit_ordered
 keeps_but_newer Ascending not = no_pair_ascends
 keeps_but_newer Runs not = record { run = refl }
@@ -249,6 +268,7 @@ keeps_but_reads Snapshots not = in_one _ _ (first_snapshot [] empty 13 [] refl t
 keeps_but_reads Causes not = in_one _ _ tt
 keeps_but_reads Refusals not = absurd (not refl)
 keeps_but_reads Safe not = safe_kept reads_alone refl
+keeps_but_reads Marks not = marks_kept reads_alone refl refl refl
 keeps_but_reads Serial not = no_commit_ordered
 keeps_but_reads Ascending not = no_pair_ascends
 keeps_but_reads Runs not = record { run = refl }
@@ -272,6 +292,7 @@ keeps_but_counted Snapshots not = in_one _ _ (first_snapshot [] empty 13 [] refl
 keeps_but_counted Causes not = in_one _ _ tt
 keeps_but_counted Refusals not = absurd (not refl)
 keeps_but_counted Safe not = safe_kept oids_beyond refl
+keeps_but_counted Marks not = marks_kept oids_beyond refl refl refl
 keeps_but_counted Serial not = no_commit_ordered
 keeps_but_counted Ascending not = no_pair_ascends
 keeps_but_counted Runs not = record { run = refl }

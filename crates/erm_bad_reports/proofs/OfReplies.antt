@@ -17,10 +17,11 @@ use Rattle.erm_good_report.specs.Phases.{FitsPhase, phase_of}
 use Rattle.erm_good_report.specs.Refusals.{HasCause, moment_at}
 use Rattle.erm_good_report.specs.Transactions.{said_of, Transaction, history_of, Commits}
 use Rattle.erm_good_report.proofs.Parts.{each_place}
-use Rattle.erm_bad_reports.specs.Clauses.{BreaksAlone, Clause, Meets, lines_of, told_of, Fit, Answered, Closes, Phases, Stamps, Snapshots, Causes, Refusals, Safe, Serial, Ascending, Runs, LowEnds, HighEnds}
+use Rattle.erm_bad_reports.specs.Clauses.{BreaksAlone, Clause, Meets, lines_of, told_of, Fit, Answered, Closes, Phases, Stamps, Snapshots, Causes, Refusals, Safe, Marks, Serial, Ascending, Runs, LowEnds, HighEnds}
 use Rattle.erm_bad_reports.specs.Cases.{value_from_nowhere, predecessor_unknown, excluded_alone, owned_by_nobody}
 use Rattle.erm_bad_reports.proofs.Reading.{owes_of}
 use Rattle.erm_bad_reports.proofs.Tests.{safe_kept, no_looks, in_one, no_commit_ordered, one_commit_ordered, no_pair_ascends, stamps_agree, first_snapshot, low_ends, high_ends, reach_from_test, untold_in_reach}
+use Rattle.erm_bad_reports.proofs.Unmarked.{marks_kept}
 
 -- ---- a value that no commit put
 keeps_but_snapshots : (other : Clause) → other ≢ Snapshots → Meets other value_from_nowhere
@@ -33,6 +34,7 @@ keeps_but_snapshots Snapshots not = absurd (not refl)
 keeps_but_snapshots Causes not = in_one _ _ tt
 keeps_but_snapshots Refusals not = record { each = each_place (λ i l a. HasCause (moment_at InTurn value_from_nowhere.opening value_from_nowhere.script value_from_nowhere.report.answers (told_of value_from_nowhere) i l) l.command a) value_from_nowhere.script value_from_nowhere.report.answers (record { own = λ t is. tt; saves = λ t is. tt; log = tt; unfilled = tt }, (record { own = λ t is. tt; saves = λ t is. tt; log = tt; unfilled = tt }, (record { own = λ t is. tt; saves = λ t is. tt; log = tt; unfilled = tt }, tt))); reach = reach_from_test (moment_at InTurn value_from_nowhere.opening value_from_nowhere.script value_from_nowhere.report.answers (told_of value_from_nowhere)) value_from_nowhere.script value_from_nowhere.report.answers refl; untold = untold_in_reach InTurn value_from_nowhere.opening value_from_nowhere.script value_from_nowhere.report.answers (told_of value_from_nowhere) refl }
 keeps_but_snapshots Safe not = safe_kept value_from_nowhere refl
+keeps_but_snapshots Marks not = marks_kept value_from_nowhere refl refl refl
 keeps_but_snapshots Serial not = no_commit_ordered
 keeps_but_snapshots Ascending not = no_pair_ascends
 keeps_but_snapshots Runs not = record { run = refl }
@@ -77,6 +79,7 @@ keeps_but_commit Snapshots not = in_one _ _ (first_snapshot (history_of (told_of
 keeps_but_commit Causes not = absurd (not refl)
 keeps_but_commit Refusals not = record { each = each_place (λ i l a. HasCause (moment_at InTurn predecessor_unknown.opening predecessor_unknown.script predecessor_unknown.report.answers (told_of predecessor_unknown) i l) l.command a) predecessor_unknown.script predecessor_unknown.report.answers (record { own = λ t is. tt; saves = λ t is. tt; log = tt; unfilled = tt }, (record { own = λ t is. λ window. absurd (no_predecessor_in t window); saves = λ t is. tt; log = tt; unfilled = tt }, tt)); reach = reach_from_test (moment_at InTurn predecessor_unknown.opening predecessor_unknown.script predecessor_unknown.report.answers (told_of predecessor_unknown)) predecessor_unknown.script predecessor_unknown.report.answers refl; untold = untold_in_reach InTurn predecessor_unknown.opening predecessor_unknown.script predecessor_unknown.report.answers (told_of predecessor_unknown) refl }
 keeps_but_commit Safe not = safe_kept predecessor_unknown refl
+keeps_but_commit Marks not = marks_kept predecessor_unknown refl refl refl
 keeps_but_commit Serial not = one_commit_ordered _
 keeps_but_commit Ascending not = no_pair_ascends
 keeps_but_commit Runs not = record { run = (tt, refl) }
@@ -103,6 +106,7 @@ keeps_but_exclusion Snapshots not = in_one _ _ (first_snapshot [] excluded_alone
 keeps_but_exclusion Causes not = absurd (not refl)
 keeps_but_exclusion Refusals not = record { each = each_place (λ i l a. HasCause (moment_at InTurn excluded_alone.opening excluded_alone.script excluded_alone.report.answers (told_of excluded_alone) i l) l.command a) excluded_alone.script excluded_alone.report.answers (record { own = λ t is. tt; saves = λ t is. tt; log = tt; unfilled = tt }, (record { own = λ t is. λ window. absurd (no_commit window.after window.after_in window.succ_cause.own 13 window.succ_cause.pred window.succ_cause.ending); saves = λ t is. tt; log = tt; unfilled = tt }, tt)); reach = reach_from_test (moment_at InTurn excluded_alone.opening excluded_alone.script excluded_alone.report.answers (told_of excluded_alone)) excluded_alone.script excluded_alone.report.answers refl; untold = untold_in_reach InTurn excluded_alone.opening excluded_alone.script excluded_alone.report.answers (told_of excluded_alone) refl }
 keeps_but_exclusion Safe not = safe_kept excluded_alone refl
+keeps_but_exclusion Marks not = marks_kept excluded_alone refl refl refl
 keeps_but_exclusion Serial not = no_commit_ordered
 keeps_but_exclusion Ascending not = no_pair_ascends
 keeps_but_exclusion Runs not = record { run = refl }
@@ -128,6 +132,7 @@ keeps_but_refusals Snapshots not = in_one _ _ (first_snapshot [] owned_by_nobody
 keeps_but_refusals Causes not = in_one _ _ tt
 keeps_but_refusals Refusals not = absurd (not refl)
 keeps_but_refusals Safe not = safe_kept owned_by_nobody refl
+keeps_but_refusals Marks not = marks_kept owned_by_nobody refl refl refl
 keeps_but_refusals Serial not = no_commit_ordered
 keeps_but_refusals Ascending not = no_pair_ascends
 keeps_but_refusals Runs not = record { run = refl }

@@ -8,13 +8,14 @@ use Rattle.erm_good_report.specs.Refusals.{Moment, moment_at}
 use Rattle.erm_good_report.specs.Stamps.{StampsAgree}
 use Rattle.erm_good_report.specs.Transactions.{Said, Transaction, said_of}
 use Rattle.erm_good_report.proofs.Decided.{AreOverBelow, own_window, window_over}
-use Rattle.erm_bad_reports.specs.Clauses.{BreaksAlone, Clause, Meets, lines_of, told_of, Fit, Answered, Closes, Phases, Stamps, Snapshots, Causes, Refusals, Safe, Serial, Ascending, Runs, LowEnds, HighEnds}
+use Rattle.erm_bad_reports.specs.Clauses.{BreaksAlone, Clause, Meets, lines_of, told_of, Fit, Answered, Closes, Phases, Stamps, Snapshots, Causes, Refusals, Safe, Marks, Serial, Ascending, Runs, LowEnds, HighEnds}
 use Rattle.erm_bad_reports.specs.SafeAtOnceCases.{safe_beside_one_that_went_back, waits_at_once}
 use Rattle.erm_bad_reports.proofs.OfGood.{keeps}
 use Rattle.erm_bad_reports.proofs.OfSnapshots.{phases_by_line}
 use Rattle.erm_bad_reports.proofs.OfWentBack.{own_begun, own_causes, own_highs, own_least, own_lows, own_order, own_pairs, own_replies, own_run, own_sealed, told}
 use Rattle.erm_bad_reports.proofs.Reading.{owes_of}
 use Rattle.erm_bad_reports.proofs.Tests.{byte, refusals_kept, stamps_agree}
+use Rattle.erm_bad_reports.proofs.Unmarked.{marks_kept}
 
 -- stamps that agree where each earlier line is before each later one, do so at once
 pub at_once : (opening : Opening) (transactions : List Transaction) (said : List Said) → StampsAgree InTurn opening transactions said → StampsAgree AtOnce opening transactions said
@@ -49,6 +50,7 @@ keeps_but_wait Snapshots not = keeps Snapshots
 keeps_but_wait Causes not = keeps Causes
 keeps_but_wait Refusals not = refusals_kept waits_at_once refl (record { own = λ t is. tt; saves = λ t is. tt; log = tt; unfilled = tt }, (record { own = λ t is. tt; saves = λ t is. tt; log = tt; unfilled = tt }, (record { own = λ t is. own_window _ t _; saves = λ t is. tt; log = tt; unfilled = tt }, (record { own = λ t is. absurd (cc is.1); saves = λ t is. tt; log = tt; unfilled = tt }, (record { own = λ t is. own_window _ t _; saves = λ t is. tt; log = tt; unfilled = tt }, (record { own = λ t is. tt; saves = λ t is. tt; log = tt; unfilled = tt }, (record { own = λ t is. tt; saves = λ t is. tt; log = tt; unfilled = tt }, (record { own = λ t is. tt; saves = λ t is. tt; log = tt; unfilled = tt }, tt))))))))
 keeps_but_wait Safe not = absurd (not refl)
+keeps_but_wait Marks not = marks_kept waits_at_once refl refl refl
 keeps_but_wait Serial not = keeps Serial
 keeps_but_wait Ascending not = keeps Ascending
 keeps_but_wait Runs not = keeps Runs
@@ -72,6 +74,7 @@ keeps_but_beside Snapshots not = own_replies
 keeps_but_beside Causes not = own_causes
 keeps_but_beside Refusals not = refusals_kept safe_beside_one_that_went_back refl (record { own = λ t is. tt; saves = λ t is. tt; log = tt; unfilled = tt }, (record { own = λ t is. tt; saves = λ t is. tt; log = tt; unfilled = tt }, (record { own = λ t is. tt; saves = λ t is. tt; log = tt; unfilled = tt }, (record { own = λ t is. own_window _ t _; saves = λ t is. tt; log = tt; unfilled = tt }, (record { own = λ t is. tt; saves = λ t is. tt; log = tt; unfilled = tt }, (record { own = λ t is. tt; saves = λ t is. tt; log = tt; unfilled = tt }, (record { own = λ t is. tt; saves = λ t is. tt; log = tt; unfilled = tt }, (record { own = λ t is. tt; saves = λ t is. tt; log = tt; unfilled = tt }, (record { own = λ t is. tt; saves = λ t is. tt; log = tt; unfilled = tt }, (record { own = λ t is. tt; saves = λ t is. tt; log = tt; unfilled = tt }, (record { own = λ t is. window_over (moment_at AtOnce safe_beside_one_that_went_back.opening safe_beside_one_that_went_back.script safe_beside_one_that_went_back.report.answers told 10 (record { line = 11; session = 1; command = command.Commit })) t 38 38 13 (over_at_once (moment_at AtOnce safe_beside_one_that_went_back.opening safe_beside_one_that_went_back.script safe_beside_one_that_went_back.report.answers told 10 (record { line = 11; session = 1; command = command.Commit })) 38 refl); saves = λ t is. tt; log = tt; unfilled = tt }, (record { own = λ t is. window_over (moment_at AtOnce safe_beside_one_that_went_back.opening safe_beside_one_that_went_back.script safe_beside_one_that_went_back.report.answers told 11 (record { line = 12; session = 2; command = command.Commit })) t 47 38 13 (over_at_once (moment_at AtOnce safe_beside_one_that_went_back.opening safe_beside_one_that_went_back.script safe_beside_one_that_went_back.report.answers told 11 (record { line = 12; session = 2; command = command.Commit })) 47 refl); saves = λ t is. tt; log = tt; unfilled = tt }, (record { own = λ t is. tt; saves = λ t is. tt; log = tt; unfilled = tt }, (record { own = λ t is. tt; saves = λ t is. tt; log = tt; unfilled = tt }, tt))))))))))))))
 keeps_but_beside Safe not = absurd (not refl)
+keeps_but_beside Marks not = marks_kept safe_beside_one_that_went_back refl refl refl
 keeps_but_beside Serial not = own_order
 keeps_but_beside Ascending not = own_pairs
 keeps_but_beside Runs not = own_run

@@ -7,13 +7,14 @@ use Rattle.erm_report.specs.Printable.{FitsTypes}
 use Rattle.erm_good_report.specs.Transactions.{history_of, said_of}
 use Rattle.erm_good_report.proofs.Decided.{own_window}
 use Rattle.erm_good_report.proofs.SnapshotTests.{safe_there, snapshots_at}
-use Rattle.erm_bad_reports.specs.Clauses.{BreaksAlone, Clause, Meets, lines_of, told_of, Fit, Answered, Closes, Phases, Stamps, Snapshots, Causes, Refusals, Safe, Serial, Ascending, Runs, LowEnds, HighEnds}
+use Rattle.erm_bad_reports.specs.Clauses.{BreaksAlone, Clause, Meets, lines_of, told_of, Fit, Answered, Closes, Phases, Stamps, Snapshots, Causes, Refusals, Safe, Marks, Serial, Ascending, Runs, LowEnds, HighEnds}
 use Rattle.erm_bad_reports.specs.SafeCases.{safe_below_the_flushed, safe_left_open, safes_fall}
 use Rattle.erm_bad_reports.proofs.OfFlushed.{checkpointed, idle_open}
 use Rattle.erm_bad_reports.proofs.OfPlaced.{owes_at}
 use Rattle.erm_bad_reports.proofs.OfSnapshots.{OwesSafe, phases_by_line, safe_by_line}
 use Rattle.erm_bad_reports.proofs.Reading.{closes_of, owes_of}
 use Rattle.erm_bad_reports.proofs.Tests.{first_snapshot, high_ends, in_none, in_one, low_ends, no_commit_ordered, no_pair_ascends, one_commit_ordered, refusals_kept, stamps_agree}
+use Rattle.erm_bad_reports.proofs.Unmarked.{marks_kept}
 
 -- ---- snapshots' begins that fall
 keeps_but_fall : (other : Clause) → other ≢ Safe → Meets other safes_fall
@@ -26,6 +27,7 @@ keeps_but_fall Snapshots not = in_one _ _ (first_snapshot (history_of (told_of s
 keeps_but_fall Causes not = in_one _ _ (record { opens = omega arith; closes = omega arith; succ_cause = inl refl; pred_cause = inl refl })
 keeps_but_fall Refusals not = refusals_kept safes_fall refl (record { own = λ t is. tt; saves = λ t is. tt; log = tt; unfilled = tt }, (record { own = λ t is. own_window _ t _; saves = λ t is. tt; log = tt; unfilled = tt }, (record { own = λ t is. tt; saves = λ t is. tt; log = tt; unfilled = tt }, (record { own = λ t is. tt; saves = λ t is. tt; log = tt; unfilled = tt }, (record { own = λ t is. tt; saves = λ t is. tt; log = tt; unfilled = tt }, (record { own = λ t is. tt; saves = λ t is. tt; log = tt; unfilled = tt }, tt))))))
 keeps_but_fall Safe not = absurd (not refl)
+keeps_but_fall Marks not = marks_kept safes_fall refl refl refl
 keeps_but_fall Serial not = one_commit_ordered _
 keeps_but_fall Ascending not = no_pair_ascends
 keeps_but_fall Runs not = record { run = (tt, refl) }
@@ -54,6 +56,7 @@ keeps_but_flushed Snapshots not = in_none _
 keeps_but_flushed Causes not = in_none _
 keeps_but_flushed Refusals not = refusals_kept safe_below_the_flushed refl (checkpointed _ 18 (omega arith) (λ session. refl) (λ session. idle_open), (record { own = λ t is. tt; saves = λ t is. tt; log = tt; unfilled = tt }, (record { own = λ t is. tt; saves = λ t is. tt; log = tt; unfilled = tt }, tt)))
 keeps_but_flushed Safe not = absurd (not refl)
+keeps_but_flushed Marks not = marks_kept safe_below_the_flushed refl refl refl
 keeps_but_flushed Serial not = no_commit_ordered
 keeps_but_flushed Ascending not = no_pair_ascends
 keeps_but_flushed Runs not = record { run = refl }
@@ -84,6 +87,7 @@ keeps_but_open Snapshots not = in_none _
 keeps_but_open Causes not = in_none _
 keeps_but_open Refusals not = refusals_kept safe_left_open refl (record { own = λ t is. tt; saves = λ t is. tt; log = tt; unfilled = tt }, tt)
 keeps_but_open Safe not = safe_by_line safe_left_open (λ session number. 13) refl (λ is. (refl, safe_there _ 13 refl), tt) (open_owes, tt)
+keeps_but_open Marks not = marks_kept safe_left_open refl refl refl
 keeps_but_open Serial not = no_commit_ordered
 keeps_but_open Ascending not = no_pair_ascends
 keeps_but_open Runs not = record { run = refl }

@@ -1,5 +1,5 @@
 -- Reports of transactions that abort, whose savepoints are counted wrongly, or which are answered what no map that they saw has.
-use Rattle.std.proofs.Common.{◌≡◌, ◌≢◌, ◌⊎◌, ℕ, ◌+◌, ◌<◌, ◌≤◌, true, List, [], ◌∷◌, length, take, Option, Some, None, refl, sym, ap, ◌∙◌, inl, inr, subst, arith}
+use Rattle.std.proofs.Common.{◌≡◌, ◌≢◌, ◌⊎◌, ℕ, ◌+◌, ◌<◌, ◌≤◌, true, not, List, [], ◌∷◌, length, take, Option, Some, None, refl, sym, ap, ◌∙◌, inl, inr, subst, arith}
 use Rattle.std.specs.FinMap.{empty, insert}
 use Rattle.std.specs.List.{AllByRecursion}
 use Rattle.std.proofs.lemmas.List.Elements.{All-from_recursion}
@@ -22,13 +22,14 @@ use Rattle.erm_good_report.specs.Phases.{FitsPhase, phase_of}
 use Rattle.erm_good_report.specs.Refusals.{HasSaveCause}
 use Rattle.erm_good_report.specs.Stamps.{StampsAgree}
 use Rattle.erm_good_report.specs.Transactions.{Aborts, Exchange, Said, Transaction, held_of, history_of, said_of, steps_of}
-use Rattle.erm_good_report.proofs.Parts.{EachPlace}
+use Rattle.erm_good_report.proofs.Parts.{EachPlace, all_pass}
 use Rattle.erm_bad_reports.specs.Cases.{opening_at}
-use Rattle.erm_bad_reports.specs.Clauses.{BreaksAlone, Clause, Meets, lines_of, told_of, IsLowAt, IsHighAt, Fit, Answered, Closes, Phases, Stamps, Snapshots, Causes, Refusals, Safe, Serial, Ascending, Runs, LowEnds, HighEnds}
+use Rattle.erm_bad_reports.specs.Clauses.{BreaksAlone, Clause, Meets, lines_of, told_of, IsLowAt, IsHighAt, Fit, Answered, Closes, Phases, Stamps, Snapshots, Causes, Refusals, Safe, Marks, Serial, Ascending, Runs, LowEnds, HighEnds}
 use Rattle.erm_bad_reports.specs.SaveCases.{back, full, gets, given_up, lines_miscounted, lines_misread, no_save, puts, saved}
 use Rattle.erm_bad_reports.proofs.OfSafeAtOnce.{at_once}
 use Rattle.erm_bad_reports.proofs.Reading.{owes_of}
 use Rattle.erm_bad_reports.proofs.Tests.{byte, first_snapshot, in_one, no_commit_ordered, no_pair_ascends, phases_kept, placed_alone, reaches, refusals_kept, safe_kept, stamps_agree, tell_none}
+use Rattle.erm_bad_reports.proofs.Unmarked.{marks_quiet, stops}
 
 -- ---- the causes of answers about savepoints, where so many are held
 now_held : (now : Option Transaction) (u : Transaction) (held : ℕ) → now ≡ Some u → held_of u ≡ held → (t : Transaction) → now ≡ Some t → held_of t ≡ held
@@ -64,6 +65,7 @@ module _ (mode : Mode) (lines : List Exchange) where
     phases : EachPlace (λ i l a. FitsPhase (phase_of l.session (take i (said_of (given_up mode lines).script (given_up mode lines).report.answers))) l.command a) 0 (given_up mode lines).script (given_up mode lines).report.answers
     calm : tell_none (said_of (given_up mode lines).script (given_up mode lines).report.answers) ≡ true
     calm_whole : tell_none (places_of (given_up mode lines).script (given_up mode lines).report.answers (given_up mode lines).report.closed) ≡ true
+    quiet : all_pass (λ a. not (stops a)) (given_up mode lines).report.answers ≡ true
     stamps : StampsAgree InTurn (opening_at 8) (told_of (given_up mode lines)) (said_of (given_up mode lines).script (given_up mode lines).report.answers)
     told : told_of (given_up mode lines) ≡ own ∷ []
 
@@ -77,6 +79,7 @@ module _ (mode : Mode) (lines : List Exchange) where
   keeps s broken replies causes Causes not = subst (λ (ts : List Transaction). (t : Transaction) → t ∈ ts → HasCauseOf t.ending ts t) (sym s.told) (in_one _ _ tt)
   keeps s broken replies causes Refusals not = causes not
   keeps s broken replies causes Safe not = safe_kept (given_up mode lines) s.calm
+  keeps s broken replies causes Marks not = marks_quiet (given_up mode lines) s.calm_whole refl s.calm s.quiet
   keeps s broken replies causes Serial not = placed_alone (given_up mode lines) (given_up mode lines).report.order s.calm_whole (subst (λ (ts : List Transaction). IsSerialOrder rank_of (history_of ts) []) (sym s.told) no_commit_ordered)
   keeps s broken replies causes Ascending not = no_pair_ascends
   keeps s broken replies causes Runs not = record { run = refl }
@@ -122,6 +125,7 @@ second_for_first mode =
       phases = (tt, (tt, (tt, tt)));
       calm = refl;
       calm_whole = refl;
+      quiet = refl;
       stamps = stamps_agree (opening_at 8) (told_of (given_up mode (saved 2 ∷ []))) (said_of (given_up mode (saved 2 ∷ [])).script (given_up mode (saved 2 ∷ [])).report.answers) refl refl refl refl refl refl (in_one _ _ (omega arith)) (in_one _ _ tt) (in_one _ _ tt);
       told = refl;
     }) (refl, tt) (λ refusals. let cause : (0 < 8) × (2 ≡ 1) = (refusals.each 1 _ _ refl refl).saves _ refl in omega (arith, cause.1))
@@ -135,6 +139,7 @@ ninth_made mode =
       phases = (tt, (tt, (tt, (tt, (tt, (tt, (tt, (tt, (tt, (tt, (tt, tt)))))))))));
       calm = refl;
       calm_whole = refl;
+      quiet = refl;
       stamps = stamps_agree (opening_at 8) (told_of (given_up mode (saved 1 ∷ saved 2 ∷ saved 3 ∷ saved 4 ∷ saved 5 ∷ saved 6 ∷ saved 7 ∷ saved 8 ∷ saved 9 ∷ []))) (said_of (given_up mode (saved 1 ∷ saved 2 ∷ saved 3 ∷ saved 4 ∷ saved 5 ∷ saved 6 ∷ saved 7 ∷ saved 8 ∷ saved 9 ∷ [])).script (given_up mode (saved 1 ∷ saved 2 ∷ saved 3 ∷ saved 4 ∷ saved 5 ∷ saved 6 ∷ saved 7 ∷ saved 8 ∷ saved 9 ∷ [])).report.answers) refl refl refl refl refl refl (in_one _ _ (omega arith)) (in_one _ _ tt) (in_one _ _ tt);
       told = refl;
     }) (refl, (refl, (refl, (refl, (refl, (refl, (refl, (refl, (refl, tt))))))))) (λ refusals. let cause : (8 < 8) × (9 ≡ 9) = (refusals.each 9 _ _ refl refl).saves _ refl in omega (arith, cause.0))
@@ -148,6 +153,7 @@ full_at_seven mode =
       phases = (tt, (tt, (tt, (tt, (tt, (tt, (tt, (tt, (tt, (tt, tt))))))))));
       calm = refl;
       calm_whole = refl;
+      quiet = refl;
       stamps = stamps_agree (opening_at 8) (told_of (given_up mode (saved 1 ∷ saved 2 ∷ saved 3 ∷ saved 4 ∷ saved 5 ∷ saved 6 ∷ saved 7 ∷ full ∷ []))) (said_of (given_up mode (saved 1 ∷ saved 2 ∷ saved 3 ∷ saved 4 ∷ saved 5 ∷ saved 6 ∷ saved 7 ∷ full ∷ [])).script (given_up mode (saved 1 ∷ saved 2 ∷ saved 3 ∷ saved 4 ∷ saved 5 ∷ saved 6 ∷ saved 7 ∷ full ∷ [])).report.answers) refl refl refl refl refl refl (in_one _ _ (omega arith)) (in_one _ _ tt) (in_one _ _ tt);
       told = refl;
     }) (refl, (refl, (refl, (refl, (refl, (refl, (refl, tt))))))) (λ refusals. let cause : 7 ≡ 8 = (refusals.each 8 _ _ refl refl).saves _ refl in omega (arith, cause))
@@ -161,6 +167,7 @@ none_where_one_is mode =
       phases = (tt, (tt, (tt, (tt, tt))));
       calm = refl;
       calm_whole = refl;
+      quiet = refl;
       stamps = stamps_agree (opening_at 8) (told_of (given_up mode (saved 1 ∷ no_save 1 1 ∷ []))) (said_of (given_up mode (saved 1 ∷ no_save 1 1 ∷ [])).script (given_up mode (saved 1 ∷ no_save 1 1 ∷ [])).report.answers) refl refl refl refl refl refl (in_one _ _ (omega arith)) (in_one _ _ tt) (in_one _ _ tt);
       told = refl;
     }) (refl, tt) (λ refusals. let cause : (1 ≡ 1) × ((1 ≡ 0) ⊎ (1 < 1)) = (refusals.each 2 _ _ refl refl).saves _ refl in elim cause.1 [ inl is ↦ omega (arith, is) | inr is ↦ omega (arith, is) ])
@@ -174,6 +181,7 @@ back_to_none mode =
       phases = (tt, (refl, (tt, tt)));
       calm = refl;
       calm_whole = refl;
+      quiet = refl;
       stamps = stamps_agree (opening_at 8) (told_of (given_up mode (back 1 ∷ []))) (said_of (given_up mode (back 1 ∷ [])).script (given_up mode (back 1 ∷ [])).report.answers) refl refl refl refl refl refl (in_one _ _ (omega arith)) (in_one _ _ tt) (in_one _ _ tt);
       told = refl;
     }) (refl, tt) (λ refusals. let cause : (1 ≤ 1) × (1 ≤ 0) = (refusals.each 1 _ _ refl refl).saves _ refl in omega (arith, cause.1))
@@ -187,6 +195,7 @@ back_to_number_zero mode =
       phases = (tt, (tt, (refl, (tt, tt))));
       calm = refl;
       calm_whole = refl;
+      quiet = refl;
       stamps = stamps_agree (opening_at 8) (told_of (given_up mode (saved 1 ∷ back 0 ∷ []))) (said_of (given_up mode (saved 1 ∷ back 0 ∷ [])).script (given_up mode (saved 1 ∷ back 0 ∷ [])).report.answers) refl refl refl refl refl refl (in_one _ _ (omega arith)) (in_one _ _ tt) (in_one _ _ tt);
       told = refl;
     }) (refl, (refl, tt)) (λ refusals. let cause : (1 ≤ 0) × (0 ≤ 1) = (refusals.each 2 _ _ refl refl).saves _ refl in omega (arith, cause.0))
@@ -200,6 +209,7 @@ another_number_held mode =
       phases = (tt, (tt, (tt, (tt, tt))));
       calm = refl;
       calm_whole = refl;
+      quiet = refl;
       stamps = stamps_agree (opening_at 8) (told_of (given_up mode (saved 1 ∷ no_save 2 2 ∷ []))) (said_of (given_up mode (saved 1 ∷ no_save 2 2 ∷ [])).script (given_up mode (saved 1 ∷ no_save 2 2 ∷ [])).report.answers) refl refl refl refl refl refl (in_one _ _ (omega arith)) (in_one _ _ tt) (in_one _ _ tt);
       told = refl;
     }) (refl, tt) (λ refusals. let cause : (2 ≡ 1) × ((2 ≡ 0) ⊎ (1 < 2)) = (refusals.each 2 _ _ refl refl).saves _ refl in omega (arith, cause.0))
@@ -213,6 +223,7 @@ back_to_a_forgotten_one mode =
       phases = (tt, (tt, (tt, (refl, (refl, (tt, tt))))));
       calm = refl;
       calm_whole = refl;
+      quiet = refl;
       stamps = stamps_agree (opening_at 8) (told_of (given_up mode (saved 1 ∷ saved 2 ∷ back 1 ∷ back 2 ∷ []))) (said_of (given_up mode (saved 1 ∷ saved 2 ∷ back 1 ∷ back 2 ∷ [])).script (given_up mode (saved 1 ∷ saved 2 ∷ back 1 ∷ back 2 ∷ [])).report.answers) refl refl refl refl refl refl (in_one _ _ (omega arith)) (in_one _ _ tt) (in_one _ _ tt);
       told = refl;
     }) (refl, (refl, (refl, (refl, tt)))) (λ refusals. let cause : (1 ≤ 2) × (2 ≤ 1) = (refusals.each 4 _ _ refl refl).saves _ refl in omega (arith, cause.1))
@@ -226,6 +237,7 @@ forgotten_one_counts mode =
       phases = (tt, (tt, (tt, (refl, (tt, (tt, tt))))));
       calm = refl;
       calm_whole = refl;
+      quiet = refl;
       stamps = stamps_agree (opening_at 8) (told_of (given_up mode (saved 1 ∷ saved 2 ∷ back 1 ∷ saved 3 ∷ []))) (said_of (given_up mode (saved 1 ∷ saved 2 ∷ back 1 ∷ saved 3 ∷ [])).script (given_up mode (saved 1 ∷ saved 2 ∷ back 1 ∷ saved 3 ∷ [])).report.answers) refl refl refl refl refl refl (in_one _ _ (omega arith)) (in_one _ _ tt) (in_one _ _ tt);
       told = refl;
     }) (refl, (refl, (refl, (refl, tt)))) (λ refusals. let cause : (1 < 8) × (3 ≡ 2) = (refusals.each 4 _ _ refl refl).saves _ refl in omega (arith, cause.1))
@@ -239,6 +251,7 @@ refused_back_forgets mode =
       phases = (tt, (tt, (tt, (tt, (tt, tt)))));
       calm = refl;
       calm_whole = refl;
+      quiet = refl;
       stamps = stamps_agree (opening_at 8) (told_of (given_up mode (saved 1 ∷ no_save 2 1 ∷ saved 1 ∷ []))) (said_of (given_up mode (saved 1 ∷ no_save 2 1 ∷ saved 1 ∷ [])).script (given_up mode (saved 1 ∷ no_save 2 1 ∷ saved 1 ∷ [])).report.answers) refl refl refl refl refl refl (in_one _ _ (omega arith)) (in_one _ _ tt) (in_one _ _ tt);
       told = refl;
     }) (refl, (refl, tt)) (λ refusals. let cause : (1 < 8) × (1 ≡ 2) = (refusals.each 3 _ _ refl refl).saves _ refl in omega (arith, cause.1))
@@ -284,6 +297,7 @@ undone_is_read mode =
       phases = (tt, (tt, (tt, (refl, (tt, (tt, tt))))));
       calm = refl;
       calm_whole = refl;
+      quiet = refl;
       stamps = stamps_agree (opening_at 8) (told_of (given_up mode (saved 1 ∷ puts 1 ∷ back 1 ∷ gets (Some (1 ∷ [])) ∷ []))) (said_of (given_up mode (saved 1 ∷ puts 1 ∷ back 1 ∷ gets (Some (1 ∷ [])) ∷ [])).script (given_up mode (saved 1 ∷ puts 1 ∷ back 1 ∷ gets (Some (1 ∷ [])) ∷ [])).report.answers) refl refl refl refl refl refl (in_one _ _ (omega arith)) (in_one _ _ tt) (in_one _ _ tt);
       told = refl;
     })
@@ -299,6 +313,7 @@ saved_is_gone mode =
       phases = (tt, (tt, (tt, (tt, (refl, (tt, (tt, tt)))))));
       calm = refl;
       calm_whole = refl;
+      quiet = refl;
       stamps = stamps_agree (opening_at 8) (told_of (given_up mode (puts 1 ∷ saved 1 ∷ puts 2 ∷ back 1 ∷ gets None ∷ []))) (said_of (given_up mode (puts 1 ∷ saved 1 ∷ puts 2 ∷ back 1 ∷ gets None ∷ [])).script (given_up mode (puts 1 ∷ saved 1 ∷ puts 2 ∷ back 1 ∷ gets None ∷ [])).report.answers) refl refl refl refl refl refl (in_one _ _ (omega arith)) (in_one _ _ tt) (in_one _ _ tt);
       told = refl;
     })
@@ -314,6 +329,7 @@ later_is_there mode =
       phases = (tt, (tt, (tt, (tt, (refl, (tt, (tt, tt)))))));
       calm = refl;
       calm_whole = refl;
+      quiet = refl;
       stamps = stamps_agree (opening_at 8) (told_of (given_up mode (puts 1 ∷ saved 1 ∷ puts 2 ∷ back 1 ∷ gets (Some (2 ∷ [])) ∷ []))) (said_of (given_up mode (puts 1 ∷ saved 1 ∷ puts 2 ∷ back 1 ∷ gets (Some (2 ∷ [])) ∷ [])).script (given_up mode (puts 1 ∷ saved 1 ∷ puts 2 ∷ back 1 ∷ gets (Some (2 ∷ [])) ∷ [])).report.answers) refl refl refl refl refl refl (in_one _ _ (omega arith)) (in_one _ _ tt) (in_one _ _ tt);
       told = refl;
     })
@@ -329,6 +345,7 @@ refused_back_undoes mode =
       phases = (tt, (tt, (tt, (tt, (tt, (tt, tt))))));
       calm = refl;
       calm_whole = refl;
+      quiet = refl;
       stamps = stamps_agree (opening_at 8) (told_of (given_up mode (saved 1 ∷ puts 1 ∷ no_save 2 1 ∷ gets None ∷ []))) (said_of (given_up mode (saved 1 ∷ puts 1 ∷ no_save 2 1 ∷ gets None ∷ [])).script (given_up mode (saved 1 ∷ puts 1 ∷ no_save 2 1 ∷ gets None ∷ [])).report.answers) refl refl refl refl refl refl (in_one _ _ (omega arith)) (in_one _ _ tt) (in_one _ _ tt);
       told = refl;
     })

@@ -18,11 +18,12 @@ use Rattle.erm_good_report.specs.Windows.{IsCommit}
 use Rattle.erm_good_report.proofs.Decided.{own_window}
 use Rattle.erm_good_report.proofs.Parts.{EachPlace, all_pairs_of_two, each_in, each_place}
 use Rattle.erm_good_report.proofs.SnapshotTests.{begun_from_test, begun_pass, of_snapshots, safe_there, snapshots_at}
-use Rattle.erm_bad_reports.specs.Clauses.{BreaksAlone, Case, Clause, Meets, lines_of, told_of, Fit, Answered, Closes, Phases, Stamps, Snapshots, Causes, Refusals, Safe, Serial, Ascending, Runs, LowEnds, HighEnds}
+use Rattle.erm_bad_reports.specs.Clauses.{BreaksAlone, Case, Clause, Meets, lines_of, told_of, Fit, Answered, Closes, Phases, Stamps, Snapshots, Causes, Refusals, Safe, Marks, Serial, Ascending, Runs, LowEnds, HighEnds}
 use Rattle.erm_bad_reports.specs.SafeCases.{begin_moves, look_refused, reply_of_now, safe_at_a_commit, safe_at_the_stop, safe_out_of_reach, safe_too_early, unsafe_by_no_turn, waits_for_idle}
 use Rattle.erm_bad_reports.proofs.OfReplies.{value_seen}
 use Rattle.erm_bad_reports.proofs.Reading.{owes_of}
 use Rattle.erm_bad_reports.proofs.Tests.{byte, first_snapshot, high_ends, in_none, in_one, low_ends, no_commit_ordered, no_pair_ascends, one_commit_ordered, refusals_kept, stamps_agree}
+use Rattle.erm_bad_reports.proofs.Unmarked.{marks_kept}
 
 -- ---- what is owed of snapshots, and of phases, line by line
 pub phases_by_line : (k : Case) → EachPlace (λ i l a. FitsPhase (phase_of l.session (take i (said_of k.script k.report.answers))) l.command a) 0 k.script k.report.answers
@@ -63,6 +64,7 @@ keeps_but_look Refusals not = refusals_kept look_refused refl
     (record { own = λ t is. tt; saves = λ t is. tt; log = tt; unfilled = tt }, (record { own = λ t is. absurd (cc is.1); saves = λ t is. tt; log = tt; unfilled = tt }, (record { own = λ t is. tt; saves = λ t is. tt; log = tt; unfilled = tt }, tt)))
 keeps_but_look Safe not = safe_by_line look_refused (λ session number. 13) refl (λ is. (refl, safe_there _ 13 refl), (λ is. absurd (cc), (λ is. absurd (cc), tt)))
     (look_owed, (look_owed, (look_owed, tt)))
+keeps_but_look Marks not = marks_kept look_refused refl refl refl
 keeps_but_look Serial not = no_commit_ordered
 keeps_but_look Ascending not = no_pair_ascends
 keeps_but_look Runs not = record { run = refl }
@@ -86,6 +88,7 @@ keeps_but_idle Snapshots not = in_none _
 keeps_but_idle Causes not = in_none _
 keeps_but_idle Refusals not = refusals_kept waits_for_idle refl (record { own = λ t is. absurd (cc is.1); saves = λ t is. tt; log = tt; unfilled = tt }, (record { own = λ t is. tt; saves = λ t is. tt; log = tt; unfilled = tt }, tt))
 keeps_but_idle Safe not = absurd (not refl)
+keeps_but_idle Marks not = marks_kept waits_for_idle refl refl refl
 keeps_but_idle Serial not = no_commit_ordered
 keeps_but_idle Ascending not = no_pair_ascends
 keeps_but_idle Runs not = record { run = refl }
@@ -112,6 +115,7 @@ keeps_but_safe_far Snapshots not = in_none _
 keeps_but_safe_far Causes not = in_none _
 keeps_but_safe_far Refusals not = refusals_kept safe_out_of_reach refl (record { own = λ t is. tt; saves = λ t is. tt; log = tt; unfilled = tt }, (record { own = λ t is. tt; saves = λ t is. tt; log = tt; unfilled = tt }, tt))
 keeps_but_safe_far Safe not = absurd (not refl)
+keeps_but_safe_far Marks not = marks_kept safe_out_of_reach refl refl refl
 keeps_but_safe_far Serial not = no_commit_ordered
 keeps_but_safe_far Ascending not = no_pair_ascends
 keeps_but_safe_far Runs not = record { run = refl }
@@ -139,6 +143,7 @@ keeps_but_safe_stop Snapshots not = in_none _
 keeps_but_safe_stop Causes not = in_none _
 keeps_but_safe_stop Refusals not = refusals_kept safe_at_the_stop refl (record { own = λ t is. tt; saves = λ t is. tt; log = tt; unfilled = tt }, (record { own = λ t is. tt; saves = λ t is. tt; log = tt; unfilled = tt }, tt))
 keeps_but_safe_stop Safe not = absurd (not refl)
+keeps_but_safe_stop Marks not = marks_kept safe_at_the_stop refl refl refl
 keeps_but_safe_stop Serial not = no_commit_ordered
 keeps_but_safe_stop Ascending not = no_pair_ascends
 keeps_but_safe_stop Runs not = record { run = refl }
@@ -166,6 +171,7 @@ keeps_but_at_commit Snapshots not = in_one _ _ (first_snapshot (history_of (told
 keeps_but_at_commit Causes not = in_one _ _ (record { opens = omega arith; closes = omega arith; succ_cause = inl refl; pred_cause = inl refl })
 keeps_but_at_commit Refusals not = refusals_kept safe_at_a_commit refl (record { own = λ t is. tt; saves = λ t is. tt; log = tt; unfilled = tt }, (record { own = λ t is. own_window _ t _; saves = λ t is. tt; log = tt; unfilled = tt }, (record { own = λ t is. tt; saves = λ t is. tt; log = tt; unfilled = tt }, (record { own = λ t is. tt; saves = λ t is. tt; log = tt; unfilled = tt }, tt))))
 keeps_but_at_commit Safe not = absurd (not refl)
+keeps_but_at_commit Marks not = marks_kept safe_at_a_commit refl refl refl
 keeps_but_at_commit Serial not = one_commit_ordered _
 keeps_but_at_commit Ascending not = no_pair_ascends
 keeps_but_at_commit Runs not = record { run = (tt, refl) }
@@ -197,6 +203,7 @@ keeps_but_now Snapshots not = in_one _ _ (first_snapshot (history_of (told_of re
 keeps_but_now Causes not = in_one _ _ (record { opens = omega arith; closes = omega arith; succ_cause = inl refl; pred_cause = inl refl })
 keeps_but_now Refusals not = refusals_kept reply_of_now refl (record { own = λ t is. tt; saves = λ t is. tt; log = tt; unfilled = tt }, (record { own = λ t is. tt; saves = λ t is. tt; log = tt; unfilled = tt }, (record { own = λ t is. tt; saves = λ t is. tt; log = tt; unfilled = tt }, (record { own = λ t is. own_window _ t _; saves = λ t is. tt; log = tt; unfilled = tt }, (record { own = λ t is. tt; saves = λ t is. tt; log = tt; unfilled = tt }, (record { own = λ t is. tt; saves = λ t is. tt; log = tt; unfilled = tt }, tt))))))
 keeps_but_now Safe not = absurd (not refl)
+keeps_but_now Marks not = marks_kept reply_of_now refl refl refl
 keeps_but_now Serial not = one_commit_ordered _
 keeps_but_now Ascending not = λ i j d less within. absurd (omega arith)
 keeps_but_now Runs not = record { run = ((refl, tt), refl) }
@@ -226,6 +233,7 @@ keeps_but_turn Snapshots not = each_in (λ t. HasSnapshotReplies (history_of (to
 keeps_but_turn Causes not = each_in (λ t. HasCauseOf t.ending (told_of unsafe_by_no_turn) t) (told_of unsafe_by_no_turn) (record { opens = omega arith; closes = omega arith; succ_cause = inl refl; pred_cause = inl refl }, (record { opens = omega arith; closes = omega arith; succ_cause = inl refl; pred_cause = inl refl }, tt))
 keeps_but_turn Refusals not = refusals_kept unsafe_by_no_turn refl (record { own = λ t is. tt; saves = λ t is. tt; log = tt; unfilled = tt }, (record { own = λ t is. tt; saves = λ t is. tt; log = tt; unfilled = tt }, (record { own = λ t is. own_window _ t _; saves = λ t is. tt; log = tt; unfilled = tt }, (record { own = λ t is. absurd (cc is.1); saves = λ t is. tt; log = tt; unfilled = tt }, (record { own = λ t is. own_window _ t _; saves = λ t is. tt; log = tt; unfilled = tt }, (record { own = λ t is. tt; saves = λ t is. tt; log = tt; unfilled = tt }, tt))))))
 keeps_but_turn Safe not = absurd (not refl)
+keeps_but_turn Marks not = marks_kept unsafe_by_no_turn refl refl refl
 keeps_but_turn Serial not = record { same = IsPermutation-refl (history_of (told_of unsafe_by_no_turn)); ascends = all_pairs_of_two (λ a b. ComesBefore (rank_of a) (rank_of b)) _ _ (inl (omega arith)) }
 keeps_but_turn Ascending not = no_pair_ascends
 keeps_but_turn Runs not = record { run = (tt, (tt, refl)) }
@@ -255,6 +263,7 @@ keeps_but_moves Snapshots not = each_in (λ t. HasSnapshotReplies (history_of (t
 keeps_but_moves Causes not = each_in (λ t. HasCauseOf t.ending (told_of begin_moves) t) (told_of begin_moves) (record { opens = omega arith; closes = omega arith; succ_cause = inl refl; pred_cause = inl refl }, (record { opens = omega arith; closes = omega arith; succ_cause = inl refl; pred_cause = inl refl }, tt))
 keeps_but_moves Refusals not = refusals_kept begin_moves refl (record { own = λ t is. tt; saves = λ t is. tt; log = tt; unfilled = tt }, (record { own = λ t is. tt; saves = λ t is. tt; log = tt; unfilled = tt }, (record { own = λ t is. own_window _ t _; saves = λ t is. tt; log = tt; unfilled = tt }, (record { own = λ t is. absurd (cc is.1); saves = λ t is. tt; log = tt; unfilled = tt }, (record { own = λ t is. own_window _ t _; saves = λ t is. tt; log = tt; unfilled = tt }, (record { own = λ t is. tt; saves = λ t is. tt; log = tt; unfilled = tt }, (record { own = λ t is. tt; saves = λ t is. tt; log = tt; unfilled = tt }, tt)))))))
 keeps_but_moves Safe not = absurd (not refl)
+keeps_but_moves Marks not = marks_kept begin_moves refl refl refl
 keeps_but_moves Serial not = record { same = IsPermutation-refl (history_of (told_of begin_moves)); ascends = all_pairs_of_two (λ a b. ComesBefore (rank_of a) (rank_of b)) _ _ (inl (omega arith)) }
 keeps_but_moves Ascending not = no_pair_ascends
 keeps_but_moves Runs not = record { run = (tt, (tt, refl)) }
@@ -282,6 +291,7 @@ keeps_but_early Snapshots not = each_in (λ t. HasSnapshotReplies (history_of (t
 keeps_but_early Causes not = each_in (λ t. HasCauseOf t.ending (told_of safe_too_early) t) (told_of safe_too_early) (tt, (record { opens = omega arith; closes = omega arith; succ_cause = inl refl; pred_cause = inl refl }, tt))
 keeps_but_early Refusals not = refusals_kept safe_too_early refl (record { own = λ t is. tt; saves = λ t is. tt; log = tt; unfilled = tt }, (record { own = λ t is. tt; saves = λ t is. tt; log = tt; unfilled = tt }, (record { own = λ t is. own_window _ t _; saves = λ t is. tt; log = tt; unfilled = tt }, (record { own = λ t is. tt; saves = λ t is. tt; log = tt; unfilled = tt }, (record { own = λ t is. tt; saves = λ t is. tt; log = tt; unfilled = tt }, (record { own = λ t is. tt; saves = λ t is. tt; log = tt; unfilled = tt }, tt))))))
 keeps_but_early Safe not = absurd (not refl)
+keeps_but_early Marks not = marks_kept safe_too_early refl refl refl
 keeps_but_early Serial not = one_commit_ordered _
 keeps_but_early Ascending not = no_pair_ascends
 keeps_but_early Runs not = record { run = (tt, refl) }

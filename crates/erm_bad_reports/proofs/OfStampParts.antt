@@ -15,11 +15,12 @@ use Rattle.erm_good_report.specs.Transactions.{Said, history_of, said_of, stamp_
 use Rattle.erm_good_report.proofs.Decided.{own_window}
 use Rattle.erm_good_report.proofs.Parts.{all_pairs_from_test, each_in}
 use Rattle.erm_bad_reports.specs.Cases.{begun_too_early, future_was_read}
-use Rattle.erm_bad_reports.specs.Clauses.{Clause, Meets, lines_of, told_of, Fit, Answered, Closes, Phases, Stamps, Snapshots, Causes, Refusals, Safe, Serial, Ascending, Runs, LowEnds, HighEnds}
+use Rattle.erm_bad_reports.specs.Clauses.{Clause, Meets, lines_of, told_of, Fit, Answered, Closes, Phases, Stamps, Snapshots, Causes, Refusals, Safe, Marks, Serial, Ascending, Runs, LowEnds, HighEnds}
 use Rattle.erm_bad_reports.specs.StampParts.{BreaksPartAlone, Part, MeetsPart, Differ, Least, Begun, Sealed, Begins, Draws, Ascends, Flushes, FlushesFirst, BeginsAscend, Stops, UntoldAfter, UntoldBefore, sealed_with_another, begun_at_a_commit, drawn_below, begins_fall, begun_at_the_stop}
 use Rattle.erm_bad_reports.proofs.OfStamps.{future_breaks, least_breaks}
 use Rattle.erm_bad_reports.proofs.Reading.{owes_of}
 use Rattle.erm_bad_reports.proofs.Tests.{safe_kept, in_one, less_from, no_commit_ordered, one_commit_ordered, no_pair_ascends, first_snapshot, low_ends, high_ends, phases_kept, refusals_kept, flushed_begin, flushed_drawn, stamps_ascend, stamps_begin, stamps_differ, stamps_drawn, begins_ascend, begins_stop, untold_after, untold_before}
+use Rattle.erm_bad_reports.proofs.Unmarked.{marks_kept}
 
 -- a place of a report, where one is asked for
 pub any_place : Said
@@ -74,6 +75,7 @@ keeps_but_sealed Snapshots not = in_one _ _ (first_snapshot (history_of (told_of
 keeps_but_sealed Causes not = in_one _ _ (record { opens = omega arith; closes = omega arith; succ_cause = inl refl; pred_cause = inl refl })
 keeps_but_sealed Refusals not = refusals_kept sealed_with_another refl (record { own = λ t is. tt; saves = λ t is. tt; log = tt; unfilled = tt }, (record { own = λ t is. tt; saves = λ t is. tt; log = tt; unfilled = tt }, (record { own = λ t is. own_window _ t _; saves = λ t is. tt; log = tt; unfilled = tt }, tt)))
 keeps_but_sealed Safe not = safe_kept sealed_with_another refl
+keeps_but_sealed Marks not = marks_kept sealed_with_another refl refl refl
 keeps_but_sealed Serial not = one_commit_ordered _
 keeps_but_sealed Ascending not = no_pair_ascends
 keeps_but_sealed Runs not = record { run = (tt, refl) }
@@ -118,6 +120,7 @@ keeps_but_begins Causes not = each_in (λ t. HasCauseOf t.ending (told_of begun_
     (record { opens = omega arith; closes = omega arith; succ_cause = inl refl; pred_cause = inl refl }, (tt, tt))
 keeps_but_begins Refusals not = refusals_kept begun_at_a_commit refl (record { own = λ t is. tt; saves = λ t is. tt; log = tt; unfilled = tt }, (record { own = λ t is. own_window _ t _; saves = λ t is. tt; log = tt; unfilled = tt }, (record { own = λ t is. tt; saves = λ t is. tt; log = tt; unfilled = tt }, (record { own = λ t is. tt; saves = λ t is. tt; log = tt; unfilled = tt }, tt))))
 keeps_but_begins Safe not = safe_kept begun_at_a_commit refl
+keeps_but_begins Marks not = marks_kept begun_at_a_commit refl refl refl
 keeps_but_begins Serial not = one_commit_ordered _
 keeps_but_begins Ascending not = no_pair_ascends
 keeps_but_begins Runs not = record { run = (tt, refl) }
@@ -167,6 +170,7 @@ keeps_but_ascends Causes not = each_in (λ t. HasCauseOf t.ending (told_of drawn
     (record { opens = omega arith; closes = omega arith; succ_cause = inl refl; pred_cause = inl refl }, (record { opens = omega arith; closes = omega arith; succ_cause = inl refl; pred_cause = inl refl }, (record { opens = omega arith; closes = omega arith; succ_cause = inl refl; pred_cause = inl refl }, tt)))
 keeps_but_ascends Refusals not = refusals_kept drawn_below refl (record { own = λ t is. tt; saves = λ t is. tt; log = tt; unfilled = tt }, (record { own = λ t is. own_window _ t _; saves = λ t is. tt; log = tt; unfilled = tt }, (record { own = λ t is. tt; saves = λ t is. tt; log = tt; unfilled = tt }, (record { own = λ t is. tt; saves = λ t is. tt; log = tt; unfilled = tt }, (record { own = λ t is. own_window _ t _; saves = λ t is. tt; log = tt; unfilled = tt }, (record { own = λ t is. own_window _ t _; saves = λ t is. tt; log = tt; unfilled = tt }, tt))))))
 keeps_but_ascends Safe not = safe_kept drawn_below refl
+keeps_but_ascends Marks not = marks_kept drawn_below refl refl refl
 keeps_but_ascends Serial not = record {
   same = IsPermutation-refl (history_of (told_of drawn_below));
   ascends = all_pairs_from_test (λ a b. ComesBefore (rank_of a) (rank_of b)) (λ a b. nat_lt a.succ b.succ) (λ a b pass. inl (less_from a.succ b.succ pass)) (history_of (told_of drawn_below)) refl;
@@ -218,6 +222,7 @@ keeps_but_fall Snapshots not = each_in (λ t. HasSnapshotReplies (history_of (to
 keeps_but_fall Causes not = each_in (λ t. HasCauseOf t.ending (told_of begins_fall) t) (told_of begins_fall) (record { opens = omega arith; closes = omega arith; succ_cause = inl refl; pred_cause = inl refl }, (tt, (tt, tt)))
 keeps_but_fall Refusals not = refusals_kept begins_fall refl (record { own = λ t is. tt; saves = λ t is. tt; log = tt; unfilled = tt }, (record { own = λ t is. own_window _ t _; saves = λ t is. tt; log = tt; unfilled = tt }, (record { own = λ t is. tt; saves = λ t is. tt; log = tt; unfilled = tt }, (record { own = λ t is. tt; saves = λ t is. tt; log = tt; unfilled = tt }, (record { own = λ t is. tt; saves = λ t is. tt; log = tt; unfilled = tt }, (record { own = λ t is. tt; saves = λ t is. tt; log = tt; unfilled = tt }, tt))))))
 keeps_but_fall Safe not = safe_kept begins_fall refl
+keeps_but_fall Marks not = marks_kept begins_fall refl refl refl
 keeps_but_fall Serial not = one_commit_ordered _
 keeps_but_fall Ascending not = no_pair_ascends
 keeps_but_fall Runs not = record { run = (tt, refl) }
@@ -260,6 +265,7 @@ keeps_but_stops Snapshots not = in_one _ _ (first_snapshot [] empty 115292150460
 keeps_but_stops Causes not = in_one _ _ tt
 keeps_but_stops Refusals not = refusals_kept begun_at_the_stop refl (record { own = λ t is. tt; saves = λ t is. tt; log = tt; unfilled = tt }, (record { own = λ t is. tt; saves = λ t is. tt; log = tt; unfilled = tt }, tt))
 keeps_but_stops Safe not = safe_kept begun_at_the_stop refl
+keeps_but_stops Marks not = marks_kept begun_at_the_stop refl refl refl
 keeps_but_stops Serial not = no_commit_ordered
 keeps_but_stops Ascending not = no_pair_ascends
 keeps_but_stops Runs not = record { run = refl }

@@ -19,10 +19,11 @@ use Rattle.erm_good_report.specs.Refusals.{HasCause, moment_at}
 use Rattle.erm_good_report.specs.Transactions.{Exchange, said_of, Transaction, history_of, steps_of, Commits}
 use Rattle.erm_good_report.proofs.Decided.{own_window}
 use Rattle.erm_good_report.proofs.Parts.{all_pairs_of_two, each_in, each_place}
-use Rattle.erm_bad_reports.specs.Clauses.{BreaksAlone, Clause, Meets, lines_of, told_of, IsLowAt, IsHighAt, Fit, Answered, Closes, Phases, Stamps, Snapshots, Causes, Refusals, Safe, Serial, Ascending, Runs, LowEnds, HighEnds}
+use Rattle.erm_bad_reports.specs.Clauses.{BreaksAlone, Clause, Meets, lines_of, told_of, IsLowAt, IsHighAt, Fit, Answered, Closes, Phases, Stamps, Snapshots, Causes, Refusals, Safe, Marks, Serial, Ascending, Runs, LowEnds, HighEnds}
 use Rattle.erm_bad_reports.specs.Cases.{begun_too_early, future_was_read}
 use Rattle.erm_bad_reports.proofs.Reading.{owes_of}
 use Rattle.erm_bad_reports.proofs.Tests.{safe_kept, no_looks, byte, in_one, no_commit_ordered, one_commit_ordered, no_pair_ascends, first_snapshot, phases_kept, reach_from_test, refusals_kept, untold_in_reach}
+use Rattle.erm_bad_reports.proofs.Unmarked.{marks_kept}
 
 -- ---- a begin within the opening's block
 keeps_but_least : (other : Clause) → other ≢ Stamps → Meets other begun_too_early
@@ -35,6 +36,7 @@ keeps_but_least Snapshots not = in_one _ _ (first_snapshot [] begun_too_early.op
 keeps_but_least Causes not = in_one _ _ tt
 keeps_but_least Refusals not = record { each = each_place (λ i l a. HasCause (moment_at InTurn begun_too_early.opening begun_too_early.script begun_too_early.report.answers (told_of begun_too_early) i l) l.command a) begun_too_early.script begun_too_early.report.answers (record { own = λ t is. tt; saves = λ t is. tt; log = tt; unfilled = tt }, (record { own = λ t is. tt; saves = λ t is. tt; log = tt; unfilled = tt }, tt)); reach = reach_from_test (moment_at InTurn begun_too_early.opening begun_too_early.script begun_too_early.report.answers (told_of begun_too_early)) begun_too_early.script begun_too_early.report.answers refl; untold = untold_in_reach InTurn begun_too_early.opening begun_too_early.script begun_too_early.report.answers (told_of begun_too_early) refl }
 keeps_but_least Safe not = safe_kept begun_too_early refl
+keeps_but_least Marks not = marks_kept begun_too_early refl refl refl
 keeps_but_least Serial not = no_commit_ordered
 keeps_but_least Ascending not = no_pair_ascends
 keeps_but_least Runs not = record { run = refl }
@@ -93,6 +95,7 @@ keeps_but_draws Snapshots not = each_in (λ t. HasSnapshotReplies (history_of to
 keeps_but_draws Causes not = each_in (λ t. HasCauseOf t.ending told t) told (tt, (record { opens = omega arith; closes = omega arith; succ_cause = inl refl; pred_cause = inl refl }, (record { opens = omega arith; closes = omega arith; succ_cause = inl refl; pred_cause = inl refl }, tt)))
 keeps_but_draws Refusals not = refusals_kept future_was_read refl (record { own = λ t is. tt; saves = λ t is. tt; log = tt; unfilled = tt }, (record { own = λ t is. own_window _ t _; saves = λ t is. tt; log = tt; unfilled = tt }, (record { own = λ t is. tt; saves = λ t is. tt; log = tt; unfilled = tt }, (record { own = λ t is. tt; saves = λ t is. tt; log = tt; unfilled = tt }, (record { own = λ t is. tt; saves = λ t is. tt; log = tt; unfilled = tt }, (record { own = λ t is. own_window _ t _; saves = λ t is. tt; log = tt; unfilled = tt }, (record { own = λ t is. tt; saves = λ t is. tt; log = tt; unfilled = tt }, (record { own = λ t is. tt; saves = λ t is. tt; log = tt; unfilled = tt }, tt))))))))
 keeps_but_draws Safe not = safe_kept future_was_read refl
+keeps_but_draws Marks not = marks_kept future_was_read refl refl refl
 keeps_but_draws Serial not = both_ordered
 keeps_but_draws Ascending not = λ i j d less within. absurd (omega arith)
 keeps_but_draws Runs not = record { run = (tt, ((refl, tt), refl)) }

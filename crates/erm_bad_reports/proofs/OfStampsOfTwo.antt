@@ -17,10 +17,11 @@ use Rattle.erm_good_report.specs.Transactions.{Commits, Said, Transaction, histo
 use Rattle.erm_good_report.specs.Windows.{IsCommit}
 use Rattle.erm_good_report.proofs.Parts.{all_pairs_from_test, all_pairs_of_two, each_in, pairs_pass, told_from_test, told_pass}
 use Rattle.erm_good_report.proofs.Decided.{own_window}
-use Rattle.erm_bad_reports.specs.Clauses.{Clause, Meets, lines_of, told_of, IsLowAt, IsHighAt, Fit, Answered, Closes, Phases, Stamps, Snapshots, Causes, Refusals, Safe, Serial, Ascending, Runs, LowEnds, HighEnds}
+use Rattle.erm_bad_reports.specs.Clauses.{Clause, Meets, lines_of, told_of, IsLowAt, IsHighAt, Fit, Answered, Closes, Phases, Stamps, Snapshots, Causes, Refusals, Safe, Marks, Serial, Ascending, Runs, LowEnds, HighEnds}
 use Rattle.erm_bad_reports.specs.StampParts.{BreaksPartAlone, Part, MeetsPart, Differ, Least, Begun, Sealed, Begins, Draws, Ascends, Flushes, FlushesFirst, BeginsAscend, Stops, UntoldAfter, UntoldBefore, stamp_of_two}
 use Rattle.erm_bad_reports.proofs.Reading.{owes_of}
 use Rattle.erm_bad_reports.proofs.Tests.{safe_kept, byte, first_snapshot, less_from, most_from, phases_kept, refusals_kept, begins_stop, untold_after, untold_before}
+use Rattle.erm_bad_reports.proofs.Unmarked.{marks_kept}
 
 -- what is so of each two lines of one session, by a test
 pub in_time : (P : ℕ → ℕ → Type 0) (test : ℕ → ℕ → Bool) → ((m n : ℕ) → test m n ≡ true → P m n) → (first later : Said → Option ℕ) → (said : List Said)
@@ -102,6 +103,7 @@ keeps_but_differ Refusals not = refusals_kept stamp_of_two refl (
   ),
 )
 keeps_but_differ Safe not = safe_kept stamp_of_two refl
+keeps_but_differ Marks not = marks_kept stamp_of_two refl refl refl
 keeps_but_differ Serial not = record { same = IsPermutation-refl (history_of told); ascends = all_pairs_of_two (λ a b. ComesBefore (rank_of a) (rank_of b)) _ _ (inl (omega arith)) }
 keeps_but_differ Ascending not = λ i j d less within. absurd (omega arith)
 keeps_but_differ Runs not = record { run = ((refl, tt), (tt, refl)) }

@@ -20,13 +20,14 @@ use Rattle.erm_good_report.proofs.Decided.{own_window}
 use Rattle.erm_good_report.proofs.Parts.{each_in}
 use Rattle.erm_good_report.proofs.SnapshotTests.{safe_there, snapshots_at}
 use Rattle.erm_bad_reports.specs.Cases.{commit_by, opening_at}
-use Rattle.erm_bad_reports.specs.Clauses.{BreaksAlone, Clause, Meets, lines_of, told_of, IsLowAt, IsHighAt, Fit, Answered, Closes, Phases, Stamps, Snapshots, Causes, Refusals, Safe, Serial, Ascending, Runs, LowEnds, HighEnds}
+use Rattle.erm_bad_reports.specs.Clauses.{BreaksAlone, Clause, Meets, lines_of, told_of, IsLowAt, IsHighAt, Fit, Answered, Closes, Phases, Stamps, Snapshots, Causes, Refusals, Safe, Marks, Serial, Ascending, Runs, LowEnds, HighEnds}
 use Rattle.erm_bad_reports.specs.SaveCases.{held_from_before, saved_idle, saved_safe, saved_sealed, undone_steps, undone_was_left}
 use Rattle.erm_bad_reports.proofs.OfSaves.{in_mode, made_save, went_back}
 use Rattle.erm_bad_reports.proofs.OfSnapshots.{OwesSafe, safe_by_line}
 use Rattle.erm_bad_reports.proofs.OfUntold.{none_kept}
 use Rattle.erm_bad_reports.proofs.Reading.{orders_of, owes_of}
 use Rattle.erm_bad_reports.proofs.Tests.{byte, first_snapshot, in_none, no_commit_ordered, no_pair_ascends, none_overwrites, one_commit_ordered, phases_kept, reaches, refusals_kept, safe_kept, stamps_agree}
+use Rattle.erm_bad_reports.proofs.Unmarked.{marks_kept}
 
 -- ---- a savepoint of the transaction before
 held_from_before_in_reach : (mode : Mode) → reaches (held_from_before mode) ≡ true
@@ -52,6 +53,7 @@ held_from_before_keeps mode Snapshots not = each_in (λ t. HasSnapshotReplies (h
 held_from_before_keeps mode Causes not = each_in (λ t. HasCauseOf t.ending (told_of (held_from_before mode)) t) (told_of (held_from_before mode)) (record { opens = omega arith; closes = omega arith; succ_cause = inl refl; pred_cause = inl refl }, (tt, tt))
 held_from_before_keeps mode Refusals not = absurd (not refl)
 held_from_before_keeps mode Safe not = safe_kept (held_from_before mode) refl
+held_from_before_keeps mode Marks not = marks_kept (held_from_before mode) refl refl refl
 held_from_before_keeps mode Serial not = one_commit_ordered _
 held_from_before_keeps mode Ascending not = no_pair_ascends
 held_from_before_keeps mode Runs not = record { run = ((refl, tt), refl) }
@@ -85,6 +87,7 @@ undone_was_left_keeps mode Snapshots not = each_in (λ t. HasSnapshotReplies (hi
 undone_was_left_keeps mode Causes not = each_in (λ t. HasCauseOf t.ending (told_of (undone_was_left mode)) t) (told_of (undone_was_left mode)) (record { opens = omega arith; closes = omega arith; succ_cause = inl refl; pred_cause = inl refl }, tt)
 undone_was_left_keeps mode Refusals not = refusals_kept (undone_was_left mode) (undone_was_left_in_reach mode) (record { own = λ t is. tt; saves = λ t is. tt; log = tt; unfilled = tt }, (record { own = λ t is. tt; saves = made_save 0 _ _ refl refl (omega arith); log = tt; unfilled = tt }, (record { own = λ t is. tt; saves = λ t is. tt; log = tt; unfilled = tt }, (record { own = λ t is. tt; saves = went_back 1 1 _ _ refl refl (omega arith) (omega arith); log = tt; unfilled = tt }, (record { own = λ t is. own_window _ t _; saves = λ t is. tt; log = tt; unfilled = tt }, tt)))))
 undone_was_left_keeps mode Safe not = safe_kept (undone_was_left mode) refl
+undone_was_left_keeps mode Marks not = marks_kept (undone_was_left mode) refl refl refl
 undone_was_left_keeps mode Serial not = one_commit_ordered _
 undone_was_left_keeps mode Ascending not = λ i j d less within. absurd (omega arith)
 undone_was_left_keeps mode Runs not = absurd (not refl)
@@ -133,6 +136,7 @@ saved_idle_keeps mode Snapshots not = in_none _
 saved_idle_keeps mode Causes not = in_none _
 saved_idle_keeps mode Refusals not = refusals_kept (saved_idle mode) (saved_idle_in_reach mode) (record { own = λ t is. absurd (cc is.1); saves = λ t is. absurd (cc is); log = tt; unfilled = tt }, tt)
 saved_idle_keeps mode Safe not = safe_kept (saved_idle mode) refl
+saved_idle_keeps mode Marks not = marks_kept (saved_idle mode) refl refl refl
 saved_idle_keeps mode Serial not = no_commit_ordered
 saved_idle_keeps mode Ascending not = no_pair_ascends
 saved_idle_keeps mode Runs not = record { run = refl }
@@ -166,6 +170,7 @@ saved_sealed_keeps mode Snapshots not = each_in (λ t. HasSnapshotReplies (histo
 saved_sealed_keeps mode Causes not = each_in (λ t. HasCauseOf t.ending (told_of (saved_sealed mode)) t) (told_of (saved_sealed mode)) (record { opens = omega arith; closes = omega arith; succ_cause = inl refl; pred_cause = inl refl }, tt)
 saved_sealed_keeps mode Refusals not = refusals_kept (saved_sealed mode) (saved_sealed_in_reach mode) (record { own = λ t is. tt; saves = λ t is. tt; log = tt; unfilled = tt }, (record { own = λ t is. tt; saves = λ t is. tt; log = tt; unfilled = tt }, (record { own = λ t is. tt; saves = made_save 0 _ _ refl refl (omega arith); log = tt; unfilled = tt }, (record { own = λ t is. own_window _ t _; saves = λ t is. tt; log = tt; unfilled = tt }, tt))))
 saved_sealed_keeps mode Safe not = safe_kept (saved_sealed mode) refl
+saved_sealed_keeps mode Marks not = marks_kept (saved_sealed mode) refl refl refl
 saved_sealed_keeps mode Serial not = one_commit_ordered _
 saved_sealed_keeps mode Ascending not = no_pair_ascends
 saved_sealed_keeps mode Runs not = record { run = ((refl, tt), refl) }
@@ -200,6 +205,7 @@ saved_safe_keeps mode Snapshots not = in_none _
 saved_safe_keeps mode Causes not = in_none _
 saved_safe_keeps mode Refusals not = refusals_kept (saved_safe mode) (saved_safe_in_reach mode) (record { own = λ t is. tt; saves = λ t is. tt; log = tt; unfilled = tt }, (record { own = λ t is. absurd (cc is.1); saves = λ t is. absurd (cc is); log = tt; unfilled = tt }, (record { own = λ t is. tt; saves = λ t is. tt; log = tt; unfilled = tt }, tt)))
 saved_safe_keeps mode Safe not = saved_safe_stands mode
+saved_safe_keeps mode Marks not = marks_kept (saved_safe mode) refl refl refl
 saved_safe_keeps mode Serial not = no_commit_ordered
 saved_safe_keeps mode Ascending not = no_pair_ascends
 saved_safe_keeps mode Runs not = record { run = refl }

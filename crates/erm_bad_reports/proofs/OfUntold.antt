@@ -18,10 +18,11 @@ use Rattle.erm_good_report.specs.Transactions.{Exchange, Transaction, Unfinished
 use Rattle.erm_good_report.specs.Windows.{HasKept, PutsKey}
 use Rattle.erm_good_report.proofs.Decided.{own_window}
 use Rattle.erm_good_report.proofs.Parts.{all_pairs_of_two, each_in}
-use Rattle.erm_bad_reports.specs.Clauses.{Clause, Meets, lines_of, told_of, IsLowAt, IsHighAt, Fit, Answered, Closes, Phases, Stamps, Snapshots, Causes, Refusals, Safe, Serial, Ascending, Runs, LowEnds, HighEnds}
+use Rattle.erm_bad_reports.specs.Clauses.{Clause, Meets, lines_of, told_of, IsLowAt, IsHighAt, Fit, Answered, Closes, Phases, Stamps, Snapshots, Causes, Refusals, Safe, Marks, Serial, Ascending, Runs, LowEnds, HighEnds}
 use Rattle.erm_bad_reports.specs.StampParts.{BreaksPartAlone, Part, MeetsPart, Differ, Least, Begun, Sealed, Begins, Draws, Ascends, Flushes, FlushesFirst, BeginsAscend, Stops, UntoldAfter, UntoldBefore, begun_above_untold, begun_below_untold, stamp_below_begin}
 use Rattle.erm_bad_reports.proofs.Reading.{owes_of}
 use Rattle.erm_bad_reports.proofs.Tests.{begins_ascend, begins_stop, first_snapshot, flushed_begin, flushed_drawn, no_pair_ascends, none_overwrites, one_commit_ordered, phases_kept, refusals_kept, safe_kept, stamps_ascend, stamps_begin, stamps_differ, stamps_drawn, untold_after, untold_before}
+use Rattle.erm_bad_reports.proofs.Unmarked.{marks_kept}
 
 -- each of these transactions tidies a key
 abbrev pub tidies : ℕ → List Exchange
@@ -93,6 +94,7 @@ keeps_but_begun Causes not = each_in (λ t. HasCauseOf t.ending (told_of stamp_b
     (record { opens = omega arith; closes = omega arith; succ_cause = inl refl; pred_cause = inl refl }, (record { opens = omega arith; closes = omega arith; succ_cause = inl refl; pred_cause = inl refl }, tt))
 keeps_but_begun Refusals not = refusals_kept stamp_below_begin refl (record { own = λ t is. tt; saves = λ t is. tt; log = tt; unfilled = tt }, (record { own = λ t is. tt; saves = λ t is. tt; log = tt; unfilled = tt }, (record { own = λ t is. tt; saves = λ t is. tt; log = tt; unfilled = tt }, (record { own = λ t is. tt; saves = λ t is. tt; log = tt; unfilled = tt }, (record { own = λ t is. tt; saves = λ t is. tt; log = tt; unfilled = tt }, (seat_wait _ 60 50 (omega arith) refl refl refl (record { current = refl; sealed = refl; stamp_is = each_in (λ u. u.session ≡ 1 → u.number ≡ 1 → IfSome (stamp_of u) (λ told. told ≡ 13)) (told_of stamp_below_begin) (λ session number. refl, (λ session number. absurd (omega (arith, session)), tt)) }) (λ t is. each_in (λ u. u.session ≡ t.session → u.number ≡ t.number → IfSome (stamp_of u) (λ told. told ≡ 50)) (told_of stamp_below_begin) (λ session number. absurd (omega (arith, session, is)), (λ session number. refl, tt))), (record { own = λ t is. own_window _ t _; saves = λ t is. tt; log = tt; unfilled = tt }, (record { own = λ t is. own_window _ t _; saves = λ t is. tt; log = tt; unfilled = tt }, tt))))))))
 keeps_but_begun Safe not = safe_kept stamp_below_begin refl
+keeps_but_begun Marks not = marks_kept stamp_below_begin refl refl refl
 keeps_but_begun Serial not = both_ordered_begun
 keeps_but_begun Ascending not = no_pair_ascends
 keeps_but_begun Runs not = record { run = (tt, (tt, refl)) }
@@ -149,6 +151,7 @@ keeps_but_untold_after Causes not = each_in (λ t. HasCauseOf t.ending (told_of 
     (record { opens = omega arith; closes = omega arith; succ_cause = inl refl; pred_cause = inl refl }, (record { opens = omega arith; closes = omega arith; succ_cause = inl refl; pred_cause = inl refl }, (tt, tt)))
 keeps_but_untold_after Refusals not = refusals_kept begun_above_untold refl (record { own = λ t is. tt; saves = λ t is. tt; log = tt; unfilled = tt }, (record { own = λ t is. tt; saves = λ t is. tt; log = tt; unfilled = tt }, (record { own = λ t is. tt; saves = λ t is. tt; log = tt; unfilled = tt }, (record { own = λ t is. tt; saves = λ t is. tt; log = tt; unfilled = tt }, (record { own = λ t is. tt; saves = λ t is. tt; log = tt; unfilled = tt }, (record { own = λ t is. tt; saves = λ t is. tt; log = tt; unfilled = tt }, (record { own = λ t is. tt; saves = λ t is. tt; log = tt; unfilled = tt }, (seat_wait _ 40 50 (omega arith) refl refl refl (record { current = refl; sealed = refl; stamp_is = each_in (λ u. u.session ≡ 1 → u.number ≡ 1 → IfSome (stamp_of u) (λ told. told ≡ 13)) (told_of begun_above_untold) (λ session number. refl, (λ session number. absurd (omega (arith, session)), (λ session number. tt, tt))) }) (λ t is. each_in (λ u. u.session ≡ t.session → u.number ≡ t.number → IfSome (stamp_of u) (λ told. told ≡ 50)) (told_of begun_above_untold) (λ session number. absurd (omega (arith, session, is)), (λ session number. refl, (λ session number. tt, tt)))), (record { own = λ t is. own_window _ t _; saves = λ t is. tt; log = tt; unfilled = tt }, (record { own = λ t is. own_window _ t _; saves = λ t is. tt; log = tt; unfilled = tt }, tt))))))))))
 keeps_but_untold_after Safe not = safe_kept begun_above_untold refl
+keeps_but_untold_after Marks not = marks_kept begun_above_untold refl refl refl
 keeps_but_untold_after Serial not = both_ordered_untold_after
 keeps_but_untold_after Ascending not = no_pair_ascends
 keeps_but_untold_after Runs not = record { run = (tt, (tt, refl)) }
@@ -199,6 +202,7 @@ keeps_but_untold_before Causes not = each_in (λ t. HasCauseOf t.ending (told_of
     (record { opens = omega arith; closes = omega arith; succ_cause = inl refl; pred_cause = inl refl }, (record { opens = omega arith; closes = omega arith; succ_cause = inl refl; pred_cause = inl refl }, (tt, tt)))
 keeps_but_untold_before Refusals not = refusals_kept begun_below_untold refl (record { own = λ t is. tt; saves = λ t is. tt; log = tt; unfilled = tt }, (record { own = λ t is. tt; saves = λ t is. tt; log = tt; unfilled = tt }, (record { own = λ t is. tt; saves = λ t is. tt; log = tt; unfilled = tt }, (record { own = λ t is. tt; saves = λ t is. tt; log = tt; unfilled = tt }, (record { own = λ t is. tt; saves = λ t is. tt; log = tt; unfilled = tt }, (seat_wait _ 40 50 (omega arith) refl refl refl (record { current = refl; sealed = refl; stamp_is = each_in (λ u. u.session ≡ 1 → u.number ≡ 1 → IfSome (stamp_of u) (λ told. told ≡ 13)) (told_of begun_below_untold) (λ session number. refl, (λ session number. absurd (omega (arith, session)), (λ session number. tt, tt))) }) (λ t is. each_in (λ u. u.session ≡ t.session → u.number ≡ t.number → IfSome (stamp_of u) (λ told. told ≡ 50)) (told_of begun_below_untold) (λ session number. absurd (omega (arith, session, is)), (λ session number. refl, (λ session number. tt, tt)))), (record { own = λ t is. tt; saves = λ t is. tt; log = tt; unfilled = tt }, (record { own = λ t is. tt; saves = λ t is. tt; log = tt; unfilled = tt }, (record { own = λ t is. own_window _ t _; saves = λ t is. tt; log = tt; unfilled = tt }, (record { own = λ t is. own_window _ t _; saves = λ t is. tt; log = tt; unfilled = tt }, tt))))))))))
 keeps_but_untold_before Safe not = safe_kept begun_below_untold refl
+keeps_but_untold_before Marks not = marks_kept begun_below_untold refl refl refl
 keeps_but_untold_before Serial not = both_ordered_untold_before
 keeps_but_untold_before Ascending not = no_pair_ascends
 keeps_but_untold_before Runs not = record { run = (tt, (tt, refl)) }

@@ -17,10 +17,11 @@ use Rattle.erm_good_report.specs.Windows.{HasKept, PutsKey}
 use Rattle.erm_good_report.proofs.Decided.{own_window}
 use Rattle.erm_good_report.proofs.Parts.{all_pairs_of_two, each_in, each_place}
 use Rattle.erm_bad_reports.specs.Cases.{waited_out_of_reach}
-use Rattle.erm_bad_reports.specs.Clauses.{BreaksAlone, Clause, Meets, MeetsByLine, lines_of, told_of, IsLowAt, IsHighAt, Fit, Answered, Closes, Phases, Stamps, Snapshots, Causes, Refusals, Safe, Serial, Ascending, Runs, LowEnds, HighEnds}
+use Rattle.erm_bad_reports.specs.Clauses.{BreaksAlone, Clause, Meets, MeetsByLine, lines_of, told_of, IsLowAt, IsHighAt, Fit, Answered, Closes, Phases, Stamps, Snapshots, Causes, Refusals, Safe, Marks, Serial, Ascending, Runs, LowEnds, HighEnds}
 use Rattle.erm_bad_reports.proofs.OfUntold.{none_kept, seat_wait}
 use Rattle.erm_bad_reports.proofs.Reading.{owes_of}
 use Rattle.erm_bad_reports.proofs.Tests.{first_snapshot, no_pair_ascends, none_overwrites, one_commit_ordered, phases_kept, reach_from_test, safe_kept, stamps_agree}
+use Rattle.erm_bad_reports.proofs.Unmarked.{marks_kept}
 
 both_ordered : IsSerialOrder rank_of (history_of (told_of waited_out_of_reach)) (history_of (told_of waited_out_of_reach))
 both_ordered = record { same = IsPermutation-refl (history_of (told_of waited_out_of_reach)); ascends = all_pairs_of_two (λ a b. ComesBefore (rank_of a) (rank_of b)) _ _ (inl (omega arith)) }
@@ -42,6 +43,7 @@ keeps_but_waited_far Causes not = each_in (λ t. HasCauseOf t.ending (told_of wa
     (record { opens = omega arith; closes = omega arith; succ_cause = inl refl; pred_cause = inl refl }, (record { opens = omega arith; closes = omega arith; succ_cause = inl refl; pred_cause = inl refl }, tt))
 keeps_but_waited_far Refusals not = absurd (not refl)
 keeps_but_waited_far Safe not = safe_kept waited_out_of_reach refl
+keeps_but_waited_far Marks not = marks_kept waited_out_of_reach refl refl refl
 keeps_but_waited_far Serial not = both_ordered
 keeps_but_waited_far Ascending not = no_pair_ascends
 keeps_but_waited_far Runs not = record { run = (tt, (tt, refl)) }

@@ -19,7 +19,7 @@ use Rattle.erm_good_report.proofs.Parts.{all_pairs_from_test, each_in, pairs_pas
 use Rattle.erm_good_report.proofs.SnapshotTests.{safe_there, snapshots_at}
 use Rattle.erm_good_report.proofs.StampTests.{second_of, some_from_test, some_pass}
 use Rattle.erm_good_at_once.specs.Rising.{Names, stamp_met}
-use Rattle.erm_bad_reports.specs.Clauses.{Clause, Meets, lines_of, told_of, IsLowAt, IsHighAt, Fit, Answered, Closes, Phases, Stamps, Snapshots, Causes, Refusals, Safe, Serial, Ascending, Runs, LowEnds, HighEnds}
+use Rattle.erm_bad_reports.specs.Clauses.{Clause, Meets, lines_of, told_of, IsLowAt, IsHighAt, Fit, Answered, Closes, Phases, Stamps, Snapshots, Causes, Refusals, Safe, Marks, Serial, Ascending, Runs, LowEnds, HighEnds}
 use Rattle.erm_bad_reports.specs.SafeAtOnceCases.{BreaksRiseAlone, MeetsRise, Rise, Met, Named, Watched, safe_at_one_met, safe_below_its_owner}
 use Rattle.erm_bad_reports.proofs.OfPlaced.{owes_at}
 use Rattle.erm_bad_reports.proofs.OfSafeAtOnce.{at_once}
@@ -27,6 +27,7 @@ use Rattle.erm_bad_reports.proofs.OfSnapshots.{OwesSafe, phases_by_line, safe_by
 use Rattle.erm_bad_reports.proofs.OfStampsOfTwo.{in_time}
 use Rattle.erm_bad_reports.proofs.Reading.{rise_of}
 use Rattle.erm_bad_reports.proofs.Tests.{byte, first_snapshot, less_from, no_pair_ascends, one_commit_ordered, refusals_kept, stamps_agree}
+use Rattle.erm_bad_reports.proofs.Unmarked.{marks_kept}
 
 -- ---- behind a line that names a transaction its session begins none
 abbrev names_none : Answer → Bool
@@ -91,6 +92,7 @@ met_good Causes = each_in (λ t. HasCauseOf t.ending met_told t) met_told
     (excludes _ refl (record { line = _; of = (0, refl); names = refl }), (record { opens = omega arith; closes = omega arith; succ_cause = inl refl; pred_cause = inl refl }, tt))
 met_good Refusals = refusals_kept safe_at_one_met refl (record { own = λ t is. tt; saves = λ t is. tt; log = tt; unfilled = tt }, (record { own = λ t is. let whole : excluded ≡ t = ap (λ u. with_line (Some (command.Put 0 2 (2 ∷ []))) (answer.ExcludedEarly 13 13) u) (its_own is.0 is.1) ∙ sym is.2 in (subst (λ (u : Transaction). HasNoWindow met_told u None 13 13) whole (excludes excluded refl (record { line = _; of = (0, refl); names = refl })), (λ turn. absurd (let no : AtOnce ≡ InTurn = turn in cc)), (λ turn. absurd (let no : AtOnce ≡ InTurn = turn in cc))); saves = λ t is. tt; log = tt; unfilled = tt }, (record { own = λ t is. tt; saves = λ t is. tt; log = tt; unfilled = tt }, (record { own = λ t is. tt; saves = λ t is. tt; log = tt; unfilled = tt }, (record { own = λ t is. tt; saves = λ t is. tt; log = tt; unfilled = tt }, (record { own = λ t is. tt; saves = λ t is. tt; log = tt; unfilled = tt }, (record { own = λ t is. own_window _ t _; saves = λ t is. tt; log = tt; unfilled = tt }, tt)))))))
 met_good Safe = safe_by_line safe_at_one_met (λ session number. 13) refl (λ is. absurd (cc), (λ is. absurd (cc), ((λ is. (refl, safe_there _ 13 refl)), (λ is. absurd (cc), (λ is. absurd (cc), (λ is. absurd (cc), (λ is. absurd (cc), tt))))))) (met_owes, (met_owes, (met_owes, (met_owes, (tt, (tt, (tt, tt)))))))
+met_good Marks = marks_kept safe_at_one_met refl refl refl
 met_good Serial = one_commit_ordered _
 met_good Ascending = λ i j d less within. absurd (omega arith)
 met_good Runs = record { run = ((refl, tt), refl) }
@@ -137,6 +139,7 @@ owned_good Snapshots = each_in (λ t. HasSnapshotReplies (history_of owned_told)
 owned_good Causes = each_in (λ t. HasCauseOf t.ending owned_told t) owned_told (tt, (record { opens = omega arith; closes = omega arith; succ_cause = inl refl; pred_cause = inl refl }, (tt, tt)))
 owned_good Refusals = refusals_kept safe_below_its_owner refl (record { own = λ t is. tt; saves = λ t is. tt; log = tt; unfilled = tt }, (record { own = λ t is. record { another = λ same. omega (arith, same); other = _; in_progress = (2, refl); name = (refl, refl); table = 0; named = refl; writes = record { line = _; of = (0, refl); names = refl; writes = refl } }; saves = λ t is. tt; log = tt; unfilled = tt }, (record { own = λ t is. tt; saves = λ t is. tt; log = tt; unfilled = tt }, (record { own = λ t is. tt; saves = λ t is. tt; log = tt; unfilled = tt }, (record { own = λ t is. tt; saves = λ t is. tt; log = tt; unfilled = tt }, (record { own = λ t is. own_window _ t _; saves = λ t is. tt; log = tt; unfilled = tt }, (record { own = λ t is. tt; saves = λ t is. tt; log = tt; unfilled = tt }, (record { own = λ t is. tt; saves = λ t is. tt; log = tt; unfilled = tt }, (record { own = λ t is. tt; saves = λ t is. tt; log = tt; unfilled = tt }, tt)))))))))
 owned_good Safe = safe_by_line safe_below_its_owner (λ session number. 13) refl (λ is. absurd (cc), (λ is. absurd (cc), ((λ is. (refl, safe_there _ 13 refl)), (λ is. absurd (cc), (λ is. absurd (cc), (λ is. absurd (cc), (λ is. absurd (cc), (λ is. absurd (cc), (λ is. absurd (cc), tt))))))))) (owned_owes, (owned_owes, (owned_owes, (owned_owes, (tt, (tt, (tt, (tt, (tt, tt)))))))))
+owned_good Marks = marks_kept safe_below_its_owner refl refl refl
 owned_good Serial = one_commit_ordered _
 owned_good Ascending = no_pair_ascends
 owned_good Runs = record { run = (tt, refl) }

@@ -22,12 +22,13 @@ use Rattle.erm_good_report.specs.Windows.{IsCommit}
 use Rattle.erm_good_report.proofs.Decided.{AreOverBelow, own_window, window_over}
 use Rattle.erm_good_report.proofs.Parts.{all_pairs_of_two, each_in}
 use Rattle.erm_good_report.proofs.StampTests.{second_true}
-use Rattle.erm_bad_reports.specs.Clauses.{BreaksAlone, Case, Clause, Meets, lines_of, told_of, IsLowAt, IsHighAt, Fit, Answered, Closes, Phases, Stamps, Snapshots, Causes, Refusals, Safe, Serial, Ascending, Runs, LowEnds, HighEnds}
+use Rattle.erm_bad_reports.specs.Clauses.{BreaksAlone, Case, Clause, Meets, lines_of, told_of, IsLowAt, IsHighAt, Fit, Answered, Closes, Phases, Stamps, Snapshots, Causes, Refusals, Safe, Marks, Serial, Ascending, Runs, LowEnds, HighEnds}
 use Rattle.erm_bad_reports.specs.SafeCases.{safe_behind_one_that_went_back, unsafe_again}
 use Rattle.erm_bad_reports.proofs.OfGood.{of_three}
 use Rattle.erm_bad_reports.proofs.OfSnapshots.{phases_by_line}
 use Rattle.erm_bad_reports.proofs.Reading.{owes_of}
 use Rattle.erm_bad_reports.proofs.Tests.{byte, first_snapshot, one_commit_ordered, refusals_kept, stamps_agree}
+use Rattle.erm_bad_reports.proofs.Unmarked.{marks_kept}
 
 -- ---- the transactions of each of these reports
 abbrev pub told : List Transaction
@@ -225,6 +226,7 @@ keeps_but_back Snapshots not = own_replies
 keeps_but_back Causes not = own_causes
 keeps_but_back Refusals not = refusals_kept safe_behind_one_that_went_back refl (record { own = λ t is. tt; saves = λ t is. tt; log = tt; unfilled = tt }, (record { own = λ t is. tt; saves = λ t is. tt; log = tt; unfilled = tt }, (record { own = λ t is. tt; saves = λ t is. tt; log = tt; unfilled = tt }, (record { own = λ t is. own_window _ t _; saves = λ t is. tt; log = tt; unfilled = tt }, (record { own = λ t is. tt; saves = λ t is. tt; log = tt; unfilled = tt }, (record { own = λ t is. tt; saves = λ t is. tt; log = tt; unfilled = tt }, (record { own = λ t is. tt; saves = λ t is. tt; log = tt; unfilled = tt }, (record { own = λ t is. tt; saves = λ t is. tt; log = tt; unfilled = tt }, (record { own = λ t is. tt; saves = λ t is. tt; log = tt; unfilled = tt }, (record { own = λ t is. tt; saves = λ t is. tt; log = tt; unfilled = tt }, (record { own = λ t is. window_over (at_commit safe_behind_one_that_went_back 10 11 1) t 38 38 13 (first_over (at_commit safe_behind_one_that_went_back 10 11 1) refl (λ s p q is less turn. (0, refl), (λ s p q is less. absurd (let same : 38 ≡ s = cc in omega (arith, same, less)), (λ s p q is less. absurd (let same : 47 ≡ s = cc in omega (arith, same, less)), tt)))); saves = λ t is. tt; log = tt; unfilled = tt }, (record { own = λ t is. absurd (cc is.1); saves = λ t is. tt; log = tt; unfilled = tt }, (record { own = λ t is. window_over (at_commit safe_behind_one_that_went_back 12 13 2) t 47 38 13 (both_over (at_commit safe_behind_one_that_went_back 12 13 2) refl (λ s p q is less turn. (0, refl), (λ s p q is less turn. (1, refl), (λ s p q is less. absurd (let same : 47 ≡ s = cc in omega (arith, same, less)), tt)))); saves = λ t is. tt; log = tt; unfilled = tt }, (record { own = λ t is. tt; saves = λ t is. tt; log = tt; unfilled = tt }, (record { own = λ t is. tt; saves = λ t is. tt; log = tt; unfilled = tt }, tt)))))))))))))))
 keeps_but_back Safe not = absurd (not refl)
+keeps_but_back Marks not = marks_kept safe_behind_one_that_went_back refl refl refl
 keeps_but_back Serial not = own_order
 keeps_but_back Ascending not = own_pairs
 keeps_but_back Runs not = own_run
@@ -248,6 +250,7 @@ keeps_but_again Snapshots not = own_replies
 keeps_but_again Causes not = own_causes
 keeps_but_again Refusals not = refusals_kept unsafe_again refl (record { own = λ t is. tt; saves = λ t is. tt; log = tt; unfilled = tt }, (record { own = λ t is. tt; saves = λ t is. tt; log = tt; unfilled = tt }, (record { own = λ t is. tt; saves = λ t is. tt; log = tt; unfilled = tt }, (record { own = λ t is. own_window _ t _; saves = λ t is. tt; log = tt; unfilled = tt }, (record { own = λ t is. tt; saves = λ t is. tt; log = tt; unfilled = tt }, (record { own = λ t is. tt; saves = λ t is. tt; log = tt; unfilled = tt }, (record { own = λ t is. tt; saves = λ t is. tt; log = tt; unfilled = tt }, (record { own = λ t is. tt; saves = λ t is. tt; log = tt; unfilled = tt }, (record { own = λ t is. tt; saves = λ t is. tt; log = tt; unfilled = tt }, (record { own = λ t is. tt; saves = λ t is. tt; log = tt; unfilled = tt }, (record { own = λ t is. window_over (at_commit unsafe_again 10 11 1) t 38 38 13 (first_over (at_commit unsafe_again 10 11 1) refl (λ s p q is less turn. (0, refl), (λ s p q is less. absurd (let same : 38 ≡ s = cc in omega (arith, same, less)), (λ s p q is less. absurd (let same : 47 ≡ s = cc in omega (arith, same, less)), tt)))); saves = λ t is. tt; log = tt; unfilled = tt }, (record { own = λ t is. absurd (cc is.1); saves = λ t is. tt; log = tt; unfilled = tt }, (record { own = λ t is. window_over (at_commit unsafe_again 12 13 2) t 47 38 13 (both_over (at_commit unsafe_again 12 13 2) refl (λ s p q is less turn. (0, refl), (λ s p q is less turn. (1, refl), (λ s p q is less. absurd (let same : 47 ≡ s = cc in omega (arith, same, less)), tt)))); saves = λ t is. tt; log = tt; unfilled = tt }, (record { own = λ t is. tt; saves = λ t is. tt; log = tt; unfilled = tt }, (record { own = λ t is. tt; saves = λ t is. tt; log = tt; unfilled = tt }, tt)))))))))))))))
 keeps_but_again Safe not = absurd (not refl)
+keeps_but_again Marks not = marks_kept unsafe_again refl refl refl
 keeps_but_again Serial not = own_order
 keeps_but_again Ascending not = own_pairs
 keeps_but_again Runs not = own_run

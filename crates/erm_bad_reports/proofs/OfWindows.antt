@@ -23,10 +23,11 @@ use Rattle.erm_model.specs.declared.operation.Reply.TheVariants as reply
 use Rattle.std.specs.Prelude.{◌⊎◌}
 use Rattle.erm_good_report.proofs.Parts.{all_pairs_from_test, all_pairs_of_two, each_in, each_place}
 use Rattle.erm_good_report.proofs.Decided.{AreOverBelow, own_window, window_over}
-use Rattle.erm_bad_reports.specs.Clauses.{BreaksAlone, Clause, Meets, lines_of, told_of, IsLowAt, IsHighAt, Fit, Answered, Closes, Phases, Stamps, Snapshots, Causes, Refusals, Safe, Serial, Ascending, Runs, LowEnds, HighEnds}
+use Rattle.erm_bad_reports.specs.Clauses.{BreaksAlone, Clause, Meets, lines_of, told_of, IsLowAt, IsHighAt, Fit, Answered, Closes, Phases, Stamps, Snapshots, Causes, Refusals, Safe, Marks, Serial, Ascending, Runs, LowEnds, HighEnds}
 use Rattle.erm_bad_reports.specs.Cases.{predecessor_too_low, successor_too_high}
 use Rattle.erm_bad_reports.proofs.Reading.{told_read}
 use Rattle.erm_bad_reports.proofs.Tests.{safe_kept, no_looks, byte, less_from, one_commit_ordered, stamps_agree, first_snapshot, reach_from_test, untold_in_reach}
+use Rattle.erm_bad_reports.proofs.Unmarked.{marks_kept}
 
 abbrev one_key : Database
 one_key = insert empty (at 0 1) (1 ∷ [])
@@ -87,6 +88,7 @@ keeps_but_low Snapshots not = each_in (λ t. HasSnapshotReplies (history_of low_
 keeps_but_low Causes not = each_in (λ t. HasCauseOf t.ending low_told t) low_told (record { opens = omega arith; closes = omega arith; succ_cause = inl refl; pred_cause = inl refl }, (record { opens = omega arith; closes = omega arith; succ_cause = inl refl; pred_cause = inl refl }, tt))
 keeps_but_low Refusals not = record { each = each_place (λ i l a. HasCause (moment_at InTurn predecessor_too_low.opening predecessor_too_low.script predecessor_too_low.report.answers low_told i l) l.command a) predecessor_too_low.script predecessor_too_low.report.answers (record { own = λ t is. tt; saves = λ t is. tt; log = tt; unfilled = tt }, (record { own = λ t is. tt; saves = λ t is. tt; log = tt; unfilled = tt }, (record { own = λ t is. own_window _ t _; saves = λ t is. tt; log = tt; unfilled = tt }, (record { own = λ t is. tt; saves = λ t is. tt; log = tt; unfilled = tt }, (record { own = λ t is. tt; saves = λ t is. tt; log = tt; unfilled = tt }, (record { own = λ t is. own_window _ t _; saves = λ t is. tt; log = tt; unfilled = tt }, tt)))))); reach = reach_from_test (moment_at InTurn predecessor_too_low.opening predecessor_too_low.script predecessor_too_low.report.answers low_told) predecessor_too_low.script predecessor_too_low.report.answers refl; untold = untold_in_reach InTurn predecessor_too_low.opening predecessor_too_low.script predecessor_too_low.report.answers low_told refl }
 keeps_but_low Safe not = safe_kept predecessor_too_low refl
+keeps_but_low Marks not = marks_kept predecessor_too_low refl refl refl
 keeps_but_low Serial not = record { same = IsPermutation-refl (history_of low_told); ascends = all_pairs_of_two (λ a b. ComesBefore (rank_of a) (rank_of b)) _ _ (inl (omega arith)) }
 keeps_but_low Ascending not = λ i j d less within. absurd (omega arith)
 keeps_but_low Runs not = record { run = ((refl, tt), ((ap reply.Value (sym there), tt), refl)) }
@@ -167,6 +169,7 @@ keeps_but_high Causes not = each_in (λ t. HasCauseOf t.ending high_told t) high
 )
 keeps_but_high Refusals not = record { each = each_place (λ i l a. HasCause (moment_at InTurn successor_too_high.opening successor_too_high.script successor_too_high.report.answers high_told i l) l.command a) successor_too_high.script successor_too_high.report.answers (record { own = λ t is. tt; saves = λ t is. tt; log = tt; unfilled = tt }, (record { own = λ t is. tt; saves = λ t is. tt; log = tt; unfilled = tt }, (record { own = λ t is. own_window _ t _; saves = λ t is. tt; log = tt; unfilled = tt }, (record { own = λ t is. tt; saves = λ t is. tt; log = tt; unfilled = tt }, (record { own = λ t is. tt; saves = λ t is. tt; log = tt; unfilled = tt }, (record { own = λ t is. tt; saves = λ t is. tt; log = tt; unfilled = tt }, (record { own = λ t is. tt; saves = λ t is. tt; log = tt; unfilled = tt }, (record { own = λ t is. window_over (at_commit 7 8 1) t 33 33 13 high_first_over; saves = λ t is. tt; log = tt; unfilled = tt }, (record { own = λ t is. window_over (at_commit 8 9 2) t 42 42 13 high_both_over; saves = λ t is. tt; log = tt; unfilled = tt }, tt))))))))); reach = reach_from_test (moment_at InTurn successor_too_high.opening successor_too_high.script successor_too_high.report.answers high_told) successor_too_high.script successor_too_high.report.answers refl; untold = untold_in_reach InTurn successor_too_high.opening successor_too_high.script successor_too_high.report.answers high_told refl }
 keeps_but_high Safe not = safe_kept successor_too_high refl
+keeps_but_high Marks not = marks_kept successor_too_high refl refl refl
 keeps_but_high Serial not = record { same = IsPermutation-refl (history_of high_told); ascends = all_pairs_from_test (λ a b. ComesBefore (rank_of a) (rank_of b)) (λ a b. nat_lt a.succ b.succ) (λ a b pass. inl (less_from a.succ b.succ pass)) (history_of high_told) refl }
 keeps_but_high Ascending not = λ i j d less within. absurd (omega arith)
 keeps_but_high Runs not = record { run = ((refl, tt), ((refl, tt), ((ap reply.Value (sym again), tt), ends))) }

@@ -11,7 +11,7 @@ use Rattle.erm_report.specs.declared.line.Line.{Line}
 use Rattle.erm_report.specs.Printable.{FitsTypes}
 use Rattle.erm_script.specs.declared.script.ScriptLine.{ScriptLine}
 use Rattle.erm_good_report.specs.Causes.{HasCauseOf}
-use Rattle.erm_good_report.specs.GoodReport.{IsGoodReport, IsTightReport, Report, places_of, report_lines, serial_of}
+use Rattle.erm_good_report.specs.GoodReport.{IsGoodReport, IsTightReport, MarksOwe, Report, places_of, report_lines, serial_of}
 use Rattle.erm_good_report.specs.Opening.{Mode, Opening}
 use Rattle.erm_good_report.specs.Phases.{ClosesAgree, PhasesAgree}
 use Rattle.erm_good_report.specs.Refusals.{HasCause, HasCauses, IsInReach, moment_at}
@@ -38,7 +38,7 @@ abbrev pub placed_of : Case → List Committed
 placed_of k = serial_of (length k.names) (places_of k.script k.report.answers k.report.closed)
 
 -- what a report owes: numbers and values fit their types; each line is answered; the sessions closed; phases; stamps; snapshot replies;
--- the causes of commits and exclusions; those of refusals; what is owed of snapshots that only read; the serial order; the order of the map's
+-- the causes of commits and exclusions; those of refusals; what is owed of snapshots that only read, and of their marks; the serial order; the order of the map's
 -- pairs; replies and map of the serial run; and the two ends of tight windows
 pub data Clause : Type 0 where
   Fit : Clause
@@ -50,6 +50,7 @@ pub data Clause : Type 0 where
   Causes : Clause
   Refusals : Clause
   Safe : Clause
+  Marks : Clause
   Serial : Clause
   Ascending : Clause
   Runs : Clause
@@ -77,6 +78,7 @@ Meets Snapshots k = (t : Transaction) → t ∈ told_of k → HasSnapshotReplies
 Meets Causes k = (t : Transaction) → t ∈ told_of k → HasCauseOf t.ending (told_of k) t
 Meets Refusals k = HasCauses k.mode k.opening k.script k.report.answers (told_of k)
 Meets Safe k = SnapshotsAgree (moment_at k.mode k.opening k.script k.report.answers (told_of k)) k.opening k.script k.report.answers (told_of k)
+Meets Marks k = MarksOwe k.mode k.opening (length k.names) k.script k.report.answers k.report.closed
 Meets Serial k = IsSerialOrder rank_of (placed_of k) k.report.order
 Meets Ascending k = AscendByKey k.report.pairs
 Meets Runs k = RunsInOrder k.report.order k.opening.map (from_entries (entries_of k.report.pairs))

@@ -12,7 +12,7 @@ use Rattle.erm_report.specs.Printable.{FitsTypes}
 use Rattle.erm_script.specs.declared.script.Command.TheVariants as command
 use Rattle.erm_script.specs.declared.script.ScriptLine.{ScriptLine}
 use Rattle.erm_good_report.specs.Causes.{HasCauseOf}
-use Rattle.erm_good_report.specs.GoodReport.{IsClosedUnseen, IsCutReport, IsLineOfLog, OwesToAnswers, answer_lines, fault_line, places_of}
+use Rattle.erm_good_report.specs.GoodReport.{IsClosedUnseen, IsCutReport, IsLineOfLog, MarksOwe, OwesToAnswers, answer_lines, fault_line, places_of}
 use Rattle.erm_good_report.specs.Opening.{InTurn, Opening}
 use Rattle.erm_good_report.specs.Phases.{Closed, PhasesAgree}
 use Rattle.erm_good_report.specs.Refusals.{HasCause, moment_at}
@@ -40,7 +40,8 @@ abbrev pub told_of_cut : CutCase → List Transaction
 told_of_cut k = transactions_of (length k.names) (places_of k.script k.answers k.closed)
 
 -- what such a report owes: the fault is that of the first line without an answer; that is one of the log; numbers and values fit their types; a session is closed
--- once; sessions that are closed unseen are sealed and have no line left; what a good report owes to its answers
+-- once; sessions that are closed unseen are sealed and have no line left; what a good report owes to its answers; and
+-- of marks
 pub data CutClause : Type 0 where
   FaultAt : CutClause
   AtLog : CutClause
@@ -48,6 +49,7 @@ pub data CutClause : Type 0 where
   Once : CutClause
   Unseen : CutClause
   Owing : CutClause
+  Marking : CutClause
 
 abbrev pub MeetsCut : CutClause → CutCase → Type 0
 MeetsCut FaultAt k = k.fault ≡ slice_get k.script (length k.answers)
@@ -56,6 +58,7 @@ MeetsCut Fitting k = All FitsTypes (cut_lines_of k)
 MeetsCut Once k = AllPairs (λ c d. c.session ≢ d.session) k.closed
 MeetsCut Unseen k = (c : Closed) → c ∈ k.closed → IsClosedUnseen k.script k.answers c
 MeetsCut Owing k = OwesToAnswers InTurn k.opening k.script k.answers (told_of_cut k)
+MeetsCut Marking k = MarksOwe InTurn k.opening (length k.names) k.script k.answers k.closed
 
 -- The report breaks this clause alone.
 pub record BreaksCutAlone (clause : CutClause) (k : CutCase) : Type 0 where
