@@ -17,7 +17,7 @@ use Rattle.erm_good_report.specs.GoodReport.{IsClosedUnseen, IsLineOfLog, answer
 use Rattle.erm_good_report.specs.Marks.{ClosesSealed}
 use Rattle.erm_good_report.specs.Opening.{InTurn}
 use Rattle.erm_good_report.specs.Phases.{FitsPhase, PhasesAgree, phase_of}
-use Rattle.erm_good_report.specs.Refusals.{HasCause, HasCauses, IsLeastUndecided, Moment, moment_at}
+use Rattle.erm_good_report.specs.Refusals.{HasCause, HasCauses, IsLeastUndecided, moment_at}
 use Rattle.erm_good_report.specs.Transactions.{Transaction, history_of, progress_of, said_of, stamp_of}
 use Rattle.erm_good_report.proofs.Parts.{each_in, each_place}
 use Rattle.erm_bad_reports.specs.CutReports.{BreaksCutAlone, AtLog, CutClause, FaultAt, Fitting, IsNoCutReport, MeetsCut, Once, OwesAllBut, Owing, Marking, Unseen, cut_lines_of, told_of_cut, closed_too_early, closed_twice, closed_with, cut_number_too_great, cut_without_begin, fault_at_begin, fault_outside, unfilled_below, whole_of}
@@ -215,6 +215,12 @@ nobody_told : (stamp : ℕ) (u : Transaction) → u ∈ told_of_cut unfilled_bel
 nobody_told stamp = in_one (λ u. stamp_of u ≡ Some stamp → ⊥) _ (λ is. cc is)
 
 -- a flush, and a checkpoint, come to the commit that waits
+abbrev flush : ScriptLine
+flush = record { line = 3; session = 0; command = command.Flush }
+
+abbrev checkpoint : ScriptLine
+checkpoint = record { line = 4; session = 0; command = command.Checkpoint }
+
 unfilled_marks : MeetsCut Marking unfilled_below
 unfilled_marks = marks_by_line (whole_of unfilled_below) refl (λ c (k, at). cc)
     (each_place (λ i l a. IsUnmarked (moment (whole_of unfilled_below) i l) [] (snapshot_at (whole_of unfilled_below) i l) l.command a) unfilled_below.script unfilled_below.answers (
@@ -228,12 +234,6 @@ unfilled_marks = marks_by_line (whole_of unfilled_below) refl (λ c (k, at). cc)
       ),
     ))
   where
-    abbrev flush : ScriptLine
-    flush = record { line = 3; session = 0; command = command.Flush }
-
-    abbrev checkpoint : ScriptLine
-    checkpoint = record { line = 4; session = 0; command = command.Checkpoint }
-
     still : (place : ℕ) → IsLeastUndecided (moment (whole_of unfilled_below) 2 flush) place
     still place = record {
       session = 1;

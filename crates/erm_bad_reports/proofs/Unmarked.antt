@@ -121,7 +121,7 @@ none_marked sessions said pass =
 
 pub marks_calm : (k : Case) → tell_none (places_of k.script k.report.answers k.report.closed) ≡ true → k.report.closed ≡ [] → tell_none (said_of k.script k.report.answers) ≡ true
     → ((i place : ℕ) (l : ScriptLine) (a : Answer) → slice_get k.script i ≡ Some l → slice_get k.report.answers i ≡ Some a → stop_told a ≡ Some place → NoneIsSealed (moment k i l)) → Meets Marks k
-marks_calm k whole closed calm open = marks_by_line k none (closes_none k closed) (λ i l a at told.
+marks_calm k whole closed calm unsealed = marks_by_line k none (closes_none k closed) (λ i l a at told.
     let here : snapshot_at k i l ≡ None = (no_snapshots (take i (said_of k.script k.report.answers)) (take_passes (said_of k.script k.report.answers) i calm) l.session).now in
     let own : tells_none (Some l.command) a ≡ true =
     each_from_test (λ s. tells_none s.asked s.answer ≡ true) (λ s. tells_none s.asked s.answer) (λ s is. is) (said_of k.script k.report.answers) calm (said_by l a) (i, said_at k.script k.report.answers i l a at told)
@@ -131,7 +131,7 @@ marks_calm k whole closed calm open = marks_by_line k none (closes_none k closed
       causes = λ s is. absurd (let no : None ≡ Some s = sym here ∙ is in cc);
       stops = λ place is. record {
         beyond = λ x waits. absurd (none_in_nil x (subst (λ (ks : List Mark). x ∈ ks) none waits.told));
-        at = inr (inr (open i place l a at told is));
+        at = inr (inr (unsealed i place l a at told is));
       };
     })
   where
