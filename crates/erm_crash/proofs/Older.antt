@@ -1,5 +1,5 @@
 -- Which blocks recovery meets in images at each moment, of those that were there before.
-use Rattle.std.proofs.Common.{◌≡◌, ℕ, ◌+◌, ◌<◌, ◌≤◌, ◌⊎◌, ◌↔◌, ◌++◌, List, [], ◌∷◌, Some, length, refl, sym, ap, ◌∙◌, subst, arith, append-nil, inl, inr}
+use Rattle.std.proofs.Common.{◌≡◌, ℕ, ◌+◌, ◌<◌, ◌≤◌, ◌⊎◌, ◌↔◌, ◌++◌, List, [], ◌∷◌, Option, Some, length, refl, sym, ap, ◌∙◌, subst, arith, append-nil, inl, inr}
 use Rattle.erm_model.specs.Member.{◌∈◌}
 use Rattle.erm_model.specs.Rows.{Rows}
 use Rattle.erm_model.specs.RowTransaction.{SameRows}
@@ -70,7 +70,8 @@ module _ (sound : Rows → Type 0) where
         same_shown sound (old Slot0) other.slot0 pair.slot0 (subst (λ (bytes : List ℕ). Shows sound bytes other.slot0) spares.slot0 there.slot0) recovers.slot0 in
         let second : other.slot1 ≡ pair.slot1 =
         same_shown sound (old Slot1) other.slot1 pair.slot1 (subst (λ (bytes : List ℕ). Shows sound bytes other.slot1) spares.slot1 there.slot1) recovers.slot1 in
-        cc
+        let make : Option Checkpoint → Option Checkpoint → Pair = λ a b. record { slot0 = a; slot1 = b } in
+        ap (λ (a : Option Checkpoint). make a other.slot1) first ∙ ap (λ (b : Option Checkpoint). make pair.slot0 b) second
 
     goes_on : (other : Pair) (blocks : List Block) → Recovers sound image other blocks → Lengthens pair met state other blocks image
     goes_on other blocks there =

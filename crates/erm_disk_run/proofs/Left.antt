@@ -12,6 +12,7 @@ use Rattle.erm_outside.specs.Disk.{Step}
 use Rattle.erm_ckpt.specs.declared.slot.Slots.{Slots}
 use Rattle.erm_ckpt.specs.Recovered.{State, slots_of}
 use Rattle.erm_checkpoint.specs.Taken.{HoldsLog, state_at}
+use Rattle.erm_crash.specs.Kept.{KeepsBlocks}
 use Rattle.erm_node.specs.Sound.{sound_law}
 use Rattle.erm_node.specs.TreeMap.{map_of_rows}
 use Rattle.erm_report.specs.declared.answer.Answer.{Answer}
@@ -20,14 +21,15 @@ use Rattle.erm_world.specs.Log.{Log, gathered_to}
 use Rattle.erm_world.specs.World.{View}
 use Rattle.erm_good_report.specs.GoodReport.{places_of}
 use Rattle.erm_good_report.specs.Phases.{Closed}
-use Rattle.erm_good_report.specs.Transactions.{history_of, transactions_of}
-use Rattle.erm_told_crash.specs.Logged.{CoursesLogCommits, HasCommits}
+use Rattle.erm_good_report.specs.Transactions.{Mark, history_of, marks_of, transactions_of}
+use Rattle.erm_told_crash.specs.Logged.{CoursesLogCommits, CoursesLogMarks, CoursesStayBehind, HasCommits, HasMarks, StayBehind}
 use Rattle.erm_log_run.specs.Saving.{AreRemoved, removed_to}
 use Rattle.erm_log_run.proofs.Held.{all_flushed}
-use Rattle.erm_disk_run.specs.Crashes.{Leaves}
+use Rattle.erm_disk_run.specs.Crashes.{Leaves, LeavesOwn, StaysOwn}
 use Rattle.erm_disk_run.proofs.Told.{CourseLaws, RanOn, begins, commits, from_opening, stamps_within}
 use Rattle.erm_disk_run.proofs.Opened.{MayOpenAll}
 use Rattle.erm_disk_run.proofs.Meeting.{MeetsFound, MetLaws, audit_from_place, older_found, opening_met, opens_alone}
+use Rattle.erm_disk_run.proofs.Own.{OpensFound, StepsMeet, left_own, stays_own}
 use Rattle.erm_disk_run.proofs.SlotsLeft.{RemovedAs, SlotsLeft, left_saved, left_spared}
 use Rattle.erm_disk_run.proofs.Outlived.{run_front, state_front}
 
@@ -55,6 +57,8 @@ run_state one cs order m opening end place s less same is serial ends =
 -- the laws of what recovery meets then
 pub record AuditLaws : Type 0 where
   pub logged : CoursesLogCommits
+  pub marked : CoursesLogMarks
+  pub behind : CoursesStayBehind
   pub met : MetLaws
 
 module _ (laws : CourseLaws) (may : MayOpenAll) (one : OrdersAreOne) (audits : AuditLaws) (state : State) (sessions : ℕ) (v t : View) (log : Log) (script : List ScriptLine) (answers : List Answer) (closed : List Closed)
@@ -66,6 +70,26 @@ module _ (laws : CourseLaws) (may : MayOpenAll) (one : OrdersAreOne) (audits : A
   pub has_commits : HasCommits log told
   has_commits = subst (λ (n : ℕ). HasCommits log (history_of (transactions_of n (places_of script answers closed)))) ran.opened.sessions
       (audits.logged v t script answers ran.course closed ran.are log ran.log_of ran.is)
+
+  -- and the marks told; and the commits stay behind its start
+  abbrev pub marks : List Mark
+  marks = marks_of sessions (places_of script answers closed)
+
+  pub has_marks : HasMarks log marks
+  has_marks = subst (λ (n : ℕ). HasMarks log (marks_of n (places_of script answers closed))) ran.opened.sessions
+      (audits.marked v t script answers ran.course closed ran.are log ran.log_of ran.is)
+
+  pub stay_behind : StayBehind log told
+  stay_behind = subst (λ (n : ℕ). StayBehind log (history_of (transactions_of n (places_of script answers closed)))) ran.opened.sessions
+      (audits.behind v t script answers ran.course closed ran.are log ran.log_of)
+
+  -- so are the blocks that recovery meets in each image, and at the end, the run's own
+  pub owns : (begun : Log) (slots : Slots) (place : ℕ) (old mid new : List Step) → begun.opened.at ≡ log.opened.at → OpensFound state begun slots old mid
+      → KeepsBlocks sound_law.meets (state_at log []) log.gathered place mid new × StepsMeet begun slots mid new → StaysOwn told marks state old new
+  owns = stays_own state log ran.is told has_commits marks has_marks stay_behind (begins laws state sessions v t log script answers closed ran)
+
+  pub owns_left : (slots : Slots) (old new : List Step) → MeetsFound state log slots old new → LeavesOwn told marks state old new
+  owns_left = left_own state log ran.is told has_commits marks has_marks stay_behind (begins laws state sessions v t log script answers closed ran)
 
   pub leaves : (slots : Slots) (old steps : List Step) → MeetsFound state log slots old steps → log.flushed ≡ log.tail → (order : List Committed)
       (opening end : Database) → opening ≡ map_of_rows state.rows → IsSerialOrder rank_of told order → end ≡ state_after order opening → SlotsLeft answers slots old steps

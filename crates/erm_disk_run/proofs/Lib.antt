@@ -6,6 +6,7 @@ pub mod Meeting
 pub mod Opened
 pub mod Order
 pub mod Outlived
+pub mod Own
 pub mod SavedAt
 pub mod SlotsLeft
 pub mod Spared

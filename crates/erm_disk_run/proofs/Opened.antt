@@ -8,9 +8,11 @@ use Rattle.erm_model.specs.Database.{Database}
 use Rattle.erm_model.specs.Rows.{rows_of}
 use Rattle.erm_model.specs.SerialOrder.{IsSerialOrder}
 use Rattle.erm_model.specs.declared.limits.TheConstants.{LAST_RUN, LEAST_BLOCK, LOG_END, STOP}
+use Rattle.erm_record.proofs.StoredRows.{stored_length-le, stored_whole}
 use Rattle.erm_block.specs.declared.block.Block.{Block}
 use Rattle.erm_block.specs.declared.block.TheConstants.{RUN_END}
 use Rattle.erm_block.specs.LogList.{IsChain}
+use Rattle.erm_block.proofs.OneLogList.{same_log_list}
 use Rattle.erm_block.specs.Spelling.{spelling}
 use Rattle.erm_outside.specs.declared.disk.File.TheVariants.{Segment}
 use Rattle.erm_outside.specs.Disk.{Image, IsSettled, OnlyWaits, Step, Tells, contents}
@@ -27,8 +29,10 @@ use Rattle.erm_ckpt.specs.Checkpoint.{Checkpoint}
 use Rattle.erm_ckpt.specs.Slots.{removal_end}
 use Rattle.erm_ckpt.specs.Recovered.{Pair, Recovers, RecoversAt, State, base, best, end_at, slots_of, state_behind, state_of}
 use Rattle.erm_ckpt.specs.States.{HoldsAll, RecoversTo, SameState}
+use Rattle.erm_ckpt.proofs.OneRecovery.{same_recovery}
 use Rattle.erm_checkpoint.proofs.Segments.{words_spare}
 use Rattle.erm_crash.specs.Kept.{IsJustOpened, KeepsOpening}
+use Rattle.erm_crash.specs.Older.{KeepsFound, MeetsFound}
 use Rattle.erm_crash.specs.Stops.{MayStop}
 use Rattle.erm_crash.proofs.Stops.{settled_stops, stop_wider}
 use Rattle.erm_crash.proofs.Moments.{joined, settled_image}
@@ -150,6 +154,9 @@ opening_commits opens commits state pair old new before behind keeps = (
 pub record OpeningLaws : Type 0 where
   pub keep : (state : State) (pair : Pair) (old new : List Step) → IsSettled old → RecoversTo sound_law.meets state pair (contents old) → sound_law.meets state.rows
       → state.at < STOP → state.run < LAST_RUN → Opens sound_law.meets state pair old new → KeepsOpening sound_law.meets state pair old new
+  pub first : (state : State) (pair : Pair) (found : List Block) (old new : List Step) → IsSettled old → RecoversTo sound_law.meets state pair (contents old)
+      → Recovers sound_law.meets (contents old) pair found → sound_law.meets state.rows → state.at < STOP → state.run < LAST_RUN → Opens sound_law.meets state pair old new
+      → KeepsFound sound_law.meets state pair found old new
   pub opens : MayOpenAll
   pub meet : (state : State) (pair : Pair) (blocks : List Block) (log : Log) (old new : List Step) → IsSettled old → Recovers sound_law.meets (contents old) pair blocks
       → SameState (state_behind (base pair) blocks) state → Opens sound_law.meets state pair old new → IsJustOpened state log → HoldsAll sound_law.meets (opened state) pair new
@@ -188,6 +195,28 @@ module _ (laws : OpeningLaws) (r : Recovered) (found_sound : IsSound (rows_of r.
   opening_kept old mid new pair kept is waits settled opens =
       let since = keeps_at mid new pair settled (there_at old mid pair kept is waits) opens in
       (record { mid = mid; waits = waits; settled = settled; since = since }, λ at_first. joined _ old mid new (waits_keep old mid pair kept is waits at_first) since)
+
+  -- and meets the blocks found, or these and the one that opens the log
+  waits_found : (old mid : List Step) (pair : Pair) (is : IsRecovered sound_law.meets old r pair) → OnlyWaits old mid → IsSettled old
+      → KeepsFound sound_law.meets (state_recovered r) pair is.blocks old mid
+  waits_found old mid pair is waits settled = (
+    (waits.0, waits.1),
+    λ now m image has tears.
+        let so_far = waits_before old mid now waits m.before m.since m.after m.later in
+        let stays = disk_stays old now so_far settled in
+        settled_image (MeetsFound sound_law.meets (state_recovered r) pair is.blocks) now image stays has
+        (λ other blocks there.
+        let before : Recovers sound_law.meets (contents old) other blocks = subst (λ (x : Image). Recovers sound_law.meets x other blocks) (reads_stay old now so_far) there in
+        let same = same_recovery sound_law.meets (same_log_list stored_length-le stored_whole sound_law.meets) (contents old) other pair blocks is.blocks before is.recovers in
+        (same.0, inl same.1)),
+  )
+
+  first_kept : (old mid new : List Step) (pair : Pair) → IsKept old → (is : IsRecovered sound_law.meets old r pair) → OnlyWaits old mid → IsSettled mid
+      → Opens sound_law.meets (state_recovered r) pair mid new → SinceSettled (KeepsFound sound_law.meets (state_recovered r) pair is.blocks) old new
+  first_kept old mid new pair kept is waits settled opens =
+      let recovers : Recovers sound_law.meets (contents mid) pair is.blocks = subst (λ (image : Image). Recovers sound_law.meets image pair is.blocks) (sym (reads_stay old mid waits)) is.recovers in
+      let since = laws.first (state_recovered r) pair is.blocks mid new settled (there_at old mid pair kept is waits) recovers found_sound room less opens in
+      (record { mid = mid; waits = waits; settled = settled; since = since }, λ at_first. joined _ old mid new (waits_found old mid pair is waits at_first) since)
 
   opening_may_keep : (old new : List Step) (pair : Pair) → IsKept old → IsRecovered sound_law.meets old r pair → MaySettle (Opens sound_law.meets (state_recovered r) pair) old new
       → OnceSettled (KeepsOpening sound_law.meets (state_recovered r) pair) old new
@@ -245,6 +274,7 @@ module _ (laws : OpeningLaws) (r : Recovered) (found_sound : IsSound (rows_of r.
           pair = pair;
           found = record { pair = pair; blocks = is.blocks; recovers = is.recovers; names = is.slots };
           keeps = opening_kept old s.mid new pair kept is s.waits s.settled s.since.opens;
+          first = first_kept old s.mid new pair kept is s.waits s.settled s.since.opens;
           holds = meets.holds;
           tail = meets;
           at = is.state.at;

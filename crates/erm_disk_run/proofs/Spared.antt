@@ -16,18 +16,18 @@ use Rattle.erm_script.specs.declared.script.Command.TheVariants as command
 use Rattle.erm_script.specs.declared.script.ScriptLine.{ScriptLine}
 use Rattle.erm_world.specs.World.{View}
 use Rattle.erm_invariant.specs.Commits.{EachFrontRuns}
-use Rattle.erm_good_report.specs.GoodReport.{OwesToAnswers, Report, places_of}
+use Rattle.erm_good_report.specs.GoodReport.{MarksOwe, OwesToAnswers, Report, places_of}
 use Rattle.erm_good_report.specs.Opening.{InTurn}
 use Rattle.erm_good_report.specs.Phases.{Closed, Closes, phase_of}
-use Rattle.erm_good_report.specs.Transactions.{Transaction, history_of, said_of, transactions_of}
+use Rattle.erm_good_report.specs.Transactions.{Mark, Transaction, history_of, said_of, transactions_of}
 use Rattle.erm_told_crash.specs.Spare.{NamesNoSession, SpareNamesTellNothing}
-use Rattle.erm_told_crash.proofs.Spare.{idle, no_transactions}
+use Rattle.erm_told_crash.proofs.Spare.{idle, marks_without, no_marks, no_transactions}
 use Rattle.erm_log_run.specs.Lines.{AreLinesOf, Names}
 use Rattle.erm_log_run.specs.Saving.{removing_to}
 use Rattle.erm_recover.specs.Waiting.{SinceSettled}
-use Rattle.erm_disk_run.specs.Crashes.{KeepsCommits, KeepsOlder, KeepsTold, Leaves, Outlives}
+use Rattle.erm_disk_run.specs.Crashes.{KeepsCommits, KeepsOlder, KeepsTold, Leaves, LeavesOwn, Outlives, StaysOwn}
 use Rattle.erm_disk_run.specs.Limits.{Limits}
-use Rattle.erm_disk_run.specs.Runs.{AreUnseen, CutFew, EndsRun, HaveManyCells, HaveManyKeys, IsScriptFor, LeavesUntold, MayBeRun, NamesOneOf, WasCutOn, WasRunOn, WasStarvedOn, commits_told}
+use Rattle.erm_disk_run.specs.Runs.{AreUnseen, CutFew, EndsRun, HaveManyCells, HaveManyKeys, IsScriptFor, LeavesUntold, MayBeRun, NamesOneOf, WasCutOn, WasRunOn, WasStarvedOn, commits_told, marks_told}
 use Rattle.erm_disk_run.proofs.Cut.{keyed_without}
 use Rattle.erm_disk_run.specs.declared.stops.RunStop.{RunStop}
 use Rattle.erm_disk_run.specs.declared.stops.RunStop.TheVariants as run
@@ -63,11 +63,22 @@ spare_script name script is = record {
 }
 
 module _ (spare : SpareNamesTellNothing) (limits : Limits) (before after : Option (List Step)) (state : State) (name : List ℕ) (script : List ScriptLine) (lines : List Line) (none : NamesNoSession script) where
+  -- no session is closed that stayed idle
+  not_closed : (answers : List Answer) (closed : List Closed) → ((c : Closed) → c ∈ closed → Closes (phase_of c.session (said_of script answers)) c.answer) → (c : Closed) → c ∈ closed → c.session ≢ 1
+  not_closed answers closed fits c m same =
+      closes_none c.answer (subst (λ (p : Phase). Closes p c.answer) (idle script answers none)
+      (subst (λ (seat : ℕ). Closes (phase_of seat (said_of script answers)) c.answer) same (fits c m)))
+    where
+      closes_none : (a : Answer) → Closes Idle a → ⊥
+      closes_none a closes = closes
+
   spared_run : WasRunOn limits before after state (name ∷ []) script lines → WasRunOn limits before after state [] script lines
   spared_run was =
       let without = spare.tight InTurn was.opening name script lines none was.tight in
       let same : was.tight.good.report ≡ without.0.good.report = sym without.1 in
       let empty : commits_told (name ∷ []) script was.tight.good.report.answers was.tight.good.report.closed ≡ [] = ap history_of without.3 in
+      let unmarked : marks_told (name ∷ []) script was.tight.good.report.answers was.tight.good.report.closed ≡ [] =
+      no_marks script was.tight.good.report.answers none was.tight.good.report.closed (not_closed was.tight.good.report.answers was.tight.good.report.closed was.tight.good.closes.fits) in
       record {
         low = was.low;
         run_low = was.run_low;
@@ -81,16 +92,11 @@ module _ (spare : SpareNamesTellNothing) (limits : Limits) (before after : Optio
         outlives = subst (λ (cs : List Committed). Tells (Outlives cs state lines) before after) empty was.outlives;
         leaves = subst (λ (r : Report). Tells (λ old new. Leaves [] state r.answers (from_entries (entries_of r.pairs)) old new) before after) same
             (subst (λ (cs : List Committed). Tells (λ old new. Leaves cs state was.tight.good.report.answers (from_entries (entries_of was.tight.good.report.pairs)) old new) before after) empty was.leaves);
+        own = subst (λ (ks : List Mark). Tells (StaysOwn [] ks state) before after) unmarked
+            (subst (λ (cs : List Committed). Tells (StaysOwn cs (marks_told (name ∷ []) script was.tight.good.report.answers was.tight.good.report.closed) state) before after) empty was.own);
+        left = subst (λ (ks : List Mark). Tells (LeavesOwn [] ks state) before after) unmarked
+            (subst (λ (cs : List Committed). Tells (LeavesOwn cs (marks_told (name ∷ []) script was.tight.good.report.answers was.tight.good.report.closed) state) before after) empty was.left);
       }
-
-  -- no session is closed that stayed idle
-  not_closed : (answers : List Answer) (closed : List Closed) → ((c : Closed) → c ∈ closed → Closes (phase_of c.session (said_of script answers)) c.answer) → (c : Closed) → c ∈ closed → c.session ≢ 1
-  not_closed answers closed fits c m same =
-      closes_none c.answer (subst (λ (p : Phase). Closes p c.answer) (idle script answers none)
-      (subst (λ (seat : ℕ). Closes (phase_of seat (said_of script answers)) c.answer) same (fits c m)))
-    where
-      closes_none : (a : Answer) → Closes Idle a → ⊥
-      closes_none a closes = closes
 
   spared_cut : WasCutOn limits before after state (name ∷ []) script lines → WasCutOn limits before after state [] script lines
   spared_cut was =
@@ -100,6 +106,8 @@ module _ (spare : SpareNamesTellNothing) (limits : Limits) (before after : Optio
       no_transactions script was.cut.answers none was.closed (not_closed was.cut.answers was.closed was.unseen.fits)
       in
       let empty : commits_told (name ∷ []) script was.cut.answers was.closed ≡ [] = ap history_of untold in
+      let apart = not_closed was.cut.answers was.closed was.unseen.fits in
+      let unmarked : marks_told (name ∷ []) script was.cut.answers was.closed ≡ [] = no_marks script was.cut.answers none was.closed apart in
       record {
         low = was.low;
         run_low = was.run_low;
@@ -115,6 +123,10 @@ module _ (spare : SpareNamesTellNothing) (limits : Limits) (before after : Optio
             (subst (λ (ts : List Transaction). OwesToAnswers InTurn was.opening script was.cut.answers ts) untold was.owes);
         fronts = subst (λ (cs : List Committed). EachFrontRuns cs was.opening.map) empty was.fronts;
         outlives = subst (λ (cs : List Committed). Tells (Outlives cs state lines) before after) empty was.outlives;
+        marks = subst (λ (given : List Answer). MarksOwe InTurn was.opening 0 script given was.closed) same
+            (marks_without script was.cut.answers none InTurn was.opening was.closed apart was.marks);
+        own = subst (λ (ks : List Mark). Tells (StaysOwn [] ks state) before after) unmarked
+            (subst (λ (cs : List Committed). Tells (StaysOwn cs (marks_told (name ∷ []) script was.cut.answers was.closed) state) before after) empty was.own);
         older = subst (λ (given : List Answer). Tells (KeepsOlder state (λ slots. removing_to slots script given)) before after) same was.older;
       }
 
@@ -124,6 +136,8 @@ module _ (spare : SpareNamesTellNothing) (limits : Limits) (before after : Optio
       no_transactions script was.answers none was.closed (not_closed was.answers was.closed was.unseen.fits)
       in
       let empty : commits_told (name ∷ []) script was.answers was.closed ≡ [] = ap history_of untold in
+      let apart = not_closed was.answers was.closed was.unseen.fits in
+      let unmarked : marks_told (name ∷ []) script was.answers was.closed ≡ [] = no_marks script was.answers none was.closed apart in
       record {
         low = was.low;
         run_low = was.run_low;
@@ -140,6 +154,9 @@ module _ (spare : SpareNamesTellNothing) (limits : Limits) (before after : Optio
         fronts = subst (λ (cs : List Committed). EachFrontRuns cs was.opening.map) empty was.fronts;
         moments = subst (λ (cs : List Committed). Tells (SinceSettled (KeepsCommits cs state state.at)) before after) empty was.moments;
         logged = subst (λ (cs : List Committed). Tells (SinceSettled (KeepsTold cs state)) before after) empty was.logged;
+        marks = marks_without script was.answers none InTurn was.opening was.closed apart was.marks;
+        own = subst (λ (ks : List Mark). Tells (StaysOwn [] ks state) before after) unmarked
+            (subst (λ (cs : List Committed). Tells (StaysOwn cs (marks_told (name ∷ []) script was.answers was.closed) state) before after) empty was.own);
         older = was.older;
       }
 

@@ -47,6 +47,7 @@ use Rattle.erm_disk_run.specs.declared.stops.RunStop.TheVariants as run
 use Rattle.erm_disk_run.proofs.Cut.{whole_course}
 use Rattle.erm_disk_run.proofs.Meeting.{MeetsFound}
 use Rattle.erm_disk_run.proofs.Outlived.{OpensAt}
+use Rattle.erm_disk_run.proofs.Own.{MeetsOn, OpensFound}
 use Rattle.erm_disk_run.proofs.SlotsLeft.{OpenedOlder, may_from, opens_older}
 use Rattle.erm_disk_run.proofs.Told.{HasLimits, MapsAreTold, OpensOn, opens_on, same_map, starts_from}
 use Rattle.erm_disk_run.proofs.ToldRun.{DiskLaws, RunsOn, meets_still, was_cut_on, was_run_on, was_starved_on}
@@ -68,6 +69,7 @@ pub record StartsOn (limits : Limits) (state : State) (many : ℕ) (v : View) (b
   pub first : IsLogOf v begun
   pub opens : Tells (OpensAt state) before mid
   pub meets : Tells (MeetsFound state begun slots) before mid
+  pub keeps : Tells (OpensFound state begun slots) before mid
   pub older : Tells (OpenedOlder state.at slots) before mid
   pub starts : StartsFrom state opening
   pub of : IsOpeningOf v opening
@@ -91,6 +93,8 @@ opened_on maps limits are before mid state many v log o few first was =
       opens = tells_weaker (OpensLog state log o.slots) (OpensAt state) before mid (λ a b opens. (opens.pair, opens.keeps)) was.disk;
       meets = tells_weaker (OpensLog state log o.slots) (MeetsFound state log o.slots) before mid
           (λ a b opens. record { pair = opens.found.pair; blocks = opens.found.blocks; recovers = opens.found.recovers; at = opens.at; tail = opens.tail }) was.disk;
+      keeps = tells_weaker (OpensLog state log o.slots) (OpensFound state log o.slots) before mid
+          (λ a b opens. record { pair = opens.found.pair; blocks = opens.found.blocks; recovers = opens.found.recovers; at = opens.at; tail = opens.tail; keeps = opens.first }) was.disk;
       older = tells_weaker (OpensLog state log o.slots) (OpenedOlder state.at o.slots) before mid (opens_older state log o.slots) was.disk;
       starts = starts_from maps state many v opened o.start (was.map ∙ sym (same_map maps state many v opened)) was.stamp was.run;
       of = record {
@@ -118,8 +122,8 @@ module _ (laws : DiskLaws) (limits : Limits) (state : State) (names : List (List
   IsCut lines = (was : WasCut v t opening names script lines) × (All FitsTypes lines → IsCutReportOf opening names script was.answers lines)
       × Tells (MayBeRemoved (removing_to first script was.answers) begun.flushed) mid after
 
-  runs_on : IsLogOf t log × IsLog IsSound log → (lines : List Line) → Moments → Acknowledged lines → RunsOn limits state (length names) v t begun log lines before mid after
-  runs_on log_is lines moments acknowledged = record {
+  runs_on : IsLogOf t log × IsLog IsSound log → (lines : List Line) → Moments → MeetsOn begun first mid after → Acknowledged lines → RunsOn limits state (length names) v t begun log lines before mid after
+  runs_on log_is lines moments meets acknowledged = record {
     opened = on.opened;
     few = on.few;
     limited = on.limited;
@@ -130,6 +134,9 @@ module _ (laws : DiskLaws) (limits : Limits) (state : State) (names : List (List
     log_of = log_is.0;
     is = log_is.1;
     opens = on.opens;
+    slots = first;
+    found = on.keeps;
+    meets = meets;
     moments = moments;
     acknowledged = acknowledged;
   }
@@ -148,48 +155,51 @@ module _ (laws : DiskLaws) (limits : Limits) (state : State) (names : List (List
         log_of = was.log_of;
         is = was.is;
         opens = on.opens;
+        slots = first;
+        found = on.keeps;
+        meets = was.met;
         moments = was.moments;
         acknowledged = tells_weaker (KeepsBlocks IsSound (state_at begun []) was.log.gathered begun.flushed) (AllLast IsSound (state_at begun []) was.log.gathered []) mid after
             (λ old new keeps place is. absurd (none_in_nil (line.Answer is.number is.answer) is.told)) was.moments;
       }) opening on.starts on.of was.answers was.course was.late first on.older
       (may_from (removed_to first was.answers) (removing_to first script was.answers) begun.flushed was.log.flushed mid after (removed_below first script was.answers) was.older)
 
-  pub ends : (r : Result (Vec Line Global) LogRunStop) (S : Type 0) → (S → IsLogOf t log × IsLog IsSound log) → UnlessMemory r S → UnlessMemory r Moments → UnlessMemory r (Acknowledged (lines_in r))
+  pub ends : (r : Result (Vec Line Global) LogRunStop) (S : Type 0) → (S → IsLogOf t log × IsLog IsSound log) → UnlessMemory r S → UnlessMemory r Moments → UnlessMemory r (MeetsOn begun first mid after) → UnlessMemory r (Acknowledged (lines_in r))
       → OnOk r (t.flushed ≡ t.tail)
       → OnOk r ((earlier : List Block) → IfSome mid (MeetsTail IsSound earlier begun first) → IfSome after (MeetsTail IsSound earlier log slots)) → IfOk r (λ lines. IsWhole lines.items) → OnFault r IsCut
       → OnMemory r (WasStarved IsSound v script begun first mid after) → EndsRun limits (ended_as r) before after names script
-  ends (Ok lines) S of stands moments acknowledged flushed still ran cut starved = λ fits. (
+  ends (Ok lines) S of stands moments meets acknowledged flushed still ran cut starved = λ fits. (
     state,
     on.found,
-    was_run_on laws limits state names v t begun log script lines.items before mid after (runs_on (of stands) lines.items moments acknowledged) slots flushed
+    was_run_on laws limits state names v t begun log script lines.items before mid after (runs_on (of stands) lines.items moments meets acknowledged) slots flushed
         (meets_still state begun log first slots (KeepsBlocks IsSound (state_at begun []) log.gathered begun.flushed) before mid after on.meets moments still) opening on.starts on.of ran.0 (ran.1 fits) first on.older ran.2 ran.3,
   )
-  ends (Err (log_stop.DiskFault lines)) S of stands moments acknowledged flushed still ran cut starved = λ fits. (
+  ends (Err (log_stop.DiskFault lines)) S of stands moments meets acknowledged flushed still ran cut starved = λ fits. (
     state,
     on.found,
-    was_cut_on laws limits state names v t begun log script lines.items before mid after (runs_on (of stands) lines.items moments acknowledged) opening on.starts on.of cut.0 (cut.1 fits) first on.older cut.2,
+    was_cut_on laws limits state names v t begun log script lines.items before mid after (runs_on (of stands) lines.items moments meets acknowledged) opening on.starts on.of cut.0 (cut.1 fits) first on.older cut.2,
   )
-  ends (Err log_stop.Memory) S of stands moments acknowledged flushed still ran cut starved = (state, on.found, starved_on starved)
+  ends (Err log_stop.Memory) S of stands moments meets acknowledged flushed still ran cut starved = (state, on.found, starved_on starved)
 
   -- of a run of which nothing is told the lines that were run are known, as of one that starved
-  pub untold : (r : Result (Vec Line Global) LogRunStop) (S : Type 0) → (S → IsLogOf t log × IsLog IsSound log) → UnlessMemory r S → UnlessMemory r Moments → UnlessMemory r (Acknowledged (lines_in r))
+  pub untold : (r : Result (Vec Line Global) LogRunStop) (S : Type 0) → (S → IsLogOf t log × IsLog IsSound log) → UnlessMemory r S → UnlessMemory r Moments → UnlessMemory r (MeetsOn begun first mid after) → UnlessMemory r (Acknowledged (lines_in r))
       → IfOk r (λ lines. IsWhole lines.items) → OnFault r IsCut → OnMemory r (WasStarved IsSound v script begun first mid after) → LeavesUntold limits (ended_as r) before after names script
-  untold (Ok lines) S of stands moments acknowledged ran cut starved =
+  untold (Ok lines) S of stands moments meets acknowledged ran cut starved =
       let was = ran.0 in
       let each = was.run.each in (
         state,
         on.found,
-        was_starved_on laws limits state names v t begun log script lines.items before mid after (runs_on (of stands) lines.items moments acknowledged) opening on.starts on.of was.answers
+        was_starved_on laws limits state names v t begun log script lines.items before mid after (runs_on (of stands) lines.items moments meets acknowledged) opening on.starts on.of was.answers
             (whole_course v t script was.answers was.run) (λ fewer. absurd (omega (arith, each, fewer))) first on.older
             (may_from (removed_to first was.answers) (removing_to first script was.answers) begun.flushed log.flushed mid after (removed_below first script was.answers) ran.3),
       )
-  untold (Err (log_stop.DiskFault lines)) S of stands moments acknowledged ran cut starved =
+  untold (Err (log_stop.DiskFault lines)) S of stands moments meets acknowledged ran cut starved =
       let was = cut.0 in (
         state,
         on.found,
-        was_starved_on laws limits state names v t begun log script lines.items before mid after (runs_on (of stands) lines.items moments acknowledged) opening on.starts on.of was.answers was.course was.late first on.older cut.2,
+        was_starved_on laws limits state names v t begun log script lines.items before mid after (runs_on (of stands) lines.items moments meets acknowledged) opening on.starts on.of was.answers was.course was.late first on.older cut.2,
       )
-  untold (Err log_stop.Memory) S of stands moments acknowledged ran cut starved = (state, on.found, starved_on starved)
+  untold (Err log_stop.Memory) S of stands moments meets acknowledged ran cut starved = (state, on.found, starved_on starved)
 
   -- a cut report has no line of the map
   no_line : All IsInTables []

@@ -21,12 +21,12 @@ use Rattle.erm_world.specs.Log.{IsLog, Log}
 use Rattle.erm_world.specs.Whole.{IsLogOf}
 use Rattle.erm_world.specs.World.{View}
 use Rattle.erm_world.specs.World as world
-use Rattle.erm_good_report.specs.GoodReport.{IsGoodReport, OwesToAnswers, places_of, serial_of}
+use Rattle.erm_good_report.specs.GoodReport.{IsGoodReport, MarksOwe, OwesToAnswers, places_of, serial_of}
 use Rattle.erm_good_report.specs.Opening.{InTurn, Opening}
 use Rattle.erm_good_report.specs.Phases.{Closed}
 use Rattle.erm_good_report.specs.Transactions.{history_of, transactions_of}
 use Rattle.erm_lines.specs.Executions.{AreClosed, IsCourse, IsOpeningOf, IsRun, closed_in}
-use Rattle.erm_lines.specs.Laws.{PartsCutFew, RunsAreSerialWithSnapshots, RunsCutFew}
+use Rattle.erm_lines.specs.Laws.{CoursesHaveMarks, PartsCutFew, RunsAreSerialWithSnapshots, RunsCutFew}
 use Rattle.erm_told.proofs.Differing.{stamps_differ}
 use Rattle.erm_told_crash.specs.Laws.{CoursesClose}
 use Rattle.erm_told_fronts.specs.Fronts.{CoursesRunInFronts}
@@ -40,16 +40,17 @@ use Rattle.erm_log_run.specs.Saving.{AreRemoved, AreSaved, MayBeRemoved, removed
 use Rattle.erm_log_run.proofs.Good.{OrdersExist}
 use Rattle.erm_log_run.proofs.Held.{tells_both, tells_join, tells_weaker}
 use Rattle.erm_recover.specs.Waiting.{SinceSettled}
-use Rattle.erm_disk_run.specs.Crashes.{KeepsCommits, KeepsTold, Leaves, Outlives}
+use Rattle.erm_disk_run.specs.Crashes.{KeepsCommits, KeepsTold, Leaves, LeavesOwn, Outlives, StaysOwn}
 use Rattle.erm_disk_run.specs.Found.{StartsFrom}
 use Rattle.erm_disk_run.specs.Limits.{Limits}
 use Rattle.erm_disk_run.specs.Owed.{CoursesOwe}
-use Rattle.erm_disk_run.specs.Runs.{AreUnseen, CutFew, HaveManyCells, HaveManyKeys, WasCutOn, WasRunOn, WasStarvedOn, commits_told}
+use Rattle.erm_disk_run.specs.Runs.{AreUnseen, CutFew, HaveManyCells, HaveManyKeys, WasCutOn, WasRunOn, WasStarvedOn, commits_told, marks_told}
 use Rattle.erm_disk_run.proofs.Cut.{HasUnseen, course_celled, course_cuts, course_keyed, has_unseen, run_cuts, whole_course}
-use Rattle.erm_disk_run.proofs.Left.{AuditLaws, OrdersAreOne, has_commits, leaves}
+use Rattle.erm_disk_run.proofs.Left.{AuditLaws, OrdersAreOne, has_commits, leaves, owns, owns_left}
 use Rattle.erm_disk_run.proofs.Meeting.{MeetsFound}
 use Rattle.erm_disk_run.proofs.Opened.{MayOpenAll}
 use Rattle.erm_disk_run.proofs.Outlived.{OpensAt, outlives}
+use Rattle.erm_disk_run.proofs.Own.{MeetsOn, OpensFound, StepsMeet, meet_told}
 use Rattle.erm_disk_run.proofs.SlotsLeft.{OpenedOlder, RemovedAs, SlotsLeft, older_told, removed_told, saved_told}
 use Rattle.erm_disk_run.proofs.Told.{CourseLaws, HasLimits, OpensOn, RanOn, opening_stays}
 
@@ -67,6 +68,7 @@ pub record DiskLaws : Type 0 where
   pub keys : OidsAreFull
   pub close : CoursesClose
   pub owe : CoursesOwe
+  pub marks : CoursesHaveMarks
   pub fronts : CoursesRunInFronts
 
 -- behind whatever blocks recovery met those of a log at first, it meets them behind the same at the end
@@ -99,6 +101,9 @@ pub record RunsOn (limits : Limits) (state : State) (many : ℕ) (v t : View) (b
   pub log_of : IsLogOf t log
   pub is : IsLog sound_law.meets log
   pub opens : Tells (OpensAt state) before mid
+  pub slots : Slots
+  pub found : Tells (OpensFound state begun slots) before mid
+  pub meets : MeetsOn begun slots mid after
   pub moments : Tells (KeepsBlocks sound_law.meets (state_at begun []) log.gathered begun.flushed) mid after
   pub acknowledged : Tells (AllLast sound_law.meets (state_at begun []) log.gathered lines) mid after
 
@@ -128,6 +133,24 @@ module _ (laws : DiskLaws) (limits : Limits) (state : State) (names : List (List
       (subst (λ (s : State). Tells (λ b c. KeepsBlocks sound_law.meets s log.gathered begun.flushed b c × AllLast sound_law.meets s log.gathered lines b c) mid after)
       (same_start answers closed ran)
       (tells_both (KeepsBlocks sound_law.meets (state_at begun []) log.gathered begun.flushed) (AllLast sound_law.meets (state_at begun []) log.gathered lines) mid after on.moments on.acknowledged))
+
+  -- the blocks that recovery meets in each image are the run's own, behind those found
+  owned : (answers : List Answer) (closed : List Closed) → RanOn state (length names) v t log script answers closed
+      → Tells (StaysOwn (commits_told names script answers closed) (marks_told names script answers closed) state) before after
+  owned answers closed ran =
+      tells_join (OpensFound state begun on.slots) (λ b c. KeepsBlocks sound_law.meets (state_at log []) log.gathered begun.flushed b c × StepsMeet begun on.slots b c)
+      (StaysOwn (commits_told names script answers closed) (marks_told names script answers closed) state) before mid after
+      (λ a b c. owns laws.courses laws.may laws.one laws.audits state (length names) v t log script answers closed ran begun on.slots begun.flushed a b c
+      (ap (λ (s : State). s.at) (same_start answers closed ran))) on.found
+      (tells_both (KeepsBlocks sound_law.meets (state_at log []) log.gathered begun.flushed) (StepsMeet begun on.slots) mid after
+      (subst (λ (s : State). Tells (KeepsBlocks sound_law.meets s log.gathered begun.flushed) mid after) (same_start answers closed ran) on.moments)
+      (meet_told begun on.slots (KeepsBlocks sound_law.meets (state_at begun []) log.gathered begun.flushed) mid after on.moments on.meets))
+
+  -- what its marks owe
+  marks_owed : (answers : List Answer) (closed : List Closed) (course : IsCourse v script answers t) → AreClosed course.closing closed → (opening : Opening) → IsOpeningOf v opening
+      → MarksOwe InTurn opening (length names) script answers closed
+  marks_owed answers closed course are opening of =
+      subst (λ (n : ℕ). MarksOwe InTurn opening n script answers closed) on.opened.sessions (laws.marks v t script answers course closed opening are of)
 
   -- of a course and the sessions that it closed
   ran_on : (answers : List Answer) (closed : List Closed) (course : IsCourse v script answers t) → AreClosed course.closing closed → RanOn state (length names) v t log script answers closed
@@ -177,6 +200,9 @@ module _ (laws : DiskLaws) (limits : Limits) (state : State) (names : List (List
         commits.1 after_commits both.1.0 both.1.1)
         (tells_both (MeetsFound state log slots) (λ old new. SlotsLeft answers slots old new × RemovedAs answers state.at log.flushed old new) before after meets
         (tells_both (SlotsLeft answers slots) (RemovedAs answers state.at log.flushed) before after left removed));
+    own = owned answers closed ran;
+    left = tells_weaker (MeetsFound state log slots) (LeavesOwn (commits_told names script answers closed) (marks_told names script answers closed) state) before after
+        (λ old new met. owns_left laws.courses laws.may laws.one laws.audits state (length names) v t log script answers closed ran slots old new met) meets;
   }
     where
       good : IsGoodReport InTurn opening names script lines
@@ -241,14 +267,19 @@ module _ (laws : DiskLaws) (limits : Limits) (state : State) (names : List (List
         (laws.owe v t script was.answers was.course found.closed opening found.are of));
     fronts = subst (λ (given : List Answer). EachFrontRuns (commits_told names script given found.closed) opening.map) (sym report.answers_are)
         (front_runs was.answers found.closed was.course found.are opening of);
-    outlives = outlived report.cut.answers found.closed (subst (λ (given : List Answer). RanOn state (length names) v t log script given found.closed) (sym report.answers_are)
-        (ran_on was.answers found.closed was.course found.are));
+    marks = subst (λ (given : List Answer). MarksOwe InTurn opening (length names) script given found.closed) (sym report.answers_are)
+        (marks_owed was.answers found.closed was.course found.are opening of);
+    outlives = outlived report.cut.answers found.closed ran;
+    own = owned report.cut.answers found.closed ran;
     older = older_told state (λ slots. removing_to slots script report.cut.answers) first begun.flushed before mid after low opened
         (subst (λ (given : List Answer). Tells (MayBeRemoved (removing_to first script given) begun.flushed) mid after) (sym report.answers_are) may);
   }
     where
       found : HasUnseen names v t script was.answers was.course
       found = has_unseen laws.close names v t script was.answers was.course was.late
+
+      ran : RanOn state (length names) v t log script report.cut.answers found.closed
+      ran = subst (λ (given : List Answer). RanOn state (length names) v t log script given found.closed) (sym report.answers_are) (ran_on was.answers found.closed was.course found.are)
 
   -- memory ran out: no line tells of it
   pub was_starved_on : (opening : Opening) → StartsFrom state opening → IsOpeningOf v opening → (answers : List Answer) (course : IsCourse v script answers t)
@@ -273,6 +304,8 @@ module _ (laws : DiskLaws) (limits : Limits) (state : State) (names : List (List
         (λ old new outlives. outlives.moments) (outlived answers found.closed (ran_on answers found.closed course found.are));
     logged = tells_weaker (Outlives (commits_told names script answers found.closed) state lines) (SinceSettled (KeepsTold (commits_told names script answers found.closed) state)) before after
         (λ old new outlives. outlives.logged) (outlived answers found.closed (ran_on answers found.closed course found.are));
+    marks = marks_owed answers found.closed course found.are opening of;
+    own = owned answers found.closed (ran_on answers found.closed course found.are);
     older = older_told state (λ slots. removing_to slots script answers) first begun.flushed before mid after low opened may;
   }
     where

@@ -10,6 +10,7 @@ use Rattle.erm_ckpt.specs.declared.slot.Slots.{Slots}
 use Rattle.erm_ckpt.specs.Recovered.{Pair, Recovers, State, base, slots_of, state_behind}
 use Rattle.erm_checkpoint.specs.Taken.{HoldsLog}
 use Rattle.erm_crash.specs.Kept.{KeepsOpening}
+use Rattle.erm_crash.specs.Older.{KeepsFound}
 use Rattle.erm_node.specs.Sound.{sound_law}
 use Rattle.erm_node.specs.TreeMap.{map_of_rows}
 use Rattle.erm_recover.specs.Opening.{open_block}
@@ -37,11 +38,13 @@ pub record NamesFound (slots : Slots) (steps : List Step) : Type 0 where
   pub names : slots ≡ slots_of pair
 
 -- The log of a state was opened on a disk. The slots are those found there. Once nothing is pending each image at each moment recovers to the
--- state, in its run or the next, and at the end the disk holds the log that was opened, behind the blocks found and the one that opens it.
+-- state, in its run or the next, and meets the blocks found, or these and the one that opens the log; and at the end the disk holds the log that was
+-- opened, behind these.
 pub record OpensLog (state : State) (log : Log) (slots : Slots) (old new : List Step) : Type 0 where
   pub pair : Pair
   pub found : NamesFound slots old
   pub keeps : SinceSettled (KeepsOpening sound_law.meets state pair) old new
+  pub first : SinceSettled (KeepsFound sound_law.meets state found.pair found.blocks) old new
   pub holds : HoldsLog sound_law.meets log slots new
   pub tail : MeetsTail sound_law.meets (found.blocks ++ open_block state.at state.run ∷ []) log slots new
   pub at : (state_behind (base found.pair) found.blocks).at ≡ state.at

@@ -117,6 +117,7 @@ fn open_recovered<D: Disk>(disk: &mut D, recovered: &Recovered) -> Result<Stamp,
     ensures sound { OnOk result (D.faults disk.new ≡ D.faults disk.old) }
 {
     erm_crash::openings_keep::<SoundRows>();
+    erm_crash::openings_meet_the_blocks_found::<SoundRows>();
     erm_crash::kept_images_may_open::<SoundRows>();
     erm_told_log::opened_logs_meet_the_blocks_found::<SoundRows>();
     let tail = open_log::<D, SoundRows>(disk, recovered)?;

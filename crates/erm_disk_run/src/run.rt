@@ -136,6 +136,9 @@ fn run_opened<W: StartWorld, D: Disk>(
     courses_owe_to_answers();
     erm_told_fronts::courses_run_in_fronts();
     erm_told_crash::logs_have_the_commits_told();
+    erm_told_crash::logs_have_the_marks_told();
+    erm_told_crash::commits_stay_behind_the_log();
+    erm_causes::courses_have_marks();
     erm_told_log::recovery_meets_the_run::<SoundRows>();
     erm_told_log::recovery_meets_earlier_blocks::<SoundRows>();
     erm_told_audit::audits_tell_the_commits();

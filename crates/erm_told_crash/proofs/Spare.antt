@@ -15,10 +15,12 @@ use Rattle.erm_report.specs.declared.answer.Answer.{Answer}
 use Rattle.erm_report.specs.declared.line.Line.{Line}
 use Rattle.erm_script.specs.declared.script.TheConstants.{NO_SESSION}
 use Rattle.erm_script.specs.declared.script.ScriptLine.{ScriptLine}
-use Rattle.erm_good_report.specs.GoodReport.{HaveTightWindows, IsGoodReport, OrderAgrees, OwesToAnswers, Report, places_of, report_lines, serial_of}
+use Rattle.erm_good_report.specs.GoodReport.{HaveTightWindows, IsGoodReport, MarksOwe, OrderAgrees, OwesToAnswers, Report, places_of, report_lines, serial_of}
+use Rattle.erm_good_report.specs.Marks.{MarksAgree}
 use Rattle.erm_good_report.specs.Opening.{Mode, Opening}
 use Rattle.erm_good_report.specs.Phases.{Closed, ClosesAgree, is_idle, phase_after, phase_of}
-use Rattle.erm_good_report.specs.Transactions.{Progress, Said, Transaction, ended_as, ended_of, heard, history_of, nothing, progress_of, said_of, transactions_of}
+use Rattle.erm_good_report.specs.Refusals.{moment_at}
+use Rattle.erm_good_report.specs.Transactions.{Mark, Progress, Said, Transaction, ended_as, ended_of, heard, history_of, marked_as, marks_of, nothing, progress_of, said_of, transactions_of}
 use Rattle.erm_told.proofs.Closing.{close_said}
 use Rattle.erm_told.proofs.Executed.{hears, turns}
 use Rattle.erm_told_crash.specs.Spare.{CutWithoutSpare, NamesNoSession, SpareNamesTellNothing, TightWithoutSpare}
@@ -91,6 +93,16 @@ module _ (script : List ScriptLine) (answers : List Answer) (none : NamesNoSessi
   no_ended : (closed : List Closed) → ((c : Closed) → c ∈ closed → c.session ≢ 1) → ended_of 1 (places_of script answers closed) ≡ []
   no_ended closed apart = ap (λ (p : Progress). filter_map (ended_as 1) p.snapshots ++ []) (no_progress closed apart)
 
+  pub no_marks : (closed : List Closed) → ((c : Closed) → c ∈ closed → c.session ≢ 1) → marks_of 1 (places_of script answers closed) ≡ []
+  no_marks closed apart = ap (λ (p : Progress). filter_map (marked_as 1) p.snapshots ++ []) (no_progress closed apart)
+
+  -- so its marks owe nothing
+  pub marks_without : (mode : Mode) (opening : Opening) (closed : List Closed) → ((c : Closed) → c ∈ closed → c.session ≢ 1) → MarksOwe mode opening 1 script answers closed
+      → MarksOwe mode opening 0 script answers closed
+  marks_without mode opening closed apart owes =
+      subst (λ (ks : List Mark). MarksAgree (moment_at mode opening script answers []) script answers closed [] ks) (no_marks closed apart)
+      (subst (λ (ts : List Transaction). MarksAgree (moment_at mode opening script answers ts) script answers closed ts (marks_of 1 (places_of script answers closed))) (no_transactions closed apart) owes)
+
   -- nothing has a place in the order
   none_placed : (closed : List Closed) → ((c : Closed) → c ∈ closed → c.session ≢ 1) → serial_of 1 (places_of script answers closed) ≡ []
   none_placed closed apart =
@@ -110,6 +122,7 @@ tight mode opening name script lines none told = (
       each = g.each;
       closes = record { each = ap (map (λ (c : Closed). c.session)) closed; fits = g.closes.fits };
       owes = subst (λ (ts : List Transaction). OwesToAnswers mode opening script r.answers ts) empty g.owes;
+      marks = marks_without script r.answers none mode opening r.closed apart g.marks;
       order = subst (λ (cs : List Committed). OrderAgrees cs opening.map r) placed g.order;
     };
     tight = subst HaveTightWindows empty told.tight;
@@ -153,6 +166,7 @@ cut mode opening name script lines none told = (
     once = told.once;
     unseen = told.unseen;
     owes = subst (λ (ts : List Transaction). OwesToAnswers mode opening script told.answers ts) empty told.owes;
+    marks = marks_without script told.answers none mode opening told.closed apart told.marks;
   },
   refl,
   refl,

@@ -10,7 +10,7 @@ open_log-requires-clause-fresh g c = fresh_told (g.D.Disk.told c.args.disk.now) 
 
 pub returns-in_err-tail-clause-stops : goal.returns-in_err-tail-clause-stops
 returns-in_err-tail-clause-stops g c =
-    let laws : OpeningLaws = record { keep = c.openings_keep.ensures; opens = c.kept_images_may_open.ensures; meet = c.opened_logs_meet_the_blocks_found.ensures } in
+    let laws : OpeningLaws = record { keep = c.openings_keep.ensures; first = c.openings_meet_the_blocks_found.ensures; opens = c.kept_images_may_open.ensures; meet = c.opened_logs_meet_the_blocks_found.ensures } in
     let p = err_from_is_err_and c.from_residual.result c.from_residual.ensures.1 in
     rw (p.1, p.2)
     (opening_stops laws c.args.recovered.now (g.D.Disk.told c.args.disk.now) (g.D.Disk.told c.open_log.new.disk) c.requires.kept c.requires.told c.requires.found c.in_err-tail.field-0.0
@@ -30,7 +30,7 @@ returns-clause-run_low g c = (room_of c.args.recovered.now c.in_ok-tail.tail c.i
 pub returns-clause-disk : goal.returns-clause-disk
 returns-clause-disk g c = λ log just.
     let r = c.args.recovered.now in
-    let laws : OpeningLaws = record { keep = c.openings_keep.ensures; opens = c.kept_images_may_open.ensures; meet = c.opened_logs_meet_the_blocks_found.ensures } in
+    let laws : OpeningLaws = record { keep = c.openings_keep.ensures; first = c.openings_meet_the_blocks_found.ensures; opens = c.kept_images_may_open.ensures; meet = c.opened_logs_meet_the_blocks_found.ensures } in
     let room = room_of r c.in_ok-tail.tail c.in_ok-tail.ensures.runs_end c.in_ok-tail.ensures.log_end in
     let from = pair_told (g.D.Disk.told c.args.disk.now) r c.requires.told in
     opens_told laws r c.requires.found.are_sound room.1 room.0 c.requires.found.low (g.D.Disk.told c.args.disk.now) (g.D.Disk.told c.open_log.new.disk) from.0 log c.requires.kept from.1 just

@@ -79,6 +79,8 @@ returns g c =
       serial = c.runs_are_serial_with_snapshots.ensures;
       audits = record {
         logged = c.logs_have_the_commits_told.ensures;
+        marked = c.logs_have_the_marks_told.ensures;
+        behind = c.commits_stay_behind_the_log.ensures;
         met = record { meet = c.recovery_meets_the_run.ensures; audit = c.audits_tell_the_commits.ensures; earlier = c.recovery_meets_earlier_blocks.ensures };
       };
       runs_few = c.runs_cut_few.ensures;
@@ -87,6 +89,7 @@ returns g c =
       keys = c.oids_are_full.ensures;
       close = c.courses_close_sessions.ensures;
       owe = c.courses_owe_to_answers.ensures;
+      marks = c.courses_have_marks.ensures;
       fronts = c.courses_run_in_fronts.ensures;
     } in
     let told : ended_as c.run_script.result ≡ c.match-run_script.ended = elim c.match-run_script.branch [
@@ -106,17 +109,17 @@ returns g c =
     in
     let by : ToldBy sound_law c.run_script.result v begun log script o.slots store.slots mid after =
     sound.told c.run_script.result v begun log script o.slots store.slots mid after
-    (record { moments = did.moments; acknowledged = did.acknowledged; tail = did.tail; starved = did.starved })
+    (record { moments = did.moments; met = did.met; acknowledged = did.acknowledged; tail = did.tail; starved = did.starved })
     in
     record {
       ended = λ before state opens.
           subst (λ (e : Result (Vec Line Global) RunStop). EndsRun limits e before after names script) told
           (ends laws limits state names v t begun log (opening_of o v) script o.slots store.slots before mid after (opened_on maps limits fits before mid state (length names) v begun o few of_view opens)
-          c.run_script.result stands logged did.stands by.moments by.acknowledged did.flushed by.tail did.ran did.cut by.starved);
+          c.run_script.result stands logged did.stands by.moments by.met by.acknowledged did.flushed by.tail did.ran did.cut by.starved);
       untold = λ before state opens.
           subst (λ (e : Result (Vec Line Global) RunStop). LeavesUntold limits e before after names script) told
           (untold laws limits state names v t begun log (opening_of o v) script o.slots store.slots before mid after (opened_on maps limits fits before mid state (length names) v begun o few of_view opens)
-          c.run_script.result stands logged did.stands by.moments by.acknowledged did.ran did.cut by.starved);
+          c.run_script.result stands logged did.stands by.moments by.met by.acknowledged did.ran did.cut by.starved);
       tables =
           subst AreInTables told
           (tables laws limits found names v t begun log (opening_of o v) script o.slots store.slots start mid after (opened_on maps limits fits start mid found (length names) v begun o few of_view was)
