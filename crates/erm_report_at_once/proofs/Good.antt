@@ -9,7 +9,7 @@ use Rattle.erm_report.specs.declared.line.Line.{Line}
 use Rattle.erm_report.specs.Printable.{FitsTypes}
 use Rattle.erm_script.specs.declared.script.ScriptLine.{ScriptLine}
 use Rattle.erm_world.specs.World.{View}
-use Rattle.erm_good_report.specs.GoodReport.{HaveTightWindows, IsGoodReport, OwesToAnswers, places_of, serial_of}
+use Rattle.erm_good_report.specs.GoodReport.{HaveTightWindows, IsGoodReport, OwesToAnswers, places_of, serial_of, MarksOwe}
 use Rattle.erm_good_report.specs.Opening.{AtOnce, Opening}
 use Rattle.erm_good_report.specs.Phases.{Closed, ClosesAgree, phase_of}
 use Rattle.erm_good_report.specs.Transactions.{Said, Transaction, said_of, transactions_of}
@@ -17,7 +17,7 @@ use Rattle.erm_good_report.proofs.Placed.{serial_differs}
 use Rattle.erm_good_at_once.specs.Rising.{StampsRise}
 use Rattle.erm_lines.specs.Executions.{IsOpeningOf}
 use Rattle.erm_lines_at_once.specs.Executions.{IsRunAtOnce}
-use Rattle.erm_lines_at_once.specs.Laws.{RunsAtOnceAreSerialWithSnapshots, RunsAtOnceCloseSessions}
+use Rattle.erm_lines_at_once.specs.Laws.{RunsAtOnceAreSerialWithSnapshots, RunsAtOnceCloseSessions, RunsAtOnceHaveMarks}
 use Rattle.erm_lines_at_once.specs.Parts.{RunsInPartTell}
 use Rattle.erm_told.proofs.Differing.{stamps_differ}
 use Rattle.erm_owes_at_once.specs.Laws.{RunsAtOnceOwe}
@@ -27,7 +27,7 @@ use Rattle.erm_report_at_once.proofs.Logged.{logged}
 use Rattle.erm_tight_at_once.specs.Laws.{RunsAtOnceHaveTightWindows}
 use Rattle.erm_report_at_once.specs.Laws.{IsGoodOf, RunsAtOnceAreGood, RunsAtOnceReportWell}
 
-module _ (tell : RunsInPartTell) (closes : RunsAtOnceCloseSessions) (serial : RunsAtOnceAreSerialWithSnapshots) (owe : RunsAtOnceOwe) (summaries : SummariesAreGood) (v f : View) (script : List ScriptLine) (answers : List Answer)
+module _ (tell : RunsInPartTell) (closes : RunsAtOnceCloseSessions) (serial : RunsAtOnceAreSerialWithSnapshots) (owe : RunsAtOnceOwe) (have_marks : RunsAtOnceHaveMarks) (summaries : SummariesAreGood) (v f : View) (script : List ScriptLine) (answers : List Answer)
     (closed : List Closed) (run : IsRunAtOnce v script answers closed f) (opening : Opening) (of : IsOpeningOf v opening) (few : v.opening.sessions ≤ SESSIONS) (names : List (List ℕ))
     (many : v.opening.sessions ≡ length names) (lines : List Line) (sums : Summarizes opening names script answers closed lines) (fits : All FitsTypes lines) where
   abbrev said : List Said
@@ -55,6 +55,7 @@ module _ (tell : RunsInPartTell) (closes : RunsAtOnceCloseSessions) (serial : Ru
       summaries AtOnce opening names script answers closed lines sums fits run.each
       (subst (λ (n : ℕ). ClosesAgree n (said_of script answers) closed) many close_agree)
       (subst (λ (n : ℕ). OwesToAnswers AtOnce opening script answers (transactions_of n (places_of script answers closed))) many owes.0)
+      (subst (λ (n : ℕ). MarksOwe AtOnce opening n script answers closed) many (have_marks v f script answers closed opening run of))
       (subst (λ (n : ℕ). StampsDiffer rank_of (serial_of n (places_of script answers closed))) many all_differ)
       (λ order is. serial v f script answers closed opening run of few order
       (subst (λ (n : ℕ). IsSerialOrder rank_of (serial_of n (places_of script answers closed)) order) (sym many) is))
@@ -70,9 +71,9 @@ module _ (tell : RunsInPartTell) (closes : RunsAtOnceCloseSessions) (serial : Ru
         (subst (λ (n : ℕ). StampsRise AtOnce (transactions_of n (places_of script answers closed)) (said_of script answers)) many owes.1));
   }
 
-pub report_well : RunsInPartTell → RunsAtOnceCloseSessions → RunsAtOnceAreSerialWithSnapshots → RunsAtOnceOwe → SummariesAreGood → RunsAtOnceReportWell
-report_well tell closes serial owe summaries v f script opening names lines of many few was fits =
-    good_of tell closes serial owe summaries v f script was.answers was.closed was.run opening of (omega (arith, many, few)) names many lines was.told fits
+pub report_well : RunsInPartTell → RunsAtOnceCloseSessions → RunsAtOnceAreSerialWithSnapshots → RunsAtOnceOwe → RunsAtOnceHaveMarks → SummariesAreGood → RunsAtOnceReportWell
+report_well tell closes serial owe have_marks summaries v f script opening names lines of many few was fits =
+    good_of tell closes serial owe have_marks summaries v f script was.answers was.closed was.run opening of (omega (arith, many, few)) names many lines was.told fits
 
 -- with its windows
 pub are_good : RunsAtOnceReportWell → RunsAtOnceHaveTightWindows → RunsAtOnceAreGood

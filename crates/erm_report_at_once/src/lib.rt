@@ -11,6 +11,7 @@ pub fn runs_at_once_report_well()
     erm_told_at_once::runs_in_part_are_told();
     erm_told_at_once::runs_at_once_close_sessions();
     erm_causes_at_once::runs_at_once_are_serial_with_snapshots();
+    erm_causes_at_once::runs_at_once_have_marks();
     erm_owes_at_once::runs_at_once_owe();
     erm_summary::summaries_are_good();
 }
