@@ -104,21 +104,26 @@ module _ (sound : Rows → Type 0) where
           λ w. subst (λ (bs : List Block). b ∈ bs) (sym g.split) (∈-before met g.more b (was.1 (w.0, (let above = w.1 in omega (arith, above, bases))))),
         )
 
-  -- ---- flushes
+  -- ---- writes, and flushes
+
+  -- while words are written from the place recovered on
+  pub writes_older : (found : List Block) (low at : ℕ) (words : List ℕ) (pair : Pair) (met : List Block) (old new : List Step) → IsSettled old → Recovers sound (contents old) pair met
+      → (state_behind (base pair) met).at ≡ at → low ≤ at → MeetsOlder sound low found (contents old) → (more : List Step) × (new ≡ more ++ old) × AllWriteWords at words more
+      → KeepsMeeting sound low found old new
+  writes_older found low at words pair met old new settled recovers to le before (more, steps, writes) = (
+    (more, steps),
+    λ now moment image is_image tears.
+        let parts = parts_of old new more now moment steps in
+        let so_far : AllWriteWords at words moment.before = last_write at words moment.after moment.before (subst (AllWriteWords at words) parts writes) in
+        let spares = images_spare at words old moment.before image settled so_far (subst (λ (ss : List Step). IsImage ss image) moment.since is_image) in
+        older_stays (contents old) image pair met (state_behind (base pair) met) (at + length words) recovers refl
+        (subst (λ (n : ℕ). Spares n (at + length words) (contents old) image) (sym to) spares) low found (omega (arith, to, le)) before,
+  )
 
   pub flush_older : (l m : Log) (slots : Slots) (found : List Block) (low : ℕ) (old new : List Step) → HoldsLog sound l slots old → low ≤ l.flushed → MeetsOlder sound low found (contents old)
       → WritesFrom sound l.flushed m old new → KeepsMeeting sound low found old new
-  flush_older l m slots found low old new h le before w = (
-    (w.writes.more, w.writes.steps),
-    λ now moment image is_image tears.
-        let parts = parts_of old new w.writes.more now moment w.writes.steps in
-        let words : List ℕ = w.few.0 in
-        let writes : AllWriteWords l.flushed words moment.before = last_write l.flushed words moment.after moment.before (subst (AllWriteWords l.flushed words) parts w.few.2) in
-        let spares = images_spare l.flushed words old moment.before image h.ready.settled writes (subst (λ (ss : List Step). IsImage ss image) moment.since is_image) in
-        let to = h.to in
-        older_stays (contents old) image h.pair h.there.blocks (state_at l h.front) (l.flushed + length words) h.there.recovers h.there.is.at
-        (subst (λ (n : ℕ). Spares n (l.flushed + length words) (contents old) image) (sym to) spares) low found (omega (arith, to, le)) before,
-  )
+  flush_older l m slots found low old new h le before w =
+      writes_older found low l.flushed w.few.0 h.pair h.there.blocks old new h.ready.settled h.there.recovers (h.there.is.at ∙ h.to) le before (w.writes.more, w.writes.steps, w.few.2)
 
   -- ---- checkpoints
 

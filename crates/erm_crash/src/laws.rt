@@ -10,9 +10,10 @@ ghost use Rattle.erm_world.specs.World.{View};
 ghost use Rattle.erm_ckpt.specs.declared.slot.Slot.{Slot as DiskSlot};
 ghost use Rattle.erm_ckpt.specs.declared.slot.Slots.{Slots as DiskSlots};
 ghost use Rattle.erm_ckpt.specs.declared.slot.TheConstants.{LOG_START};
-ghost use Rattle.erm_ckpt.specs.Recovered.{Pair, Recovers, RecoversAt, State, best, slots_of};
+ghost use Rattle.erm_ckpt.specs.Recovered.{Pair, Recovers, RecoversAt, State, base, best, slots_of, state_behind};
 ghost use Rattle.erm_ckpt.specs.States.{HoldsAll, RecoversTo};
 ghost use Rattle.erm_checkpoint.specs.Taken.{GoesOnTo, HoldsLog, SavesLogPast, Takes, slot_at_end, state_at};
+ghost use Rattle.erm_log_disk.specs.Writes.{AllWriteWords};
 ghost use Rattle.erm_log_words.specs.Kept.{MayOpen};
 ghost use Rattle.erm_log_words.specs.Words.{word_at};
 ghost use Rattle.erm_outside.specs.Disk.{Image, IsSettled, Step, contents};
@@ -120,6 +121,13 @@ pub fn flushes_keep_older_blocks<L: RowLaw>()
     ensures { (before now : Log) (slots : DiskSlots) (found : List Block) (place : ℕ) (old new : List Step) → HoldsLog L.law.meets before slots old
         → place ≤ before.flushed → MeetsOlder L.law.meets place found (contents old) → WritesFrom L.law.meets before.flushed now old new
         → KeepsMeeting L.law.meets place found old new }
+{}
+
+/// The same while words of whatever blocks are written from the place on to which the disk recovered.
+pub fn writes_keep_older_blocks<L: RowLaw>()
+    ensures { (found : List Block) (place at : ℕ) (words : List ℕ) (pair : Pair) (met : List Block) (old new : List Step) → IsSettled old
+        → Recovers L.law.meets (contents old) pair met → (state_behind (base pair) met).at ≡ at → place ≤ at → MeetsOlder L.law.meets place found (contents old)
+        → (more : List Step) × (new ≡ more ++ old) × AllWriteWords at words more → KeepsMeeting L.law.meets place found old new }
 {}
 
 /// The same while a checkpoint is taken, of the blocks below the log's start.

@@ -8,5 +8,5 @@ pub use laws::{
     checkpoints_keep_older_blocks, flushes_keep, flushes_keep_older_blocks, held_logs_stay,
     kept_images_may_open, kept_logs_begin, kept_logs_go_on, kept_logs_stay, logs_stay_shipped,
     moments_go_on, older_blocks_go_on, opened_logs_are_held, openings_keep,
-    openings_meet_the_blocks_found,
+    openings_meet_the_blocks_found, writes_keep_older_blocks,
 };
