@@ -10,6 +10,8 @@ pub mod OfGoodSaves
 pub mod OfLaterCommits
 pub mod OfLines
 pub mod OfLog
+pub mod OfMarks
+pub mod OfMarksAtOnce
 pub mod OfNearStamps
 pub mod OfOrder
 pub mod OfPlaced

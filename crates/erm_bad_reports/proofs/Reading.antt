@@ -7,7 +7,7 @@ use Rattle.erm_report.specs.declared.answer.Answer.{Answer}
 use Rattle.erm_report.specs.declared.line.Line.{Line}
 use Rattle.erm_report.specs.declared.line.Line.TheVariants as line
 use Rattle.erm_script.specs.declared.script.ScriptLine.{ScriptLine}
-use Rattle.erm_good_report.specs.GoodReport.{IsGoodReport, OrderAgrees, OwesToAnswers, Report, answer_lines, close_line, line_in_order, order_line, places_of, report_lines, serial_of}
+use Rattle.erm_good_report.specs.GoodReport.{IsGoodReport, MarksOwe, OrderAgrees, OwesToAnswers, Report, answer_lines, close_line, line_in_order, order_line, places_of, report_lines, serial_of}
 use Rattle.erm_good_at_once.specs.GoodAtOnce.{IsGoodAtOnce}
 use Rattle.erm_good_at_once.specs.Rising.{StampsRise}
 use Rattle.erm_good_report.specs.Opening.{AtOnce, Opening}
@@ -98,6 +98,18 @@ owes_of k each none good =
     let owes : Owes k (r.answers, r.closed) = good.owes in
     let closed = same.closed ∙ sym none in
     subst (Owes k) (λ i. (sym same.answers i, closed i)) owes
+
+-- and so it is of marks
+abbrev pub MarksBy : Case → List Answer × List Closed → Type 0
+MarksBy k parts = MarksOwe k.mode k.opening (length k.names) k.script parts.0 parts.1
+
+pub marks_read : (k : Case) → length k.report.answers ≡ length k.script → k.report.closed ≡ [] → IsGoodReport k.mode k.opening k.names k.script (lines_of k) → MarksBy k (k.report.answers, k.report.closed)
+marks_read k each none good =
+    let r = good.report in
+    let same = parts_read k.opening k.names k.script k.report r good.lines_ok each good.each none in
+    let marks : MarksBy k (r.answers, r.closed) = good.marks in
+    let closed = same.closed ∙ sym none in
+    subst (MarksBy k) (λ i. (sym same.answers i, closed i)) marks
 
 -- an order that a good report of a case's lines has: its lines are the case's
 abbrev pub Orders : Case → List Committed → List Answer × List Closed × List Pair → Type 0

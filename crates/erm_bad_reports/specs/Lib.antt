@@ -3,6 +3,7 @@ pub mod CauseCases
 pub mod Clauses
 pub mod CutReports
 pub mod LogCases
+pub mod MarkCases
 pub mod ReaderCases
 pub mod Refused
 pub mod SafeAtOnceCases

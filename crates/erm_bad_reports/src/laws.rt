@@ -5,7 +5,7 @@ ghost use Rattle.erm_good_report.specs.Opening.{AtOnce, InTurn, Mode, Opening};
 ghost use Rattle.erm_report.specs.declared.answer.Answer.TheVariants as answer;
 ghost use Rattle.std.specs.Prelude.{ℕ, [], ◌+◌, ◌<◌};
 ghost use Rattle.erm_model.specs.declared.limits.TheConstants.{MOST_CELLS, SESSIONS};
-ghost use Rattle.erm_bad_reports.specs.Clauses.{BreaksAlone, MeetsByLine, Fit, Answered, Closes, Phases, Stamps, Snapshots, Causes, Refusals, Serial, Ascending, Runs, LowEnds, HighEnds, lines_of, Safe};
+ghost use Rattle.erm_bad_reports.specs.Clauses.{BreaksAlone, MeetsByLine, Fit, Answered, Closes, Phases, Stamps, Snapshots, Causes, Refusals, Serial, Ascending, Runs, LowEnds, HighEnds, lines_of, Safe, Marks};
 ghost use Rattle.erm_bad_reports.specs.Cases.{commit_left_out, number_too_great, line_left_out, left_open, got_without_begin};
 ghost use Rattle.erm_bad_reports.specs.Cases.{begun_too_early, future_was_read, begun_out_of_reach, drawn_out_of_reach, waited_out_of_reach};
 ghost use Rattle.erm_bad_reports.specs.Cases.{value_from_nowhere, predecessor_unknown, excluded_alone, owned_by_nobody};
@@ -19,6 +19,7 @@ ghost use Rattle.erm_bad_reports.specs.ReaderCases.{reader_excludes, reader_prec
 ghost use Rattle.erm_bad_reports.specs.Refused.{NoneTellsCells, alone, answers_alone, before_abort, answers_before_abort, before_settle, answers_before_settle, after_commit, answers_after_commit, newer_than_nothing, oids_beyond, reads_alone, refused_first};
 ghost use Rattle.erm_bad_reports.specs.StampParts.{BreaksPartAlone, Differ, Least, Begun, Sealed, Begins, Draws, Ascends, Flushes, FlushesFirst, BeginsAscend, Stops, UntoldAfter, UntoldBefore, stamp_below_begin, sealed_with_another, begun_at_a_commit, begun_at_a_newer, drawn_below, drawn_within, begun_below_the_flushed, drawn_below_the_flushed, stamp_of_two, begins_fall, begun_at_the_stop, begun_above_untold, begun_below_untold};
 ghost use Rattle.erm_bad_reports.specs.SafeCases.{begin_moves, look_refused, reply_of_now, safe_at_a_commit, safe_at_last, safe_at_the_stop, safe_out_of_reach, safe_too_early, safe_behind_one_that_went_back, safe_below_the_flushed, safe_left_open, safes_fall, snapshot_behind, snapshot_left_out, snapshots_turned, unsafe_again, unsafe_by_no_turn, waits_for_idle};
+ghost use Rattle.erm_bad_reports.specs.MarkCases.{committed_for_a_mark, flushed_beyond_a_mark, mark_of_another, mark_waits_with_room, marked_for_a_seal, marked_in_transaction, marked_well, place_of_a_commit, place_of_two_marks};
 ghost use Rattle.erm_bad_reports.specs.SafeAtOnceCases.{BreaksRiseAlone, Watched, safe_at_one_met, safe_below_its_owner, safe_beside_one_that_went_back, waits_at_once};
 ghost use Rattle.erm_bad_reports.specs.SaveCases.{claim_stays, given_up, gone_back, held_from_before, lines_miscounted, lines_misread, new_key_undone, saved_idle, saved_safe, saved_sealed, undone_lines_forgotten, undone_put_forgotten, undone_was_left};
 ghost use Rattle.std.specs.List.{AllByRecursion};
@@ -185,6 +186,25 @@ pub fn places_are_needed()
 /// ends, is good.
 pub fn snapshots_may_be_good()
     ensures { IsGoodReport safe_at_last.mode safe_at_last.opening safe_at_last.names safe_at_last.script (lines_of safe_at_last) }
+{}
+
+/// Marks of safe snapshots: one names another snapshot's begin stamp; of sessions at once two have one place, and one has that of a commit; a settle of a
+/// transaction is told of a mark, and one of a mark of a commit; a flush goes beyond a mark that waits, and one waits for the ring, which has room; a
+/// transaction is told of a mark.
+pub fn marks_are_needed()
+    ensures another { BreaksAlone Marks mark_of_another }
+    ensures two { BreaksAlone Marks place_of_two_marks }
+    ensures commit { BreaksAlone Marks place_of_a_commit }
+    ensures seal { BreaksAlone Marks marked_for_a_seal }
+    ensures settled { BreaksAlone Marks committed_for_a_mark }
+    ensures beyond { BreaksAlone Marks flushed_beyond_a_mark }
+    ensures room { BreaksAlone Marks mark_waits_with_room }
+    ensures phase { BreaksAlone Phases marked_in_transaction }
+{}
+
+/// A report with a mark may be good.
+pub fn marks_may_be_good()
+    ensures { IsGoodReport marked_well.mode marked_well.opening marked_well.names marked_well.script (lines_of marked_well) }
 {}
 
 /// Savepoints, of lines that are run in turn and of sessions at once: they are counted wrongly, or outlive their transaction; a get is answered an undone
