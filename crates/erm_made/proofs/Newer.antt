@@ -74,6 +74,7 @@ answers_get table key (answer.Began begin) is = absurd is
 answers_get table key (answer.Sealed stamp) is = absurd is
 answers_get table key (answer.Committed stamp succ pred) is = absurd is
 answers_get table key (answer.Excluded stamp succ pred) is = absurd is
+answers_get table key (answer.Marked safe stamp) is = absurd is
 answers_get table key (answer.Newer stamp) is = absurd is
 answers_get table key a is = silent a refl refl refl
 
@@ -89,6 +90,7 @@ answers_flush (answer.Began begin) is = absurd is
 answers_flush (answer.Sealed stamp) is = absurd is
 answers_flush (answer.Committed stamp succ pred) is = absurd is
 answers_flush (answer.Excluded stamp succ pred) is = absurd is
+answers_flush (answer.Marked safe stamp) is = absurd is
 answers_flush (answer.Newer stamp) is = absurd is
 answers_flush a is = silent a refl refl refl
 
@@ -104,6 +106,7 @@ answers_put table key value (answer.Began begin) is = absurd is
 answers_put table key value (answer.Sealed stamp) is = absurd is
 answers_put table key value (answer.Committed stamp succ pred) is = absurd is
 answers_put table key value (answer.Excluded stamp succ pred) is = absurd is
+answers_put table key value (answer.Marked safe stamp) is = absurd is
 answers_put table key value a is = record { no_begin = refl; no_stamp = refl }
 
 refused_commit : (phase : Phase) → IfSome (refusal_of phase command.Commit) (λ a. meets_newer a ≡ false)
