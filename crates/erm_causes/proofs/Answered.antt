@@ -158,7 +158,7 @@ pub now_active : (table : ℕ → ℕ) (current : Option Transaction) (held : Li
     → InProgress table current (record { work = work_of stand; saves = held })
 now_active table None held world.idle now active = cc
 now_active table None held (world.active w) now active = absurd now
-now_active table None held (world.sealed w stamp) now active = absurd now
+now_active table None held (world.sealed w stamp) now active = cc
 now_active table (Some t) held world.idle now active = absurd now
 now_active table (Some t) held (world.active w) now active = record { told = t; is = refl; fine = now }
 now_active table (Some t) held (world.sealed w stamp) now active = cc

@@ -10,7 +10,7 @@ use Rattle.erm_script.specs.declared.script.Command.{Command}
 use Rattle.erm_world.specs.Calls.{IsAhead, IsInTheWay, IsNewer, IsOwned, IsSealedBelow}
 use Rattle.erm_world.specs.Calls as calls
 use Rattle.erm_world.specs.Works.{is_claimed}
-use Rattle.erm_world.specs.World.{IsCurrent, IsSession, Session, View, Work, history_of, phase_at, phase_of, work_at}
+use Rattle.erm_world.specs.World.{IsCurrent, IsSession, Session, View, Work, history_of, phase_at, phase_of, work_at, Stand}
 use Rattle.erm_world.specs.World as world
 use Rattle.erm_good_report.specs.Causes.{NamesTable, WritesTable}
 use Rattle.erm_good_report.specs.Opening.{InTurn, Mode}

@@ -1,5 +1,5 @@
 -- However all sessions are closed, each is closed alike.
-use Rattle.std.proofs.Common.{inl, inr, ◌≡◌, ℕ, zero, suc, ◌<◌, ◌≤◌, List, Some, refl, sym, ap, ◌∙◌, subst, arith}
+use Rattle.std.proofs.Common.{inl, inr, ◌≡◌, ℕ, zero, suc, ◌<◌, ◌≤◌, List, Some, refl, sym, ap, ◌∙◌, subst, arith, false}
 use Rattle.std.specs.Prelude.{◌⊎◌}
 use Rattle.erm_model.specs.declared.history.TransactionRecord.{TransactionRecord}
 use Rattle.erm_model.specs.declared.outcome.Phase.{Phase}
@@ -19,7 +19,7 @@ use Rattle.erm_causes.proofs.Tables.{run_history, run_holds, run_opening}
 use Rattle.erm_log_run.specs.Alike.{ClosesAll, SessionsCloseAlike}
 use Rattle.erm_log_run.specs.Closing.{end_of}
 use Rattle.erm_log_run.proofs.ClosedAt.{ClosedAt, closed_at, never_closed, older}
-use Rattle.erm_log_run.proofs.Fated.{Fated, fated}
+use Rattle.erm_log_run.proofs.Fated.{Fated, fated, IsFated}
 
 -- what a history has below a stamp, another one has
 abbrev Below : ℕ → History → History → Type 0
@@ -54,6 +54,11 @@ same_high h k seat w n succ pred other_succ other_pred forth back one other =
     let down = high_one k h seat w n other_succ other_pred succ pred back other one in
     omega (arith, up, down)
 
+-- one that is no mark
+plain_fated : (h : History) (seat : ℕ) (w : Work) (stamp : ℕ) (a : Answer) → w.is_mark ≡ false → IsFated h seat w stamp a → Fated h seat w stamp a
+plain_fated h seat w stamp a plain (inl (f, also)) = f
+plain_fated h seat w stamp a plain (inr (is, marks)) = absurd (cc)
+
 module _ (v : View) (holds : IsSerializable sound_law v) where
   closed : (moves : List Move) (t : View) → ClosesAll v moves t → (seat : ℕ) → IsSession v seat → (phase_at v seat ≡ Idle → ⊥) → ClosedAt moves v t seat
   closed moves t c seat session busy = closed_at moves v t seat holds c.last c.closes session busy
@@ -69,7 +74,7 @@ module _ (v : View) (holds : IsSerializable sound_law v) where
     | inl old ↦ run_history second v u d.closes r old
     | inr was ↦
         let e : ClosedAt second v u was.seat = closed second u d was.seat was.session (busy was.seat was.work r.stamp was.stand) in
-        let f : Fated (history_of u) was.seat was.work r.stamp e.answer = fated second v u was.seat was.work r.stamp e was.stand in
+        let f : Fated (history_of u) was.seat was.work r.stamp e.answer = plain_fated (history_of u) was.seat was.work r.stamp e.answer was.plain (fated second v u was.seat was.work r.stamp e was.stand) in
         let certified : IsCertified (history_of t) = (run_holds first v t holds c.closes).certified in
         let one : Below r.stamp (history_of t) (history_of u) = λ x less. forth x (omega (arith, at, less)) in
         let other : Below r.stamp (history_of u) (history_of t) = λ x less. back x (omega (arith, at, less)) in
@@ -118,6 +123,12 @@ module _ (v : View) (holds : IsSerializable sound_law v) where
       by low high (inl x) (inr y) = absurd (let opens = x.1 in let shut = y.1 in omega (arith, opens, shut, low, high))
       by low high (inr x) (inl y) = absurd (let shut = x.1 in let opens = y.1 in omega (arith, opens, shut, low, high))
 
+  both_answer : (h k : History) (seat : ℕ) (w : Work) (stamp : ℕ) (a b : Answer) → Below stamp h k → Below stamp k h → IsFated h seat w stamp a → IsFated k seat w stamp b → a ≡ b
+  both_answer h k seat w stamp a b forth back (inl (f, plain)) (inl (g, also)) = one_answer h k seat w stamp a b forth back f g
+  both_answer h k seat w stamp a b forth back (inl (f, plain)) (inr (is, marks)) = absurd (cc)
+  both_answer h k seat w stamp a b forth back (inr (is, marks)) (inl (f, plain)) = absurd (cc)
+  both_answer h k seat w stamp a b forth back (inr (is, marks)) (inr (also, other)) = is ∙ sym also
+
   -- one that isn't sealed: an active one, and one with a snapshot
   aborted : (moves : List Move) (t : View) (seat : ℕ) → (phase_at v seat ≡ Sealed → ⊥) → (c : ClosedAt moves v t seat) → c.answer ≡ answer.Aborted
   aborted moves t seat unsealed c = by (phase_at c.at seat) (λ sealed. unsealed (sym (ap (λ (s : Session). phase_of s.stand) c.same) ∙ sealed)) c.answer c.did.fits
@@ -154,7 +165,7 @@ module _ (v : View) (holds : IsSerializable sound_law v) where
           let y : ClosedAt second v u seat = closed second u d seat session (busy seat w stamp is) in
           let both = agree first second t u c d stamp in
           x.end
-          ∙ ap (λ (a : Answer). Some a) (one_answer (history_of t) (history_of u) seat w stamp x.answer y.answer both.0 both.1 (fated first v t seat w stamp x is) (fated second v u seat w stamp y is))
+          ∙ ap (λ (a : Answer). Some a) (both_answer (history_of t) (history_of u) seat w stamp x.answer y.answer both.0 both.1 (fated first v t seat w stamp x is) (fated second v u seat w stamp y is))
           ∙ sym y.end
 
 is_seat : (v : View) (seat : ℕ) → IsSession v seat ⊎ (IsSession v seat → ⊥)

@@ -20,7 +20,7 @@ use Rattle.erm_good_report.specs.Opening.{InTurn, Opening}
 use Rattle.erm_good_report.specs.Phases.{Closed, Closes, phase_of}
 use Rattle.erm_good_report.specs.Refusals.{draws_of, total_of}
 use Rattle.erm_good_report.specs.Stamps.{begin_told, stamp_drawn}
-use Rattle.erm_good_report.specs.Transactions.{Aborts, Commits, Ending, Excludes, Progress, Said, Transaction, Unfinished, begun, committed_as, ended, goes_on, heard, history_of, nothing, own_snapshot, progress_of, said_of, stamp_of, transactions_of, with_end, with_ending, with_line, with_seal}
+use Rattle.erm_good_report.specs.Transactions.{Aborts, Commits, Ending, Excludes, Progress, Said, Transaction, Unfinished, begun, committed_as, ended, goes_on, heard, history_of, nothing, own_snapshot, progress_of, said_of, stamp_of, transactions_of, with_end, with_ending, with_line, with_seal, with_mark}
 use Rattle.erm_good_report.proofs.InReach.{all_in_reach}
 use Rattle.erm_told.proofs.Closing.{close_said}
 use Rattle.erm_told.proofs.Differing.{of_history}
@@ -62,6 +62,7 @@ module _ (P : ℕ → Type 0) where
   hears : (q : ℕ) (asked : Option Command) (a : Answer) (p : Progress) → IfSome (begin_told a) P → AllBegan p → AllBegan (heard q asked a p)
   hears q asked (answer.Began begin) p told are = record { over = are.over; now = began q begin p told }
   hears q asked (answer.Safe begin) p told are = record { over = are.over; now = are.now }
+  hears q asked (answer.Marked safe stamp) p told are = finishes Aborts (record p { snapshot = option_map (with_mark safe stamp) p.snapshot }) (record { over = are.over; now = are.now })
   hears q asked (answer.Sealed stamp) p told are = record { over = are.over; now = mapped (with_seal stamp) (λ t. refl) p.current are.now }
   hears q asked (answer.Committed stamp succ pred) p told are = finishes (Commits stamp succ pred) p are
   hears q asked (answer.Excluded stamp succ pred) p told are = finishes (Excludes (Some stamp) succ pred) p are
@@ -94,6 +95,7 @@ module _ (P : ℕ → Type 0) where
   closes Active answer.Aborted fits = tt
   closes Sealed (answer.Committed stamp succ pred) fits = tt
   closes Sealed (answer.Excluded stamp succ pred) fits = tt
+  closes Sealed (answer.Marked safe stamp) fits = tt
   closes Pending answer.Aborted fits = tt
   closes Safe answer.Aborted fits = tt
   closes phase a fits = absurd fits
@@ -117,6 +119,7 @@ module _ (P : ℕ → Type 0) where
 one_draw : (c : Command) → draws_of c ≤ 1
 one_draw command.Seal = omega arith
 one_draw command.Commit = omega arith
+one_draw command.Mark = omega arith
 one_draw c = omega arith
 
 few_draws : (n : ℕ) (script : List ScriptLine) → total_of draws_of (take n script) ≤ length script

@@ -1,5 +1,5 @@
 -- Where moves at the end close a session, and what the history has from then on.
-use Rattle.std.proofs.Common.{inl, inr, ◌≡◌, ◌≢◌, ℕ, ◌<◌, ◌≤◌, Bool, if◌then◌else◌, List, [], ◌∷◌, Some, None, refl, sym, ap, ◌∙◌, subst, arith}
+use Rattle.std.proofs.Common.{inl, inr, ◌≡◌, ◌≢◌, ℕ, ◌<◌, ◌≤◌, Bool, if◌then◌else◌, List, [], ◌∷◌, Some, None, refl, sym, ap, ◌∙◌, subst, arith, false}
 use Rattle.std.specs.Prelude.{◌⊎◌}
 use Rattle.std.specs.List.{All}
 use Rattle.std.proofs.lemmas.Bool.{eq-eqb, ne_eqb}
@@ -30,6 +30,7 @@ pub record WasSealed (v : View) (r : TransactionRecord) : Type 0 where
   pub seat : ℕ
   pub session : IsSession v seat
   pub work : Work
+  pub plain : work.is_mark ≡ false
   pub stand : (v.session seat).stand ≡ world.sealed work r.stamp
   pub is : r ≡ record_of seat work r.stamp r.succ r.pred
 
@@ -38,15 +39,16 @@ pub record EndsAs (v : View) (seat : ℕ) (t : View) : Type 0 where
   pub work : Work
   pub fate : Fate
   pub done : IsDone v seat work fate t
+  pub plain : (stamp succ pred : ℕ) → fate ≡ world.commits stamp succ pred → work.is_mark ≡ false
   pub sealed : (stamp succ pred : ℕ) → fate ≡ world.commits stamp succ pred → (v.session seat).stand ≡ world.sealed work stamp
 
 settled_as : (v t : View) (seat : ℕ) (o : Outcome) → DidSettle v seat o t → EndsAs v seat t
-settled_as v t seat (outcome.Committed r) (w, stamp, stands, ready, did) = record { work = w; fate = world.commits stamp r.succ r.pred; done = did.0; sealed = λ s a b is. let same : stamp ≡ s = cc in subst (λ (n : ℕ). (v.session seat).stand ≡ world.sealed w n) same stands }
-settled_as v t seat (outcome.Excluded at succ pred) (w, stamp, stands, ready, did) = record { work = w; fate = world.excluded stamp succ pred; done = did.0; sealed = λ s a b is. absurd (let no : world.excluded stamp succ pred ≡ world.commits s a b = is in cc) }
-settled_as v t seat (outcome.Marked at safe) (w, stamp, stands, ready, did) = record { work = w; fate = world.marked stamp w.begin; done = did.0; sealed = λ s a b is. absurd (let no : world.marked stamp w.begin ≡ world.commits s a b = is in cc) }
+settled_as v t seat (outcome.Committed r) (w, stamp, stands, ready, did) = record { work = w; fate = world.commits stamp r.succ r.pred; done = did.0; plain = λ s a b is. did.1; sealed = λ s a b is. let same : stamp ≡ s = cc in subst (λ (n : ℕ). (v.session seat).stand ≡ world.sealed w n) same stands }
+settled_as v t seat (outcome.Excluded at succ pred) (w, stamp, stands, ready, did) = record { work = w; fate = world.excluded stamp succ pred; done = did.0; plain = λ s a b is. did.1; sealed = λ s a b is. absurd (let no : world.excluded stamp succ pred ≡ world.commits s a b = is in cc) }
+settled_as v t seat (outcome.Marked at safe) (w, stamp, stands, ready, did) = record { work = w; fate = world.marked stamp w.begin; done = did.0; plain = λ s a b is. absurd (let no : world.marked stamp w.begin ≡ world.commits s a b = is in cc); sealed = λ s a b is. absurd (let no : world.marked stamp w.begin ≡ world.commits s a b = is in cc) }
 
 aborted_as : (v t : View) (seat : ℕ) → DidAbort v seat t → EndsAs v seat t
-aborted_as v t seat did = record { work = work_at v seat; fate = world.aborts; done = did; sealed = λ s succ pred is. absurd (let no : world.aborts ≡ world.commits s succ pred = is in cc) }
+aborted_as v t seat did = record { work = work_at v seat; fate = world.aborts; done = did; plain = λ s succ pred is. absurd (let no : world.aborts ≡ world.commits s succ pred = is in cc); sealed = λ s succ pred is. absurd (let no : world.aborts ≡ world.commits s succ pred = is in cc) }
 
 pub ends_as : (v t : View) (seat : ℕ) (a : Answer) → DidEnd v seat a t → EndsAs v seat t
 ends_as v t seat a e = by_phase (phase_at v seat) a e.fits e.did
@@ -115,6 +117,7 @@ end_older v t seat a did r within = elim (is_or of.seat seat) [
       seat = of.seat;
       session = session_back v t of.seat opening of.session;
       work = of.work;
+      plain = ap (λ (w : Work). w.is_mark) work ∙ e.plain of.stamp of.succ of.pred fate;
       stand = subst (λ (n : ℕ). (v.session of.seat).stand ≡ world.sealed of.work n) (sym stamp_is)
           (subst (λ (q : ℕ). (v.session q).stand ≡ world.sealed of.work of.stamp) (sym own)
           (subst (λ (w : Work). (v.session seat).stand ≡ world.sealed w of.stamp) (sym work) (e.sealed of.stamp of.succ of.pred fate)));
@@ -144,6 +147,7 @@ older (close seat a ∷ moves) v t last (y, did, holds, rest) r within = elim (o
         seat = was.seat;
         session = session_back v y was.seat leaves.opening was.session;
         work = was.work;
+        plain = was.plain;
         stand = subst (λ (s : Session). s.stand ≡ world.sealed was.work r.stamp) (leaves.others was.seat another) was.stand;
         is = was.is;
       })
@@ -156,6 +160,7 @@ older (flush ∷ moves) v t last (y, did, holds, rest) r within = elim (older mo
         seat = was.seat;
         session = session;
         work = was.work;
+        plain = was.plain;
         stand = subst (λ (s : Session). s.stand ≡ world.sealed was.work r.stamp) (did.session was.seat session) was.stand;
         is = was.is;
       })

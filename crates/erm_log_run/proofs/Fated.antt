@@ -1,5 +1,5 @@
 -- What becomes of sealed transactions, by the stamps of those below them.
-use Rattle.std.proofs.Common.{inl, inr, ◌≡◌, ℕ, ◌<◌, ◌≤◌, List, [], ◌∷◌, Some, refl, sym, ap, ◌∙◌, subst, arith}
+use Rattle.std.proofs.Common.{inl, inr, ◌≡◌, ℕ, ◌<◌, ◌≤◌, List, [], ◌∷◌, Some, refl, sym, ap, ◌∙◌, subst, arith, true, false}
 use Rattle.std.specs.Prelude.{◌⊎◌}
 use Rattle.std.specs.List.{All, slice_get}
 use Rattle.erm_model.specs.declared.history.TransactionRecord.{TransactionRecord}
@@ -31,9 +31,13 @@ pub record Fated (h : History) (seat : ℕ) (w : Work) (stamp : ℕ) (a : Answer
   pub high : IsPredecessorStamp h pred (record_of seat w stamp succ pred)
   pub fate : ((a ≡ answer.Committed stamp succ pred) × (pred < succ) × (record_of seat w stamp succ pred ∈ h)) ⊎ ((a ≡ answer.Excluded stamp succ pred) × (succ ≤ pred))
 
+-- so is one that is no mark; and a mark is marked
+abbrev pub IsFated : History → ℕ → Work → ℕ → Answer → Type 0
+IsFated h seat w stamp a = (Fated h seat w stamp a × (w.is_mark ≡ false)) ⊎ ((a ≡ answer.Marked w.begin stamp) × (w.is_mark ≡ true))
+
 -- ONE DECISION.
 committed_fated : (v t : View) (seat : ℕ) (stamp succ pred : ℕ) (w : Work) (own : ℕ) → IsSession v seat → (v.session seat).stand ≡ world.sealed w own → DidDecide v seat (answer.Committed stamp succ pred) t
-    → AreReady v seat w own × Fated (history_of t) seat w own (answer.Committed stamp succ pred)
+    → AreReady v seat w own × IsFated (history_of t) seat w own (answer.Committed stamp succ pred)
 committed_fated v t seat stamp succ pred w own session stand (r, stamp_is, succ_is, pred_is, (u, s, stands, ready, did)) =
     let work : u ≡ w = cc in
     let at : s ≡ own = cc in
@@ -41,16 +45,16 @@ committed_fated v t seat stamp succ pred w own session stand (r, stamp_is, succ_
     let here : record { work = u; fate = world.commits s r.succ r.pred } ∈ (t.session seat).over = subst (λ (x : Session). record { work = u; fate = world.commits s r.succ r.pred } ∈ x.over) (sym done.own)
     (∈-second (v.session seat).over (record { work = u; fate = world.commits s r.succ r.pred } ∷ []) _ (∈-head _ []))
     in
-    let all : AreReady v seat u s × Fated (history_of t) seat u s (answer.Committed stamp succ pred) = (
+    let all : AreReady v seat u s × IsFated (history_of t) seat u s (answer.Committed stamp succ pred) = (
       ready,
-      record {
+      inl (record {
         succ = r.succ;
         pred = r.pred;
-        low = did.4;
-        high = did.5;
+        low = did.5;
+        high = did.6;
         fate = inl (
-          ap (λ (n : ℕ). answer.Committed n succ pred) (sym stamp_is ∙ did.2) ∙ ap (λ (n : ℕ). answer.Committed s n pred) (sym succ_is) ∙ ap (answer.Committed s r.succ) (sym pred_is),
-          did.6,
+          ap (λ (n : ℕ). answer.Committed n succ pred) (sym stamp_is ∙ did.3) ∙ ap (λ (n : ℕ). answer.Committed s n pred) (sym succ_is) ∙ ap (answer.Committed s r.succ) (sym pred_is),
+          did.7,
           (tells_commits t).each (record_of seat u s r.succ r.pred) (record {
             seat = seat;
             session = subst (λ (o : Opening). (0 < seat) × (seat ≤ o.sessions)) (sym done.opening) session;
@@ -62,37 +66,50 @@ committed_fated v t seat stamp succ pred w own session stand (r, stamp_is, succ_
             is = refl;
           }),
         );
-      },
+      }, did.1),
     ) in
-    subst (λ (x : Work). AreReady v seat x own × Fated (history_of t) seat x own (answer.Committed stamp succ pred)) work
-    (subst (λ (n : ℕ). AreReady v seat u n × Fated (history_of t) seat u n (answer.Committed stamp succ pred)) at all)
+    subst (λ (x : Work). AreReady v seat x own × IsFated (history_of t) seat x own (answer.Committed stamp succ pred)) work
+    (subst (λ (n : ℕ). AreReady v seat u n × IsFated (history_of t) seat u n (answer.Committed stamp succ pred)) at all)
 
 excluded_fated : (v t : View) (seat : ℕ) (stamp succ pred : ℕ) (w : Work) (own : ℕ) → (v.session seat).stand ≡ world.sealed w own → DidDecide v seat (answer.Excluded stamp succ pred) t
-    → AreReady v seat w own × Fated (history_of t) seat w own (answer.Excluded stamp succ pred)
+    → AreReady v seat w own × IsFated (history_of t) seat w own (answer.Excluded stamp succ pred)
 excluded_fated v t seat stamp succ pred w own stand (u, s, stands, ready, did) =
     let work : u ≡ w = cc in
     let at : s ≡ own = cc in
-    let all : AreReady v seat u s × Fated (history_of t) seat u s (answer.Excluded stamp succ pred) = (
+    let all : AreReady v seat u s × IsFated (history_of t) seat u s (answer.Excluded stamp succ pred) = (
       ready,
-      record {
+      inl (record {
         succ = succ;
         pred = pred;
-        low = did.2;
-        high = did.3;
-        fate = inr (ap (λ (n : ℕ). answer.Excluded n succ pred) did.1, did.4);
-      },
+        low = did.3;
+        high = did.4;
+        fate = inr (ap (λ (n : ℕ). answer.Excluded n succ pred) did.2, did.5);
+      }, did.1),
     ) in
-    subst (λ (x : Work). AreReady v seat x own × Fated (history_of t) seat x own (answer.Excluded stamp succ pred)) work
-    (subst (λ (n : ℕ). AreReady v seat u n × Fated (history_of t) seat u n (answer.Excluded stamp succ pred)) at all)
+    subst (λ (x : Work). AreReady v seat x own × IsFated (history_of t) seat x own (answer.Excluded stamp succ pred)) work
+    (subst (λ (n : ℕ). AreReady v seat u n × IsFated (history_of t) seat u n (answer.Excluded stamp succ pred)) at all)
 
-decided : (v t : View) (seat : ℕ) (a : Answer) (w : Work) (own : ℕ) → DidEnd v seat a t → (v.session seat).stand ≡ world.sealed w own → AreReady v seat w own × Fated (history_of t) seat w own a
+marked_fated : (v t : View) (seat : ℕ) (safe stamp : ℕ) (w : Work) (own : ℕ) → (v.session seat).stand ≡ world.sealed w own → DidDecide v seat (answer.Marked safe stamp) t
+    → AreReady v seat w own × IsFated (history_of t) seat w own (answer.Marked safe stamp)
+marked_fated v t seat safe stamp w own stand (u, s, stands, ready, did) =
+    let work : u ≡ w = cc in
+    let at : s ≡ own = cc in
+    let all : AreReady v seat u s × IsFated (history_of t) seat u s (answer.Marked safe stamp) = (
+      ready,
+      inr (ap (λ (n : ℕ). answer.Marked n stamp) did.3 ∙ ap (λ (n : ℕ). answer.Marked u.begin n) did.2, did.1),
+    ) in
+    subst (λ (x : Work). AreReady v seat x own × IsFated (history_of t) seat x own (answer.Marked safe stamp)) work
+    (subst (λ (n : ℕ). AreReady v seat u n × IsFated (history_of t) seat u n (answer.Marked safe stamp)) at all)
+
+decided : (v t : View) (seat : ℕ) (a : Answer) (w : Work) (own : ℕ) → DidEnd v seat a t → (v.session seat).stand ≡ world.sealed w own → AreReady v seat w own × IsFated (history_of t) seat w own a
 decided v t seat a w own e stand = by_phase (phase_at v seat) (ap phase_of stand) a e.fits e.did
   where
-    by_phase : (p : Phase) → p ≡ Sealed → (b : Answer) → Closes p b → DidClose p v seat b t → AreReady v seat w own × Fated (history_of t) seat w own b
+    by_phase : (p : Phase) → p ≡ Sealed → (b : Answer) → Closes p b → DidClose p v seat b t → AreReady v seat w own × IsFated (history_of t) seat w own b
     by_phase Idle is b fits did = absurd did
     by_phase Active is b fits did = absurd (cc)
     by_phase Sealed is (answer.Committed stamp succ pred) fits did = committed_fated v t seat stamp succ pred w own e.session stand did
     by_phase Sealed is (answer.Excluded stamp succ pred) fits did = excluded_fated v t seat stamp succ pred w own stand did
+    by_phase Sealed is (answer.Marked safe stamp) fits did = marked_fated v t seat safe stamp w own stand did
     by_phase Sealed is b fits did = absurd fits
     by_phase Pending is b fits did = absurd (cc)
     by_phase Safe is b fits did = absurd (cc)
@@ -203,8 +220,11 @@ module _ (x y t : View) (seat : ℕ) (a : Answer) (rest : List Move) (holds : Is
   }
 
 -- what becomes of a transaction that was sealed, where all are closed
-pub fated : (moves : List Move) (v t : View) (seat : ℕ) (w : Work) (stamp : ℕ) (c : ClosedAt moves v t seat) → (v.session seat).stand ≡ world.sealed w stamp → Fated (history_of t) seat w stamp c.answer
+pub fated : (moves : List Move) (v t : View) (seat : ℕ) (w : Work) (stamp : ℕ) (c : ClosedAt moves v t seat) → (v.session seat).stand ≡ world.sealed w stamp → IsFated (history_of t) seat w stamp c.answer
 fated moves v t seat w stamp c stand =
     let here : (c.at.session seat).stand ≡ world.sealed w stamp = ap (λ (s : Session). s.stand) c.same ∙ stand in
     let did = decided c.at c.next seat c.answer w stamp c.did here in
-    still c.at c.next t seat c.answer c.rest c.holds c.did c.next_holds c.last c.run w stamp here did.0 did.1
+    elim did.1 as (λ _. IsFated (history_of t) seat w stamp c.answer) [
+      | inl (f, plain) ↦ inl (still c.at c.next t seat c.answer c.rest c.holds c.did c.next_holds c.last c.run w stamp here did.0 f, plain)
+      | inr marks ↦ inr marks
+    ]

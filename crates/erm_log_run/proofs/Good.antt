@@ -15,13 +15,13 @@ use Rattle.erm_report.specs.Printable.{FitsTypes}
 use Rattle.erm_script.specs.declared.script.ScriptLine.{ScriptLine}
 use Rattle.erm_script.specs.Script.{IsInRange}
 use Rattle.erm_world.specs.World.{IsSession, View, phase_at}
-use Rattle.erm_good_report.specs.GoodReport.{HaveTightWindows, IsCutReport, IsGoodReport, IsTightReport, OwesToAnswers, places_of, serial_of}
+use Rattle.erm_good_report.specs.GoodReport.{HaveTightWindows, IsCutReport, IsGoodReport, IsTightReport, OwesToAnswers, places_of, serial_of, MarksOwe}
 use Rattle.erm_good_report.specs.Opening.{InTurn, Opening}
 use Rattle.erm_good_report.specs.Phases.{Closed, ClosesAgree, phase_of}
 use Rattle.erm_good_report.specs.Transactions.{Transaction, history_of, said_of, transactions_of}
 use Rattle.erm_good_report.proofs.Placed.{serial_differs}
 use Rattle.erm_lines.specs.Executions.{AreClosed, IsExecution, IsOpened, IsOpeningOf, IsPart, IsRun, line_moves}
-use Rattle.erm_lines.specs.Laws.{PartsHaveCauses, PartsHavePhases, PartsHaveSafeSnapshots, PartsHaveSnapshots, PartsHaveStamps, PartsRefuseWithCause, RunsAreSerialWithSnapshots, RunsCloseSessions, RunsHaveCauses, RunsHavePhases, RunsHaveSafeSnapshots, RunsHaveSnapshots, RunsHaveStamps, RunsHaveTightWindows, RunsRefuseWithCause}
+use Rattle.erm_lines.specs.Laws.{PartsHaveCauses, PartsHavePhases, PartsHaveSafeSnapshots, PartsHaveSnapshots, PartsHaveStamps, PartsRefuseWithCause, RunsAreSerialWithSnapshots, RunsCloseSessions, RunsHaveCauses, RunsHavePhases, RunsHaveSafeSnapshots, RunsHaveSnapshots, RunsHaveStamps, RunsHaveTightWindows, RunsRefuseWithCause, RunsHaveMarks, PartsHaveMarks}
 use Rattle.erm_summary.specs.Summary.{SummariesAreGood, Summarizes}
 use Rattle.erm_log_run.specs.Closing.{IsClosing}
 use Rattle.erm_log_run.specs.Runs.{IsCutReportOf, IsReportOf, WasCut, WasRun}
@@ -58,6 +58,7 @@ pub record RunLaws : Type 0 where
   pub stamps : RunsHaveStamps
   pub snapshots : RunsHaveSnapshots
   pub safe : RunsHaveSafeSnapshots
+  pub marks : RunsHaveMarks
   pub serial : RunsAreSerialWithSnapshots
   pub orders : OrdersExist
   pub causes : RunsHaveCauses
@@ -110,6 +111,7 @@ module _ (laws : RunLaws) (v t : View) (script : List ScriptLine) (answers : Lis
         laws.summaries InTurn opening names script answers closed lines sums fits run.each
         (subst (λ (n : ℕ). ClosesAgree n (said_of script answers) closed) many closes)
         (subst (λ (n : ℕ). OwesToAnswers InTurn opening script answers (transactions_of n (places_of script answers closed))) many owes)
+        (subst (λ (n : ℕ). MarksOwe InTurn opening n script answers closed) many (laws.marks v t script answers run closed opening are of))
         (subst (λ (n : ℕ). StampsDiffer rank_of (serial_of n (places_of script answers closed))) many all_differ)
         (λ order is. runs_placed order (subst (λ (n : ℕ). IsSerialOrder rank_of (serial_of n (places_of script answers closed)) order) (sym many) is))
 
@@ -141,6 +143,7 @@ pub record CutLaws : Type 0 where
   pub stamps : PartsHaveStamps
   pub snapshots : PartsHaveSnapshots
   pub safe : PartsHaveSafeSnapshots
+  pub marks : PartsHaveMarks
   pub causes : PartsHaveCauses
   pub refusals : PartsRefuseWithCause
 

@@ -14,7 +14,7 @@ use Rattle.erm_script.specs.declared.script.ScriptLine.{ScriptLine}
 use Rattle.erm_good_report.specs.GoodReport.{places_of}
 use Rattle.erm_good_report.specs.Phases.{Closed, Closes}
 use Rattle.erm_told.proofs.Closing.{close_said}
-use Rattle.erm_good_report.specs.Transactions.{Aborts, Commits, Ending, Excludes, Progress, Said, Snapshot, Transaction, ended, heard, next_number, nothing, own_snapshot, progress_of, said_of, snapshot_after, with_end, with_ending, with_line, with_look, with_seal}
+use Rattle.erm_good_report.specs.Transactions.{Aborts, Commits, Ending, Excludes, Progress, Said, Snapshot, Transaction, ended, heard, next_number, nothing, own_snapshot, progress_of, said_of, snapshot_after, with_end, with_ending, with_line, with_look, with_seal, with_mark}
 
 -- how many numbers a session has taken
 abbrev taken : Progress → ℕ
@@ -58,6 +58,9 @@ hears q asked (answer.Owned seat number) p = ends p.over _ p.snapshots _ (taken 
 hears q asked (answer.Newer stamp) p = ends p.over _ p.snapshots _ (taken p + 1) (refused_taken Aborts asked (answer.Newer stamp) p)
 hears q asked (answer.Unsafe seat stamp) p =
     ends p.over (option_map (with_ending Aborts) p.current) p.snapshots (Some (own_snapshot p)) (taken p + 1) (omega (arith, mapped (with_ending Aborts) p.current))
+hears q asked (answer.Marked safe stamp) p =
+    ends p.over (option_map (with_ending Aborts) p.current) p.snapshots (option_map (with_mark safe stamp) p.snapshot) (taken p + 1)
+    (omega (arith, mapped (with_ending Aborts) p.current, mapped (with_mark safe stamp) p.snapshot))
 hears q asked answer.Aborted p = omega (arith, ended_taken Aborts p)
 hears q asked answer.Ended p =
     ends p.over (option_map (with_ending Aborts) p.current) p.snapshots (option_map with_end p.snapshot) (taken p + 1)
@@ -93,6 +96,9 @@ closes : (q : ℕ) (phase : Phase) (a : Answer) (p : Progress) → Closes phase 
 closes q Active answer.Aborted p fits = ended_taken Aborts p
 closes q Sealed (answer.Committed stamp succ pred) p fits = ended_taken (Commits stamp succ pred) p
 closes q Sealed (answer.Excluded stamp succ pred) p fits = ended_taken (Excludes (Some stamp) succ pred) p
+closes q Sealed (answer.Marked safe stamp) p fits =
+    ends p.over (option_map (with_ending Aborts) p.current) p.snapshots (option_map (with_mark safe stamp) p.snapshot) (taken p)
+    (omega (arith, mapped (with_ending Aborts) p.current, mapped (with_mark safe stamp) p.snapshot))
 closes q Pending answer.Aborted p fits = ended_taken Aborts p
 closes q Safe answer.Aborted p fits = ended_taken Aborts p
 closes q phase a p fits = absurd fits
