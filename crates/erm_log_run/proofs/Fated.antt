@@ -47,26 +47,29 @@ committed_fated v t seat stamp succ pred w own session stand (r, stamp_is, succ_
     in
     let all : AreReady v seat u s × IsFated (history_of t) seat u s (answer.Committed stamp succ pred) = (
       ready,
-      inl (record {
-        succ = r.succ;
-        pred = r.pred;
-        low = did.5;
-        high = did.6;
-        fate = inl (
-          ap (λ (n : ℕ). answer.Committed n succ pred) (sym stamp_is ∙ did.3) ∙ ap (λ (n : ℕ). answer.Committed s n pred) (sym succ_is) ∙ ap (answer.Committed s r.succ) (sym pred_is),
-          did.7,
-          (tells_commits t).each (record_of seat u s r.succ r.pred) (record {
-            seat = seat;
-            session = subst (λ (o : Opening). (0 < seat) × (seat ≤ o.sessions)) (sym done.opening) session;
-            work = u;
-            stamp = s;
-            succ = r.succ;
-            pred = r.pred;
-            over = here;
-            is = refl;
-          }),
-        );
-      }, did.1),
+      inl (
+        record {
+          succ = r.succ;
+          pred = r.pred;
+          low = did.5;
+          high = did.6;
+          fate = inl (
+            ap (λ (n : ℕ). answer.Committed n succ pred) (sym stamp_is ∙ did.3) ∙ ap (λ (n : ℕ). answer.Committed s n pred) (sym succ_is) ∙ ap (answer.Committed s r.succ) (sym pred_is),
+            did.7,
+            (tells_commits t).each (record_of seat u s r.succ r.pred) (record {
+              seat = seat;
+              session = subst (λ (o : Opening). (0 < seat) × (seat ≤ o.sessions)) (sym done.opening) session;
+              work = u;
+              stamp = s;
+              succ = r.succ;
+              pred = r.pred;
+              over = here;
+              is = refl;
+            }),
+          );
+        },
+        did.1,
+      ),
     ) in
     subst (λ (x : Work). AreReady v seat x own × IsFated (history_of t) seat x own (answer.Committed stamp succ pred)) work
     (subst (λ (n : ℕ). AreReady v seat u n × IsFated (history_of t) seat u n (answer.Committed stamp succ pred)) at all)
@@ -78,13 +81,16 @@ excluded_fated v t seat stamp succ pred w own stand (u, s, stands, ready, did) =
     let at : s ≡ own = cc in
     let all : AreReady v seat u s × IsFated (history_of t) seat u s (answer.Excluded stamp succ pred) = (
       ready,
-      inl (record {
-        succ = succ;
-        pred = pred;
-        low = did.3;
-        high = did.4;
-        fate = inr (ap (λ (n : ℕ). answer.Excluded n succ pred) did.2, did.5);
-      }, did.1),
+      inl (
+        record {
+          succ = succ;
+          pred = pred;
+          low = did.3;
+          high = did.4;
+          fate = inr (ap (λ (n : ℕ). answer.Excluded n succ pred) did.2, did.5);
+        },
+        did.1,
+      ),
     ) in
     subst (λ (x : Work). AreReady v seat x own × IsFated (history_of t) seat x own (answer.Excluded stamp succ pred)) work
     (subst (λ (n : ℕ). AreReady v seat u n × IsFated (history_of t) seat u n (answer.Excluded stamp succ pred)) at all)

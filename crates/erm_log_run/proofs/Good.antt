@@ -180,4 +180,5 @@ told_cut laws v t script opening of names many lines was fits = record { cut = c
       once = λ i j d below within. absurd (omega (arith, within));
       unseen = λ c within. absurd (none_in_nil c within);
       owes = subst (λ (n : ℕ). OwesToAnswers InTurn opening script was.answers (transactions_of n (places_of script was.answers []))) many owes;
+      marks = subst (λ (n : ℕ). MarksOwe InTurn opening n script was.answers []) many (laws.marks v between script was.answers part opening of);
     }

@@ -152,6 +152,7 @@ pub fn run_script<W: ScriptWorld, D: Disk>(
     erm_told::runs_have_stamps();
     erm_told_order::runs_have_snapshots();
     erm_causes::runs_have_safe_snapshots();
+    erm_causes::runs_have_marks();
     erm_causes::runs_are_serial_with_snapshots();
     erm_core_ssn::serial_order_is_unique();
     erm_causes::runs_have_causes();
@@ -161,6 +162,7 @@ pub fn run_script<W: ScriptWorld, D: Disk>(
     erm_told::parts_have_stamps();
     erm_told_order::parts_have_snapshots();
     erm_causes::parts_have_safe_snapshots();
+    erm_causes::parts_have_marks();
     erm_causes::parts_have_causes();
     erm_causes::parts_refuse_with_cause();
     erm_summary::summaries_are_good();

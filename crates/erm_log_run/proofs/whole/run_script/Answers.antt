@@ -108,6 +108,7 @@ returns-in-Ok g c =
       stamps = c.runs_have_stamps.ensures;
       snapshots = c.runs_have_snapshots.ensures;
       safe = c.runs_have_safe_snapshots.ensures;
+      marks = c.runs_have_marks.ensures;
       serial = c.runs_are_serial_with_snapshots.ensures;
       orders = c.serial_order_is_unique.ensures.exists_for_sessions;
       causes = c.runs_have_causes.ensures;
@@ -184,6 +185,7 @@ returns-in-Err-DiskFault g c =
       stamps = c.parts_have_stamps.ensures;
       snapshots = c.parts_have_snapshots.ensures;
       safe = c.parts_have_safe_snapshots.ensures;
+      marks = c.parts_have_marks.ensures;
       causes = c.parts_have_causes.ensures;
       refusals = c.parts_refuse_with_cause.ensures;
     } in
