@@ -92,8 +92,8 @@ alone_break = (
           (
             breaks_alone _ refl (omega arith) tt refl (record { each = refl; fits = λ c (k, at). cc }) refl (λ refusals. let log = (refusals.each 0 _ _ refl refl).log in let place : 14 ≡ 13 = log.0 in omega (arith, place)),
             (
-              breaks_alone _ refl (omega arith) tt refl (record { each = refl; fits = λ c (k, at). cc }) refl (λ refusals. let cause = (refusals.each 0 _ _ refl refl).unfilled in nobody_open _ cause.1),
-              (breaks_alone _ refl (omega arith) tt refl (record { each = refl; fits = λ c (k, at). cc }) refl (λ refusals. let cause = (refusals.each 0 _ _ refl refl).unfilled in nobody_open _ cause.1), tt),
+              breaks_alone _ refl (omega arith) tt refl (record { each = refl; fits = λ c (k, at). cc }) refl (λ refusals. let cause = (refusals.each 0 _ _ refl refl).unfilled in nobody_open (record { asked = command.Flush; answer = answer.Unfilled 13 }) cause.1),
+              (breaks_alone _ refl (omega arith) tt refl (record { each = refl; fits = λ c (k, at). cc }) refl (λ refusals. let cause = (refusals.each 0 _ _ refl refl).unfilled in nobody_open (record { asked = command.Checkpoint; answer = answer.Unfilled 13 }) cause.1), tt),
             ),
           ),
         ),
