@@ -59,7 +59,7 @@ kept_decides t x opens kept is =
     by false = refl
 
 -- so it may be decided
-pub may_be_decided : (s : Session) (t : Pre) (v : View) (succ pred : ℕ) (known : IsKnown v) → IsSession s (part_of v s.seat) → s.stage ≡ stage.Sealed t → IsReady v s.seat succ pred
+may_be_decided : (s : Session) (t : Pre) (v : View) (succ pred : ℕ) (known : IsKnown v) → IsSession s (part_of v s.seat) → s.stage ≡ stage.Sealed t → IsReady v s.seat succ pred
     → LEAST_SAFE ≤ (part_of v s.seat).current.begin → MayBeDecided s.seat s.run s.number t s.rows_claimed.items (kept_decision t (ltb pred succ)) (part_of v s.seat)
 may_be_decided s t v succ pred known stands at ready begins =
     let x = part_of v s.seat in
@@ -164,12 +164,12 @@ went_session s t u v w stands at went now =
 
 -- Of a session's sealed transaction, whose settle has passed all versions.
 module _ (s : Session) (t : Pre) (v : View) (succ pred : ℕ) (known : IsKnown v) (stands : IsSession s (part_of v s.seat)) (at : s.stage ≡ stage.Sealed t) (ready : IsReady v s.seat succ pred)
-    (begins : LEAST_SAFE ≤ (part_of v s.seat).current.begin) where
-  abbrev how : Decision
-  how = kept_decision t (ltb pred succ)
+    (begins : LEAST_SAFE ≤ (part_of v s.seat).current.begin) (how : Decision) (decides : how ≡ kept_decision t (ltb pred succ)) where
+  kept : MayBeDecided s.seat s.run s.number t s.rows_claimed.items (kept_decision t (ltb pred succ)) (part_of v s.seat)
+  kept = may_be_decided s t v succ pred known stands at ready begins
 
-  may : MayBeDecided s.seat s.run s.number t s.rows_claimed.items how (part_of v s.seat)
-  may = may_be_decided s t v succ pred known stands at ready begins
+  pub may : MayBeDecided s.seat s.run s.number t s.rows_claimed.items how (part_of v s.seat)
+  may = subst (λ (d : Decision). MayBeDecided s.seat s.run s.number t s.rows_claimed.items d (part_of v s.seat)) (sym decides) kept
 
   window : ltb pred succ ≡ ltb (part_of v s.seat).current.pred (part_of v s.seat).current.succ
   window = window_is v s.seat succ pred known (sealed_stage s t (part_of v s.seat) stands at).0 ready
@@ -209,8 +209,8 @@ module _ (s : Session) (t : Pre) (v : View) (succ pred : ℕ) (known : IsKnown v
       pub finished : (outcome : Outcome) → outcome ≡ kept_outcome n.number t (ltb pred succ) → Finishes v s.seat outcome w
       finished outcome is =
           did_finish v s.seat s.run n.number t s.rows_claimed.items (ltb pred succ)
-          (subst (λ (q : ℕ). MayBeDecided s.seat s.run q t s.rows_claimed.items how (part_of v s.seat)) (sym number) may) window
-          u stored may_leave_own.decision_is w ends outcome is
+          (subst (λ (q : ℕ). MayBeDecided s.seat s.run q t s.rows_claimed.items (kept_decision t (ltb pred succ)) (part_of v s.seat)) (sym number) kept) window
+          u stored (may_leave_own.decision_is ∙ decides) w (subst (λ (d : Decision). EndsAs d u s.seat w) decides ends) outcome is
 
       pub stands_idle : (room : Room) → st ≡ stage.Idle → SpareIs n.spare (part_of w a.seat) → vec_capacity n.rows_read ≡ vec_capacity a.rows_read
           → vec_capacity n.rows_claimed ≡ vec_capacity a.rows_claimed → length a.block.items ≡ BLOCK_WORDS → n.rows_read.items ≡ [] → n.rows_claimed.items ≡ []

@@ -1,10 +1,12 @@
 -- The end of a decided transaction, and what its session keeps then.
-use Rattle.std.proofs.Common.{◌≡◌, ℕ, true, false, List, [], length, map, Some, refl, sym, ap, ◌∙◌, subst}
+use Rattle.std.proofs.Common.{◌≡◌, ℕ, Bool, true, false, ◌&&◌, List, [], length, map, Some, refl, sym, ap, ◌∙◌, subst}
 use Rattle.std.specs.Prelude.{◌≤◌, vec_capacity}
 use Rattle.erm_block.specs.declared.block.TheConstants.{BLOCK_WORDS}
 use Rattle.erm_cells.specs.Spare.{SpareIs}
 use Rattle.erm_ends.specs.Commits.{DidCommit, installed_all, with_back}
-use Rattle.erm_ends.specs.Ends.{left_part, released_all}
+use Rattle.erm_core_blocks.specs.Spelled.{HasBlock}
+use Rattle.erm_ends.specs.Ends.{DidSkip, MaySkip, left_part, released_all}
+use Rattle.erm_ends.specs.Took.{TookSkip}
 use Rattle.erm_machine.specs.declared.attempt.Attempt.{Attempt}
 use Rattle.erm_machine.specs.declared.attempt.Claim.{Claim}
 use Rattle.erm_machine.specs.declared.attempt.Decision.{Decision}
@@ -15,10 +17,13 @@ use Rattle.erm_machine.specs.declared.part.Part.{Part}
 use Rattle.erm_machine.specs.declared.place.Place.{Place}
 use Rattle.erm_machine.specs.declared.place.Place.TheVariants.{Decided, Idle}
 use Rattle.erm_machine.specs.Core.{blank}
-use Rattle.erm_machine.specs.Seat.{is_decided, is_vacant}
+use Rattle.erm_machine.specs.Seat.{is_commit, is_decided, is_vacant}
 use Rattle.erm_machine.specs.Words.{is_session}
 use Rattle.erm_model.specs.declared.limits.TheConstants.{LAST_RUN}
 use Rattle.erm_model.specs.declared.outcome.Phase.TheVariants as phase
+use Rattle.erm_model.specs.RowTransaction.{Law}
+use Rattle.erm_precommit.specs.declared.pre.Pre.{Pre}
+use Rattle.erm_rule.specs.declared.view.Book.{Book}
 use Rattle.erm_rule.specs.declared.view.View.{View}
 use Rattle.erm_rule.specs.Hands.{IsKnown}
 use Rattle.erm_rule.specs.Views.{part_in, part_of}
@@ -27,7 +32,8 @@ use Rattle.erm_session.specs.declared.session.Session.{Session}
 use Rattle.erm_session.specs.declared.session.Stage.{Stage}
 use Rattle.erm_session.specs.declared.session.Stage.TheVariants as stage
 use Rattle.erm_session.specs.Session.{HasRoom, IsSession, StageIs, phase_of}
-use Rattle.erm_session.specs.Settle.{EndsAs}
+use Rattle.erm_session.specs.Settle.{EndsAs, MayEnd}
+use Rattle.erm_session.specs.Took.{TookDecided}
 use Rattle.erm_session.proofs.Goes.{open_idle}
 use Rattle.erm_session.proofs.Saved.{has_idle}
 
@@ -51,6 +57,16 @@ pub record Leaves (v : View) (who : ℕ) (w : View) : Type 0 where
   pub left : HasLeft (part_of v who) (part_of w who)
   pub known : IsKnown w
 
+-- one that was excluded and a mark leave alike
+leaves_skip : (v : View) (who : ℕ) (w : View) → is_decided (part_of v who).place ≡ true → EndsAs Skip v who w → Leaves v who w
+leaves_skip v who w decided did =
+    let x = part_of v who in
+    let y = left_part x.current.decision (released_all x) in
+    record {
+      left = subst (HasLeft x) (sym (part_of-changed v who w y x (decided_held v who decided) did.view_is)) (record { place = refl; run = refl; number = refl; current = refl });
+      known = did.known;
+    }
+
 pub leaves : (d : Decision) (v : View) (who : ℕ) (w : View) → is_decided (part_of v who).place ≡ true → EndsAs d v who w → Leaves v who w
 leaves Commit v who w decided did =
     let x = part_of v who in
@@ -59,15 +75,34 @@ leaves Commit v who w decided did =
       left = subst (HasLeft x) (sym (part_of-changed v who w y x (decided_held v who decided) did.view_is)) (record { place = refl; run = refl; number = refl; current = refl });
       known = did.known;
     }
-leaves Skip v who w decided did =
-    let x = part_of v who in
-    let y = left_part x.current.decision (released_all x) in
-    record {
-      left = subst (HasLeft x) (sym (part_of-changed v who w y x (decided_held v who decided) did.view_is)) (record { place = refl; run = refl; number = refl; current = refl });
-      known = did.known;
-    }
-leaves Mark v who w decided did = leaves Skip v who w decided did
+leaves Skip v who w decided did = leaves_skip v who w decided did
+leaves Mark v who w decided did = leaves_skip v who w decided did
 leaves _ v who w decided did = absurd did
+
+-- who has a block and is no commit, as one that was excluded and a mark, ends as an excluded one
+no_commit : (b : Bool) (d : Decision) → (d ≡ Commit → ⊥) → (b && is_commit d) ≡ false
+no_commit b Commit other = absurd (other refl)
+no_commit true _ other = refl
+no_commit false d other = refl
+
+pub may_skip : (seat : ℕ) (t : Pre) (spare : List ℕ) (d : Decision) (x : Part) → MayEnd seat t spare d x → (d ≡ Commit → ⊥) → MaySkip x
+may_skip seat t spare d x may other = record {
+  decided = may.decided;
+  excluded = ap (λ (e : Decision). is_decided x.place && is_commit e) may.decision_is ∙ no_commit (is_decided x.place) d other;
+  ends = may.ends;
+}
+
+pub ends_other : (d : Decision) (v : View) (who : ℕ) (w : View) → HasBlock d → (d ≡ Commit → ⊥) → DidSkip v who w → EndsAs d v who w
+ends_other Commit v who w has other did = absurd (other refl)
+ends_other Skip v who w has other did = did
+ends_other Mark v who w has other did = did
+ends_other _ v who w has other did = absurd has
+
+pub took_other : (d : Decision) (law : Law) (who : ℕ) (b e : Book) → HasBlock d → (d ≡ Commit → ⊥) → TookSkip law who b e → TookDecided d law who b e
+took_other Commit law who b e has other took = absurd (other refl)
+took_other Skip law who b e has other took = took
+took_other Mark law who b e has other took = took
+took_other _ law who b e has other took = absurd has
 
 -- a commit leaves the spare cells
 pub spare_stays : (v : View) (who : ℕ) (w : View) (cells : List ℕ) → is_decided (part_of v who).place ≡ true → DidCommit v who w → SpareIs cells (part_of v who) → SpareIs cells (part_of w who)

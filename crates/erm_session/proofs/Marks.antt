@@ -16,7 +16,6 @@ use Rattle.erm_machine.specs.Seat.{is_active, is_safe, may_seal}
 use Rattle.erm_machine.specs.Sound.{Sound}
 use Rattle.erm_machine.proofs.Backs.{DidNothing, safe_seals, safe_snapshot}
 use Rattle.erm_model.specs.declared.history.TransactionRecord.{TransactionRecord}
-use Rattle.erm_model.specs.declared.outcome.Phase.TheVariants as phase
 use Rattle.erm_model.specs.History.{OverwritesFrom, OverwritesReadOf, ReadsFrom}
 use Rattle.erm_model.specs.Member.{◌∈◌}
 use Rattle.erm_model.proofs.Members.{none_in_nil}
@@ -34,7 +33,7 @@ use Rattle.erm_session.specs.declared.session.Session.{Session}
 use Rattle.erm_session.specs.declared.session.Stage.{Stage}
 use Rattle.erm_session.specs.declared.session.Stage.TheVariants as stage
 use Rattle.erm_session.specs.Calls.{SealsRows}
-use Rattle.erm_session.specs.Session.{HasRoom, IsSession, StageIs, phase_of}
+use Rattle.erm_session.specs.Session.{IsSession, StageIs}
 use Rattle.erm_session.proofs.Snapshots.{rests_is_safe}
 use Rattle.erm_machine.specs.declared.attempt.Decision.TheVariants.{Undecided}
 use Rattle.erm_machine.specs.declared.attempt.Read.{Read}
@@ -43,15 +42,6 @@ use Rattle.erm_model.specs.declared.history.VersionWritten.{VersionWritten}
 use Rattle.erm_precommit.specs.declared.pre.KeptRead.{KeptRead}
 use Rattle.erm_precommit.specs.declared.pre.KeptClaim.{KeptClaim}
 use Rattle.erm_precommit.specs.Pre.{IsPre}
-
--- a session with a safe snapshot has room
-pub room_safe : (s : Stage) (room : Option Room) → phase_of s ≡ phase.Safe → HasRoom s room → room ≡ None → ⊥
-room_safe (stage.Safe begin) None e has none = has
-room_safe (stage.Safe begin) (Some room) e has none = absurd (cc)
-room_safe stage.Idle room e has none = absurd (cc)
-room_safe (stage.Active t) room e has none = absurd (cc)
-room_safe (stage.Sealed t) room e has none = absurd (cc)
-room_safe (stage.Pending begin next) room e has none = absurd (cc)
 
 no_elements : {X : Type 0} (xs : List X) → length xs ≡ 0 → xs ≡ []
 no_elements [] e = refl

@@ -4,7 +4,6 @@ use Rattle.std.specs.Prelude.{if◌then◌else◌}
 use Rattle.std.proofs.Math.Seq.{take-append_seam}
 use Rattle.erm_block.specs.declared.block.Block.{Block}
 use Rattle.erm_block.specs.declared.block.Kind as block
-use Rattle.erm_block.specs.declared.block.Kind.TheVariants as block_kind
 use Rattle.erm_block.specs.declared.block.TheConstants.{BLOCK_WORDS}
 use Rattle.erm_block.specs.Block.{Entry, IsBlock}
 use Rattle.erm_block.specs.Spelling.{header_word, spelling}

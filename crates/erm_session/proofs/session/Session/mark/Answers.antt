@@ -1,7 +1,7 @@
 use Rattle.std.proofs.Common.{ap, sym, ◌∙◌}
 use Rattle.erm_session.specs.declared.session.Stage.{Stage}
 use Rattle.erm_session.specs.Session.{phase_of}
-use Rattle.erm_session.proofs.Marks.{mark_active, mark_seals, marked_session, marks_rows, room_safe}
+use Rattle.erm_session.proofs.Marks.{mark_active, mark_seals, marked_session, marks_rows}
 use Rattle.erm_session.proofs.Snapshots.{not_safe}
 use Rattle.erm_session.proofs.session.Session.mark.Goals as goal
 
@@ -26,6 +26,3 @@ returns-clause-sealed g c =
 
 pub unreachable-requires : goal.unreachable-requires
 unreachable-requires g c = not_safe c.replace.result (ap (λ (a : Stage). phase_of a) c.replace.ensures.value ∙ c.requires.safe) c.in_default.not-Safe
-
-pub unreachable-requires-2 : goal.unreachable-requires-2
-unreachable-requires-2 g c = room_safe c.args.self.now.stage c.args.self.now.room c.requires.safe c.requires.stands.kept.room (sym c.take.ensures.value ∙ c.in_default-2.is)
