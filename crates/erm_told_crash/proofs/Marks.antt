@@ -122,7 +122,7 @@ mark_is (Some m) stamp safe e =
     let make : ℕ → ℕ → Option (ℕ × ℕ) = λ x y. Some (x, y) in
     ap (λ (x : ℕ). make x m.1) named ∙ ap (λ (y : ℕ). make safe y) at
 
-mark_by : ℕ → Snapshot → ℕ × ℕ → Mark
+abbrev mark_by : ℕ → Snapshot → ℕ × ℕ → Mark
 mark_by session s x = record { session = session; number = s.number; begin = s.begin; safe = x.0; stamp = x.1 }
 
 -- a mark told is one of a snapshot that is over

@@ -116,29 +116,34 @@ module _ (v : View) (holds : IsSerializable sound_law v) (ranges : StandApart v)
         ))
         (written_or_not w.claims oid)
 
-  -- AN EXCLUDED one leaves them too, and sets none.
-  excluded_newest : (seat : ℕ) (w : Work) (stamp succ pred : ℕ) → IsSession v seat → record { work = w; fate = world.excluded stamp succ pred } ∈ (v.session seat).over
-      → (rows : Rows) → AreNewest stamp rows → AreNewest (stamp + size_of w) rows
-  excluded_newest seat w stamp succ pred session over rows newest oid =
+  -- ONE THAT IS OVER AND COMMITS NOTHING leaves them too, and sets none.
+  silent_newest : (seat : ℕ) (w : Work) (fate : Fate) (stamp : ℕ) → stamp_of fate ≡ Some stamp → ((s u p : ℕ) → fate ≡ world.commits s u p → ⊥)
+      → IsSession v seat → record { work = w; fate = fate } ∈ (v.session seat).over → (rows : Rows) → AreNewest stamp rows → AreNewest (stamp + size_of w) rows
+  silent_newest seat w fate stamp stamped none session over rows newest oid =
       let old = newest oid in
       (old.0, newest_on oid stamp (stamp + size_of w) old.0 (rows oid) (omega arith) lower old.1)
     where
       f : Finished
-      f = record { work = w; fate = world.excluded stamp succ pred }
+      f = record { work = w; fate = fate }
 
       another : (u : TransactionRecord) → u ∈ history_of v → u.stamp ≡ stamp → ⊥
       another u of_u same =
           let commit = (tells_commits v).only u of_u in
           let at : commit.stamp ≡ stamp = sym (ap (λ (x : TransactionRecord). x.stamp) commit.is) ∙ same in
           let one : f ≡ record { work = commit.work; fate = world.commits commit.stamp commit.succ commit.pred } =
-          one_over seat commit.seat f (record { work = commit.work; fate = world.commits commit.stamp commit.succ commit.pred }) stamp session commit.session over commit.over refl (ap (λ (n : ℕ). Some n) at)
+          one_over seat commit.seat f (record { work = commit.work; fate = world.commits commit.stamp commit.succ commit.pred }) stamp session commit.session over commit.over stamped (ap (λ (n : ℕ). Some n) at)
           in
-          let fates : world.excluded stamp succ pred ≡ world.commits commit.stamp commit.succ commit.pred = ap (λ (g : Finished). g.fate) one in
-          cc
+          none commit.stamp commit.succ commit.pred (ap (λ (g : Finished). g.fate) one)
 
       lower : (u : TransactionRecord) → u ∈ history_of v → Makes u oid → u.stamp < stamp + size_of w → u.stamp < stamp
       lower u of_u makes less =
-          omega (arith, none_behind seat w stamp session (inl (f, over, refl, refl)) u of_u less, another u of_u)
+          omega (arith, none_behind seat w stamp session (inl (f, over, refl, stamped)) u of_u less, another u of_u)
+
+  excludes_none : (stamp succ pred s u p : ℕ) → world.excluded stamp succ pred ≡ world.commits s u p → ⊥
+  excludes_none stamp succ pred s u p is = cc
+
+  marks_none : (stamp safe s u p : ℕ) → world.marked stamp safe ≡ world.commits s u p → ⊥
+  marks_none stamp safe s u p is = cc
 
   -- A BLOCK.
   after_block : (run : ℕ) (b : Block) (rows : Rows) → IsBlockOf v run b → AreNewest b.stamp rows → AreNewest (b.stamp + b.size) (rows_after_block b rows)
@@ -170,8 +175,13 @@ module _ (v : View) (holds : IsSerializable sound_law v) (ranges : StandApart v)
           let at : b.stamp ≡ stamp = (subst (λ (x : Fate). HasStamps x b.stamp b.succ) is stamps).0 in
           let fate : of.of.fate ≡ world.excluded b.stamp succ pred = is ∙ ap (λ (n : ℕ). world.excluded n succ pred) (sym at) in
           ends_at rows (as_set (kind_of (world.excluded stamp succ pred)) (of.kind_is ∙ ap kind_of is))
-          (excluded_newest b.seat of.of.work b.stamp succ pred of.session (over_as (world.excluded b.stamp succ pred) fate) rows newest)
+          (silent_newest b.seat of.of.work (world.excluded b.stamp succ pred) b.stamp refl (excludes_none b.stamp succ pred) of.session (over_as (world.excluded b.stamp succ pred) fate) rows newest)
       by world.aborts is stamps = absurd (subst (λ (x : Fate). HasStamps x b.stamp b.succ) is stamps)
+      by (world.marked stamp safe) is stamps =
+          let at : b.stamp ≡ stamp = (subst (λ (x : Fate). HasStamps x b.stamp b.succ) is stamps).0 in
+          let fate : of.of.fate ≡ world.marked b.stamp safe = is ∙ ap (λ (n : ℕ). world.marked n safe) (sym at) in
+          ends_at rows (as_set (kind_of (world.marked stamp safe)) (of.kind_is ∙ ap kind_of is))
+          (silent_newest b.seat of.of.work (world.marked b.stamp safe) b.stamp refl (marks_none b.stamp safe) of.session (over_as (world.marked b.stamp safe) fate) rows newest)
 
   -- blocks that stand one after another
   pub behind_newest : (run at : ℕ) (rows : Rows) (blocks : List Block) → StandFrom at blocks → ((b : Block) → b ∈ blocks → IsBlockOf v run b)
