@@ -1,5 +1,5 @@
 -- A session's transactions touch objects of their lines' tables, as far as the commits below their begins keep to theirs; and how this goes on.
-use Rattle.std.proofs.Common.{◌≡◌, ℕ, List, [], ◌∷◌, ◌++◌, Option, Some, None, inl, inr, refl, sym, subst, true, false, ap}
+use Rattle.std.proofs.Common.{◌≡◌, ℕ, List, [], ◌∷◌, ◌++◌, Option, Some, None, inl, inr, refl, sym, subst, true, false, ap, ◌∙◌}
 use Rattle.std.specs.Option.{option_map, option_to_list}
 use Rattle.erm_model.specs.declared.history.VersionWritten.{VersionWritten}
 use Rattle.erm_model.specs.declared.outcome.Phase.TheVariants.{Active}

@@ -1,5 +1,5 @@
 -- What an execution at once owes of the marks of its safe snapshots: whose each outcome is, and which stamps they tell. None waits, and no flush is told.
-use Rattle.std.proofs.Common.{◌≡◌, ◌≢◌, ℕ, ◌==◌, Bool, true, false, List, [], ◌∷◌, map, take, slice_get, Option, Some, None, eq-eqb, ne_eqb, refl, sym, ap, ◌∙◌, subst, inl, inr, ⊎_elim}
+use Rattle.std.proofs.Common.{◌≡◌, ◌≢◌, ℕ, ◌==◌, Bool, true, false, List, [], ◌∷◌, map, take, slice_get, Option, Some, None, eq-eqb, ne_eqb, refl, sym, ap, ◌∙◌, subst, inl, inr, ⊎_elim, ◌⊎◌}
 use Rattle.std.proofs.lemmas.Bool.{cases_eq}
 use Rattle.std.specs.List.{AllPairs}
 use Rattle.erm_model.specs.declared.outcome.Phase.{Phase}
@@ -166,8 +166,7 @@ never_stops f l (answer.Unfilled at) v t place did is = let it = allowed f l (an
 never_stops f l a v t place did is = let no : None ≡ Some place = is in cc
 
 module _ (runs : NoneRuns) (stay : (w u : Work) (steps : List Step) → Extends w u → IsAnswered w steps → IsAnswered u steps)
-    (v f : View) (whole script : List ScriptLine) (answers : List Answer) (closed : List Closed) (opening : Opening) (run : IsRunInPart v whole script answers closed f)
-    (sessions : (c : Closed) → c ∈ closed → IsSession v c.session) where
+    (v f : View) (whole script : List ScriptLine) (answers : List Answer) (closed : List Closed) (run : IsRunInPart v whole script answers closed f) where
   abbrev said : List Said
   said = said_of script answers
 
@@ -183,12 +182,12 @@ module _ (runs : NoneRuns) (stay : (w u : Work) (steps : List Step) → Extends 
   all_told : IsTold f (places_of script answers closed)
   all_told = is_told tell v f whole script answers closed run
 
-  stamps : (k : Mark) → k ∈ marks → TellsStamps told k
+  pub stamps : (k : Mark) → k ∈ marks → TellsStamps told k
   stamps =
       subst (λ (o : world.Opening). (k : Mark) → k ∈ marks_of o.sessions (places_of script answers closed) → TellsStamps (transactions_of o.sessions (places_of script answers closed)) k) run.opening
       (mark_stamps f (places_of script answers closed) all_told)
 
-  differ : AllPairs (λ (j k : Mark). j.stamp ≢ k.stamp) marks
+  pub differ : AllPairs (λ (j k : Mark). j.stamp ≢ k.stamp) marks
   differ = subst (λ (o : world.Opening). AllPairs (λ (j k : Mark). j.stamp ≢ k.stamp) (marks_of o.sessions (places_of script answers closed))) run.opening (marks_differ f (places_of script answers closed) all_told)
 
   -- A LINE, where its session stands as it is told
@@ -203,30 +202,29 @@ module _ (runs : NoneRuns) (stay : (w u : Work) (steps : List Step) → Extends 
     tells = subst (λ (list : List Said). Tells l.session (progress_of l.session list) (x.before.session l.session)) x.says
         (knows_own runs stay f l.session x.moves nothing Idle v x.before x.start (first_there runs stay v f whole script answers closed run l.session session)).told.tells
 
-    settles : FitsSealed (progress_of l.session (take i said)).snapshot l.command a
+    pub settles : FitsSealed (progress_of l.session (take i said)).snapshot l.command a
     settles = line_settles f l.session l.command a x.before x.after (progress_of l.session (take i said)).snapshot tells.watched (refusal_of (phase_at x.before l.session) l.command) refl x.did.fits x.did.did
 
-    stops : (m : Moment) (place : ℕ) → stop_told a ≡ Some place → StopsAtMarks m marks place
+    pub stops : (m : Moment) (place : ℕ) → stop_told a ≡ Some place → StopsAtMarks m marks place
     stops m place is = absurd (never_stops f l a x.before x.after place x.did is)
 
-    causes : (m : Moment) (s : Snapshot) → HasMarkCause m marks s l.command a
+    pub causes : (m : Moment) (s : Snapshot) → HasMarkCause m marks s l.command a
     causes m s = mark_cause m marks s l.command a (λ waits. no_wait tell v f whole script answers closed run (said_by l a) (i, said_at script answers i l a at answered) waits)
 
-  closes : (c : Closed) → c ∈ closed → ClosesSealed (progress_of c.session said).snapshot c.answer
-  closes c m =
-      let session = sessions c m in
+  pub closes : (c : Closed) → IsSession v c.session → c ∈ closed → ClosesSealed (progress_of c.session said).snapshot c.answer
+  closes c session m =
       let parts = lines runs stay v f whole script answers closed run c.session session in
       closes_all f c.session closed parts.0 (run.own c.session session).last parts.2 (progress_of c.session said).snapshot
       (tells_lines runs stay v f whole script answers closed run c.session session).watched c m refl
 
 pub part_marks : NoneRuns → ((w u : Work) (steps : List Step) → Extends w u → IsAnswered w steps → IsAnswered u steps) → RunsInPartMark
 part_marks runs stay v f whole part answers closed opening run sessions of = record {
-  settles = λ i l a at answered. settles runs stay v f whole part answers closed opening run sessions i l a at answered;
-  closes = closes runs stay v f whole part answers closed opening run sessions;
-  stamps = stamps runs stay v f whole part answers closed opening run sessions;
-  differ = differ runs stay v f whole part answers closed opening run sessions;
-  causes = λ i l a s at answered current. causes runs stay v f whole part answers closed opening run sessions i l a at answered
+  settles = λ i l a at answered. settles runs stay v f whole part answers closed run i l a at answered;
+  closes = λ c m. closes runs stay v f whole part answers closed run c (sessions c m) m;
+  stamps = stamps runs stay v f whole part answers closed run;
+  differ = differ runs stay v f whole part answers closed run;
+  causes = λ i l a s at answered current. causes runs stay v f whole part answers closed run i l a at answered
       (moment_in opening whole part answers (transactions_of v.opening.sessions (places_of part answers closed)) i l) s;
-  stops = λ i place l a at answered is. stops runs stay v f whole part answers closed opening run sessions i l a at answered
+  stops = λ i place l a at answered is. stops runs stay v f whole part answers closed run i l a at answered
       (moment_in opening whole part answers (transactions_of v.opening.sessions (places_of part answers closed)) i l) place is;
 }

@@ -82,6 +82,7 @@ command_drawn : (f : View) (seat : ℕ) (c : Command) (a : Answer) (v t : View) 
 command_drawn f seat command.Seal (answer.Sealed own) v t stamp fits (u, passes, did) e =
     inr (work_at u seat, ap (λ (s : Session). s.stand) did.own ∙ ap (λ (n : ℕ). world.sealed (work_at u seat) n) (the_number own stamp e))
 command_drawn f seat command.Commit a v t stamp fits did e = decided_drawn seat a did.between t stamp did.decided e
+command_drawn f seat command.Mark a v t stamp fits did e = absurd did
 command_drawn f seat c (answer.Sealed own) v t stamp fits did e = absurd fits
 command_drawn f seat c a v t stamp fits did e = cc
 

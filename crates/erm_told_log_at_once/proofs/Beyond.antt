@@ -19,9 +19,10 @@ use Rattle.erm_lines.specs.Executions.{Move, close, flush, line, log}
 use Rattle.erm_lines.specs.Operations.{AsksOf, FrontOf, Ran}
 use Rattle.erm_lines.proofs.Saved.{Saves, saved, went_back}
 use Rattle.erm_beside.specs.Calls.{After, DidSettleBeside, NotClaimedBeside, NotMadeBeside, NotReadBeside, Passes, RefusedBeside}
-use Rattle.erm_lines_at_once.specs.Answers.{DidAskSafeBeside, DidAskSnapshotBeside, DidAskedBeside, DidBeginAndAskBeside, DidCloseBeside, DidCommandBeside, DidCommitBeside, DidDecideBeside, DidInBeside, DidOfSnapshotBeside}
+use Rattle.erm_lines_at_once.specs.Answers.{DidAskSafeBeside, DidAskSnapshotBeside, DidAskedBeside, DidBeginAndAskBeside, DidCloseBeside, DidCommandBeside, DidCommitBeside, DidDecideBeside, DidInBeside, DidOfSnapshotBeside, DidAskMarkBeside}
 use Rattle.erm_lines_at_once.specs.Executions.{DidMoveBeside, DidOwn, IsOwnRun, is_own}
 use Rattle.erm_lines_at_once.specs.Operations.{Beside, DidOnce, DidOperationBeside, WasTried, WereCutBeside, told_at_once}
+use Rattle.erm_beside.specs.Safe.{DidMarkBeside}
 
 pub record Beyond (v t : View) : Type 0 where
   pub opening : t.opening ≡ v.opening
@@ -41,6 +42,9 @@ beyond_becomes v seat s t now = record { opening = now.opening; flushed = omega 
 
 pub beyond_sealed : (v : View) (seat stamp : ℕ) (t : View) → DidSeal v seat stamp t → Beyond v t
 beyond_sealed v seat stamp t did = record { opening = did.opening; flushed = omega (arith, did.flushed) }
+
+pub beyond_marked : (v : View) (seat stamp : ℕ) (t : View) → DidMarkBeside seat stamp v t → Beyond v t
+beyond_marked v seat stamp t did = record { opening = did.seals.opening; flushed = omega (arith, did.seals.flushed) }
 
 pub beyond_after : (seat : ℕ) (Did : View → View → Type 0) (v t : View) → ((u : View) → Did u t → Beyond u t) → After seat Did v t → Beyond v t
 beyond_after seat Did v t each (u, passes, did) = beyond_then v u t (beyond_passes seat v u passes) (each u did)
@@ -116,17 +120,25 @@ beyond_operation f seat c a v t did = beyond_then v did.at t (beyond_tried f sea
 beyond_settled : (seat : ℕ) (o : Outcome) (v t : View) → DidSettleBeside seat o v t → Beyond v t
 beyond_settled seat (outcome.Committed r) v t (w, stamp, stand, settled) = beyond_becomes v seat _ t settled.0
 beyond_settled seat (outcome.Excluded at succ pred) v t (w, stamp, stand, settled) = beyond_becomes v seat _ t settled.0
+beyond_settled seat (outcome.Marked at safe) v t (w, stamp, stand, settled) = beyond_becomes v seat _ t settled.0
 
 beyond_decided : (seat : ℕ) (a : Answer) (v t : View) → DidDecideBeside seat a v t → Beyond v t
 beyond_decided seat (answer.Committed stamp succ pred) v t (r, at, after, before, (u, passes, did)) =
     beyond_then v u t (beyond_passes seat v u passes) (beyond_settled seat (outcome.Committed r) u t did)
 beyond_decided seat (answer.Excluded stamp succ pred) v t (u, passes, did) =
     beyond_then v u t (beyond_passes seat v u passes) (beyond_settled seat (outcome.Excluded stamp succ pred) u t did)
+beyond_decided seat (answer.Marked safe stamp) v t (u, passes, did) =
+    beyond_then v u t (beyond_passes seat v u passes) (beyond_settled seat (outcome.Marked stamp safe) u t did)
 beyond_decided seat a v t did = absurd did
 
 beyond_commit : (seat : ℕ) (a : Answer) (v t : View) → DidCommitBeside seat a v t → Beyond v t
 beyond_commit seat a v t did =
     beyond_then v did.between t (beyond_after seat (λ u w. DidSeal u seat did.stamp w) v did.between (λ u sealed. beyond_sealed u seat did.stamp did.between sealed) did.sealed)
+    (beyond_decided seat a did.between t did.decided)
+
+beyond_mark : (seat : ℕ) (a : Answer) (v t : View) → DidAskMarkBeside seat a v t → Beyond v t
+beyond_mark seat a v t did =
+    beyond_then v did.between t (beyond_after seat (DidMarkBeside seat did.stamp) v did.between (λ u marks. beyond_marked u seat did.stamp did.between marks) did.sealed)
     (beyond_decided seat a did.between t did.decided)
 
 -- THE LINE
@@ -159,6 +171,7 @@ module _ (f : View) (seat : ℕ) (v t : View) where
   beyond_watched (command.Get table key) (answer.Replied r) did = beyond_passes seat v t did.passes
   beyond_watched (command.Next table from) (answer.Replied r) did = beyond_passes seat v t did.passes
   beyond_watched (command.Scan table low high) (answer.Replied r) did = beyond_passes seat v t did.passes
+  beyond_watched command.Mark a did = beyond_mark seat a v t did
   beyond_watched command.Commit answer.Ended (u, passes, did) = beyond_done u _ passes did
   beyond_watched command.Abort answer.Aborted (u, passes, did) = beyond_done u _ passes did
   beyond_watched command.Durable (answer.Durable stamp) (u, passes, did) = beyond_same u passes did.0
