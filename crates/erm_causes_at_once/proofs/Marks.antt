@@ -19,7 +19,6 @@ use Rattle.erm_world.specs.World as world
 use Rattle.erm_maps.specs.Runs.{IsAnswered}
 use Rattle.erm_good_report.specs.GoodReport.{places_of}
 use Rattle.erm_good_report.specs.Marks.{ClosesSealed, FitsSealed, HasMarkCause, IsOfSealed, StopsAtMarks, TellsStamps, stop_told}
-use Rattle.erm_good_report.specs.Opening.{Opening}
 use Rattle.erm_good_report.specs.Phases.{Closed, Closes, FitsRefusal, IsAnswerTo, refusal_of}
 use Rattle.erm_good_report.specs.Refusals.{Moment}
 use Rattle.erm_good_report.specs.Stamps.{IsWait}
