@@ -1,5 +1,5 @@
 -- What a transaction's lines tell of the records of keys that its work has touched, on whatever sound rows it may have begun.
-use Rattle.std.proofs.Common.{◌≡◌, ℕ, ◌<◌, ◌≤◌, ◌⊎◌, true, List, [], ◌∷◌, ◌++◌, Some, inl, inr, sym, ap, ◌∙◌, subst}
+use Rattle.std.proofs.Common.{◌≡◌, ℕ, ◌<◌, ◌≤◌, ◌⊎◌, true, List, [], ◌∷◌, ◌++◌, Some, inl, inr, sym, ap, ◌∙◌, subst, false}
 use Rattle.erm_model.specs.Lawful.{times_made}
 use Rattle.erm_model.proofs.Members.{none_in_nil}
 use Rattle.erm_model.specs.RowTransaction.{Event, after_all}
@@ -46,6 +46,10 @@ pub record MarksBy (lines stays : List Exchange) (w : Work) : Type 0 where
 
 abbrev pub Marks : List Exchange → Work → Type 0
 Marks lines w = MarksBy lines (stays_of lines).now w
+
+-- that a work is no mark doesn't count for it
+pub plain_marks : (lines : List Exchange) (w : Work) → Marks lines w → Marks lines (record w { is_mark = false })
+plain_marks lines w marks = record { kept = marks.kept; touched = marks.touched; puts = marks.puts; changes = marks.changes; only = marks.only }
 
 -- What stays of a transaction's lines at a savepoint tells what it saw there.
 pub record Stood (stays : List Exchange) (w : Work) : Type 0 where

@@ -14,7 +14,7 @@ use Rattle.erm_good_report.specs.Transactions.{Commits, Ending, Unfinished, Said
 use Rattle.erm_good_report.specs.Windows.{IsCommit}
 use Rattle.erm_lines.specs.Told.{EndsAs, Tells, TellsNow}
 use Rattle.erm_told.proofs.Ranges.{in_range, in_range_from}
-use Rattle.erm_tight.proofs.Marks.{Marks}
+use Rattle.erm_tight.proofs.Marks.{Marks, plain_marks}
 use Rattle.erm_tight.proofs.Moves.{IsMarked, MarkedOne}
 use Rattle.erm_tight.proofs.Serial.{IsTold}
 use Rattle.erm_causes.proofs.Causes.{from_flat, in_flat}
@@ -70,7 +70,7 @@ module _ (v : View) (sessions : ℕ) (said : List Said) (of : sessions ≡ v.ope
           ending = commits_as found.0.ending own.stamp own.succ own.pred found.2.tells.ends;
         };
         begin = found.2.tells.work.begin;
-        marks = found.2.so_is.marks own.stamp refl;
+        marks = plain_marks found.0.lines own.work (found.2.so_is.marks own.stamp refl);
       })
 
   pub record_told : (r : TransactionRecord) → r ∈ history_of v → IsTold r
@@ -118,7 +118,7 @@ module _ (v : View) (sessions : ℕ) (said : List Said) (of : sessions ≡ v.ope
         stamp_is = sym ends.0;
         succ_is = sym ends.1;
         begin = it.both.tells.work.begin;
-        marks = it.both.so_is.marks s (ap world.stamp_of is);
+        marks = plain_marks t.lines it.one.work (it.both.so_is.marks s (ap world.stamp_of is));
       }
   committed_as t it (world.excluded s u p) is stamp succ pred ends = absurd ends
   committed_as t it world.aborts is stamp succ pred ends = absurd ends
