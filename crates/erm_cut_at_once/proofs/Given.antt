@@ -8,7 +8,7 @@ use Rattle.erm_machine.proofs.Listed.{∈-first, ∈-head, ∈-second}
 use Rattle.erm_report.specs.declared.answer.Answer.{Answer}
 use Rattle.erm_script.specs.declared.script.Command.{Command}
 use Rattle.erm_world.specs.Going.{Extends}
-use Rattle.erm_world.specs.World.{Finished, GivenUp, IsOver, IsWorking, Session, Stand, View, Work, phase_at, work_of}
+use Rattle.erm_world.specs.World.{Finished, GivenUp, IsOver, Session, Stand, View, Work, phase_at, work_of}
 use Rattle.erm_world.specs.World as world
 use Rattle.erm_maps.specs.Runs.{IsAnswered}
 use Rattle.erm_lines.specs.Executions.{Move, close, flush, line, log}
@@ -20,6 +20,12 @@ use Rattle.erm_told_limits.proofs.Ran.{active_with}
 use Rattle.erm_told_at_once.proofs.Runs.{own_goes, passes_itself}
 use Rattle.erm_causes_at_once.proofs.Called.{cut_kept, cut_stays, tried_kept}
 use Rattle.erm_causes_at_once.proofs.GivenUp.{GaveUp, LeavesGiven, close_given, given_by, gives, leaves, line_given, tried_given}
+
+-- one that is active or sealed
+abbrev pub IsWorking : Stand → Work → Type 0
+IsWorking (world.active u) w = u ≡ w
+IsWorking (world.sealed u stamp) w = u ≡ w
+IsWorking stand w = ⊥
 
 -- a transaction of a session, which isn't a snapshot in progress
 abbrev pub HasWorkIn : Session → Work → Type 0

@@ -20,7 +20,7 @@ use Rattle.erm_world.specs.Calls.{AreAllDrawn, AreAllMade, IsShut}
 use Rattle.erm_world.specs.declared.stops.SafeStop.{SafeStop}
 use Rattle.erm_world.specs.declared.stops.SafeStop.TheVariants as safe
 use Rattle.erm_world.specs.Laws.{IsNumbered}
-use Rattle.erm_world.specs.World.{GivenUp, Has, IsSession, IsWorking, Session, Stand, View, Work, history_of, phase_at, work_at}
+use Rattle.erm_world.specs.World.{GivenUp, Has, IsSession, Session, Stand, View, Work, history_of, phase_at, work_at}
 use Rattle.erm_world.specs.World as world
 use Rattle.erm_world.specs.Works.{is_claimed}
 use Rattle.erm_good_report.specs.Phases.{refusal_of}
@@ -33,7 +33,7 @@ use Rattle.erm_lines_at_once.specs.Executions.{DidMoveBeside, DidOwn, IsOwnRun, 
 use Rattle.erm_lines_at_once.specs.Looks.{DidLookBeside}
 use Rattle.erm_lines_at_once.specs.Operations.{DidOnce, DidOperationBeside, WasTried, WereCutBeside, told_at_once}
 use Rattle.erm_told.proofs.Pairs.{within}
-use Rattle.erm_cut_at_once.proofs.Given.{HasNumbered}
+use Rattle.erm_cut_at_once.proofs.Given.{HasNumbered, IsWorking}
 use Rattle.erm_cut_at_once.proofs.Rereading.{HasReadMore}
 use Rattle.erm_cut_at_once.proofs.Stands.{IsUntold, StandsFor}
 use Rattle.erm_cut_at_once.proofs.World.{has_here, has_there, safe_here, same_claims, same_history, same_made, told_world}

@@ -29,33 +29,47 @@ pub record HasReadMore (w u : Work) : Type 0 where
 pub read_itself : (w : Work) → HasReadMore w w
 read_itself w = record { number = refl; begin = refl; more = []; reads = sym (append-nil w.reads); claims = refl; made = refl }
 
-read_then : (w x u : Work) → HasReadMore w x → HasReadMore x u → HasReadMore w u
+-- and is a mark where that is one
+pub record HasReread (w u : Work) : Type 0 where
+  pub more : HasReadMore w u
+  pub mark : u.is_mark ≡ w.is_mark
+
+reread_itself : (w : Work) → HasReread w w
+reread_itself w = record { more = read_itself w; mark = refl }
+
+read_then : (w x u : Work) → HasReread w x → HasReread x u → HasReread w u
 read_then w x u before later = record {
-  number = later.number ∙ before.number;
-  begin = later.begin ∙ before.begin;
-  more = before.more ++ later.more;
-  reads = later.reads ∙ ap (λ (rs : List VersionRead). rs ++ later.more) before.reads ∙ append_assoc w.reads before.more later.more;
-  claims = later.claims ∙ before.claims;
-  made = later.made ∙ before.made;
+  more = record {
+    number = later.more.number ∙ before.more.number;
+    begin = later.more.begin ∙ before.more.begin;
+    more = before.more.more ++ later.more.more;
+    reads = later.more.reads ∙ ap (λ (rs : List VersionRead). rs ++ later.more.more) before.more.reads ∙ append_assoc w.reads before.more.more later.more.more;
+    claims = later.more.claims ∙ before.more.claims;
+    made = later.more.made ∙ before.more.made;
+  };
+  mark = later.mark ∙ before.mark;
 }
 
 -- one read
-did_read_more : (seat oid : ℕ) (row : List ℕ) (v t : View) → DidRead v seat oid row t → HasReadMore (work_at v seat) (work_at t seat)
-did_read_more seat oid row v t (own same is row_is) = subst (λ (w : Work). HasReadMore (work_at v seat) w) (sym (ap (λ (x : View). work_at x seat) same)) (read_itself (work_at v seat))
-did_read_more seat oid row v t (again same is row_is) = subst (λ (w : Work). HasReadMore (work_at v seat) w) (sym (ap (λ (x : View). work_at x seat) same)) (read_itself (work_at v seat))
+did_read_more : (seat oid : ℕ) (row : List ℕ) (v t : View) → DidRead v seat oid row t → HasReread (work_at v seat) (work_at t seat)
+did_read_more seat oid row v t (own same is row_is) = subst (λ (w : Work). HasReread (work_at v seat) w) (sym (ap (λ (x : View). work_at x seat) same)) (reread_itself (work_at v seat))
+did_read_more seat oid row v t (again same is row_is) = subst (λ (w : Work). HasReread (work_at v seat) w) (sym (ap (λ (x : View). work_at x seat) same)) (reread_itself (work_at v seat))
 did_read_more seat oid row v t (first stamp is none few works) =
-    subst (λ (w : Work). HasReadMore (work_at v seat) w) (sym (ap (λ (s : Session). work_of s.stand) works.own)) (record {
-      number = refl;
-      begin = refl;
-      more = record { oid = oid; stamp = stamp; row = row } ∷ [];
-      reads = refl;
-      claims = refl;
-      made = refl;
+    subst (λ (w : Work). HasReread (work_at v seat) w) (sym (ap (λ (s : Session). work_of s.stand) works.own)) (record {
+      more = record {
+        number = refl;
+        begin = refl;
+        more = record { oid = oid; stamp = stamp; row = row } ∷ [];
+        reads = refl;
+        claims = refl;
+        made = refl;
+      };
+      mark = refl;
     })
 
 -- calls that read alone
-ran_reads : (seat : ℕ) (events : List Event) (v t : View) → OnlyReads events → Ran v seat events t → HasReadMore (work_at v seat) (work_at t seat)
-ran_reads seat [] v t only same = subst (λ (w : Work). HasReadMore (work_at v seat) w) (sym (ap (λ (x : View). work_at x seat) same)) (read_itself (work_at v seat))
+ran_reads : (seat : ℕ) (events : List Event) (v t : View) → OnlyReads events → Ran v seat events t → HasReread (work_at v seat) (work_at t seat)
+ran_reads seat [] v t only same = subst (λ (w : Work). HasReread (work_at v seat) w) (sym (ap (λ (x : View). work_at x seat) same)) (reread_itself (work_at v seat))
 ran_reads seat (did_read oid row ∷ events) v t only (u, did, rest) =
     read_then (work_at v seat) (work_at u seat) (work_at t seat) (did_read_more seat oid row v u did) (ran_reads seat events u t only rest)
 ran_reads seat (did_claim oid ∷ events) v t only ran = absurd only
@@ -64,8 +78,8 @@ ran_reads seat (did_make oid ∷ events) v t only ran = absurd only
 
 -- THE TRIES of a line, where the work goes on to one that may have begun on some rows
 pub tried_reads : (last : Work) (began : BeganIn last) (f : View) (seat : ℕ) (c : Command) (n : ℕ) (v t : View) → phase_at v seat ≡ Active → WasTried f seat c n v t → (steps : List Step)
-    → IsRunOf (kept_at v seat) steps → Extends (work_at t seat) last → HasReadMore (work_at v seat) (work_at t seat)
-tried_reads last began f seat c zero v t active passes steps run more = subst (λ (s : Session). HasReadMore (work_at v seat) (work_of s.stand)) (sym passes.own) (read_itself (work_at v seat))
+    → IsRunOf (kept_at v seat) steps → Extends (work_at t seat) last → HasReread (work_at v seat) (work_at t seat)
+tried_reads last began f seat c zero v t active passes steps run more = subst (λ (s : Session). HasReread (work_at v seat) (work_of s.stand)) (sym passes.own) (reread_itself (work_at v seat))
 tried_reads last began f seat c (suc n) v t active (u, (other, seen, cut), rest) steps run more =
     let why = stop.NotYet other seen in
     let kept = cut_kept f seat c why v u active cut refl in
@@ -74,5 +88,5 @@ tried_reads last began f seat c (suc n) v t active (u, (other, seen, cut), rest)
     let more_u = extends_then (work_at u seat) (work_at t seat) last (tried_more f seat c n u t kept.phase rest) more in
     let more_at = subst (λ (s : Session). Extends (work_of s.stand) last) same more_u in
     let only = waits_only last began f seat c other seen v u active cut steps run more_at in
-    let here = beside_works seat (λ x y. Ran x seat cut.events y) HasReadMore v cut.at cut.ran (ran_reads seat cut.events cut.ran.from cut.ran.to only cut.ran.did) in
-    read_then (work_at v seat) (work_at u seat) (work_at t seat) (subst (λ (s : Session). HasReadMore (work_at v seat) (work_of s.stand)) (sym same) here) later
+    let here = beside_works seat (λ x y. Ran x seat cut.events y) HasReread v cut.at cut.ran (ran_reads seat cut.events cut.ran.from cut.ran.to only cut.ran.did) in
+    read_then (work_at v seat) (work_at u seat) (work_at t seat) (subst (λ (s : Session). HasReread (work_at v seat) (work_of s.stand)) (sym same) here) later

@@ -1,6 +1,6 @@
 -- A session as it is told, in the place of one as it ended: an aborted transaction may have read more, an active one may have been sealed, an idle
--- session may have begun a snapshot, and one's snapshot may have ended.
-use Rattle.std.proofs.Common.{◌≡◌, ℕ, zero, suc, ◌+◌, ◌≤◌, ◌⊎◌, false, List, [], ◌∷◌, ◌++◌, length, sum_by, slice_get, Some, None, inl, inr, refl, sym, ap, ◌∙◌, subst, arith}
+-- session may have begun a snapshot, and a safe one may have been sealed with its mark.
+use Rattle.std.proofs.Common.{◌≡◌, ℕ, zero, suc, ◌+◌, ◌≤◌, ◌⊎◌, false, List, [], ◌∷◌, ◌++◌, length, sum_by, slice_get, Some, None, inl, inr, refl, sym, ap, ◌∙◌, subst, arith, true}
 use Rattle.std.proofs.lemmas.Grind.{flat_map-append}
 use Rattle.std.proofs.lemmas.List.{append-nil}
 use Rattle.std.proofs.lemmas.List.Sums.{sum_by-append, sum_by-cons}
@@ -9,13 +9,14 @@ use Rattle.erm_model.specs.Lawful.{times_made}
 use Rattle.erm_model.specs.Member.{◌∈◌}
 use Rattle.erm_model.proofs.Members.{none_in_nil}
 use Rattle.erm_machine.proofs.Listed.{∈-cons, ∈-either, ∈-first}
-use Rattle.erm_world.specs.Laws.{IsNumbered}
-use Rattle.erm_world.specs.World.{Finished, IsCurrent, IsOver, IsWorking, Session, Snapshot, Work, claims_in, commit_of, committed_in, made_in, stamp_of, work_of}
+use Rattle.erm_world.specs.Laws.{IsNumbered, EndsAsMarked}
+use Rattle.erm_world.specs.World.{Finished, IsCurrent, IsOver, Session, Snapshot, Work, claims_in, commit_of, committed_in, made_in, stamp_of, work_of}
 use Rattle.erm_world.specs.World as world
 use Rattle.erm_world.proofs.Lists.{∈-last}
 use Rattle.erm_lines_at_once.specs.Ends.{one_below, sealed_in}
 use Rattle.erm_causes_at_once.proofs.Sealed.{one_most}
 use Rattle.erm_cut_at_once.proofs.Rereading.{HasReadMore, read_itself}
+use Rattle.erm_causes.specs.Touched.{IsBareMark}
 
 -- a transaction of a session, and one with a stamp
 abbrev pub HasIn : Session → Work → Type 0
@@ -42,11 +43,14 @@ pub record StandsFor (drew : ℕ) (s t : Session) : Type 0 where
   pub current : (work_of s.stand).claims ≡ (work_of t.stand).claims
   pub was : (w : Work) → HasIn s w → (u : Work) × HasIn t u × HasReadMore w u
   pub is : (u : Work) → HasIn t u → ToldOrNot s u
-  pub working : (w : Work) → IsWorking s.stand w → IsWorking t.stand w
+  pub working : (w : Work) → IsCurrent s.stand w → (u : Work) × IsCurrent t.stand u × (u.begin ≡ w.begin)
   pub stamped : (w : Work) (stamp : ℕ) → StampedIn s w stamp → StampedIn t w stamp
   pub numbered : IsNumbered t → IsNumbered s
   pub excluded : (w : Work) (stamp succ pred : ℕ) → record { work = w; fate = world.excluded stamp succ pred } ∈ s.over → record { work = w; fate = world.excluded stamp succ pred } ∈ t.over
   pub sealed : (bound : ℕ) → sealed_in bound t ≤ sealed_in bound s + drew
+  pub unmarked : ((w : Work) → t.stand ≡ world.active w → w.is_mark ≡ false) → (w : Work) → s.stand ≡ world.active w → w.is_mark ≡ false
+  pub marks : ((w : Work) → HasIn t w → w.is_mark ≡ true → IsBareMark w) → (w : Work) → HasIn s w → w.is_mark ≡ true → IsBareMark w
+  pub marked : ((f : Finished) → f ∈ t.over → EndsAsMarked f.work f.fate) → (f : Finished) → f ∈ s.over → EndsAsMarked f.work f.fate
 
 pub stands_itself : (s : Session) → StandsFor 0 s s
 stands_itself s = record {
@@ -56,28 +60,85 @@ stands_itself s = record {
   current = refl;
   was = λ w has. (w, has, read_itself w);
   is = λ u has. inl (u, has, read_itself u);
-  working = λ w now. now;
+  working = λ w now. (w, now, refl);
   stamped = λ w stamp has. has;
   numbered = λ is. is;
   excluded = λ w stamp succ pred m. m;
   sealed = λ bound. omega arith;
+  unmarked = λ each. each;
+  marks = λ each. each;
+  marked = λ each. each;
 }
 
 -- IT WAS SEALED
-pub stands_unsealed : (over : List Finished) (w : Work) (stamp : ℕ) → StandsFor 1 (record { over = over; stand = world.active w }) (record { over = over; stand = world.sealed w stamp })
-stands_unsealed over w stamp = record {
+pub stands_unsealed : (over : List Finished) (w : Work) (stamp : ℕ) → w.is_mark ≡ false → StandsFor 1 (record { over = over; stand = world.active w }) (record { over = over; stand = world.sealed w stamp })
+stands_unsealed over w stamp plain = record {
   commits = λ seat. refl;
   made = λ x. refl;
   claims = refl;
   current = refl;
   was = λ x has. (x, has, read_itself x);
   is = λ x has. inl (x, has, read_itself x);
-  working = λ x now. now;
+  working = λ x now. (x, now, refl);
   stamped = λ x at has. elim has as (λ _. StampedIn (record { over = over; stand = world.sealed w stamp }) x at) [ inl old ↦ inl old | inr now ↦ absurd (cc now) ];
   numbered = λ is. record { over = is.over; now = λ x now. is.now x now };
   excluded = λ x at succ pred m. m;
   sealed = λ bound. omega (arith, one_most bound (Some stamp));
+  unmarked = λ each x is. let same : w ≡ x = cc in subst (λ (y : Work). y.is_mark ≡ false) same plain;
+  marks = λ each x has marks. each x has marks;
+  marked = λ each. each;
 }
+
+-- ITS SNAPSHOT WAS SEALED, with its mark.
+abbrev of_snapshot : Snapshot → Work
+of_snapshot x = world.begun x.number x.begin
+
+read_mark : (x : Snapshot) → HasReadMore (of_snapshot x) (world.marking x)
+read_mark x = record { number = refl; begin = refl; more = []; reads = refl; claims = refl; made = refl }
+
+unmarked_there : (x : Snapshot) (w : Work) (P : Type 0) → of_snapshot x ≡ w → w.is_mark ≡ true → P
+unmarked_there x w P is marks = let no : false ≡ true = ap (λ (y : Work). y.is_mark) is ∙ marks in absurd (cc no)
+
+module _ (over : List Finished) (x : Snapshot) (stamp : ℕ) where
+  abbrev watched_so : Session
+  watched_so = record { over = over; stand = world.snapshot x }
+
+  abbrev marked_so : Session
+  marked_so = record { over = over; stand = world.sealed (world.marking x) stamp }
+
+  mark_was : (w : Work) → HasIn watched_so w → (u : Work) × HasIn marked_so u × HasReadMore w u
+  mark_was w (inl old) = (w, inl old, read_itself w)
+  mark_was w (inr now) = (world.marking x, inr refl, subst (λ (y : Work). HasReadMore y (world.marking x)) now (read_mark x))
+
+  mark_is : (u : Work) → HasIn marked_so u → ToldOrNot watched_so u
+  mark_is u (inl old) = inl (u, inl old, read_itself u)
+  mark_is u (inr now) = inl (of_snapshot x, inr refl, subst (λ (y : Work). HasReadMore (of_snapshot x) y) now (read_mark x))
+
+  mark_marks : ((w : Work) → HasIn marked_so w → w.is_mark ≡ true → IsBareMark w) → (w : Work) → HasIn watched_so w → w.is_mark ≡ true → IsBareMark w
+  mark_marks each w (inl old) marks = each w (inl old) marks
+  mark_marks each w (inr now) marks = unmarked_there x w (IsBareMark w) now marks
+
+  mark_stamped : (w : Work) (at : ℕ) → StampedIn watched_so w at → StampedIn marked_so w at
+  mark_stamped w at (inl old) = inl old
+  mark_stamped w at (inr now) = absurd (cc now)
+
+  pub stands_unmarked : StandsFor 1 (record { over = over; stand = world.snapshot x }) (record { over = over; stand = world.sealed (world.marking x) stamp })
+  stands_unmarked = record {
+    commits = λ seat. refl;
+    made = λ y. refl;
+    claims = refl;
+    current = refl;
+    was = mark_was;
+    is = mark_is;
+    working = λ w now. (world.marking x, refl, ap (λ (y : Work). y.begin) now);
+    stamped = mark_stamped;
+    numbered = λ is. record { over = is.over; now = λ w now. let own = is.now (world.marking x) refl in omega (arith, own, ap (λ (y : Work). y.number) now) };
+    excluded = λ w at succ pred m. m;
+    sealed = λ bound. omega (arith, one_most bound (Some stamp));
+    unmarked = λ each w is. absurd (cc is);
+    marks = mark_marks;
+    marked = λ each. each;
+  }
 
 -- IT READ MORE before it was aborted
 abbrev aborted : Work → Finished
@@ -93,7 +154,7 @@ ended_sum : (count : Finished → ℕ) (over : List Finished) (w u : Work) → c
 ended_sum count over w u same =
     omega (arith, sum_by-append count over (aborted w ∷ []), sum_by-append count over (aborted u ∷ []), sum_by-cons count (aborted w) [], sum_by-cons count (aborted u) [], same)
 
-module _ (over : List Finished) (w u : Work) (more : HasReadMore w u) where
+module _ (over : List Finished) (w u : Work) (more : HasReadMore w u) (plain : w.is_mark ≡ false) where
   has_ended : (x y : Work) → IsOver (over ++ aborted x ∷ []) y → (IsOver over y) ⊎ (x ≡ y)
   has_ended x y (f, m, is) = elim (∈-either over (aborted x ∷ []) f m) [
     | inl old ↦ inl (f, old, is)
@@ -131,6 +192,20 @@ module _ (over : List Finished) (w u : Work) (more : HasReadMore w u) where
   same_number (g ∷ fs) zero f at = (f, at, refl)
   same_number (g ∷ fs) (suc k) f at = same_number fs k f at
 
+  marks_there : ((x : Work) → HasIn (record { over = over ++ aborted u ∷ []; stand = world.idle }) x → x.is_mark ≡ true → IsBareMark x) → (x : Work)
+      → HasIn (record { over = over ++ aborted w ∷ []; stand = world.idle }) x → x.is_mark ≡ true → IsBareMark x
+  marks_there each x (inr now) marks = absurd now
+  marks_there each x (inl over_was) marks = elim (has_ended w x over_was) as (λ _. IsBareMark x) [
+    | inl old ↦ each x (inl (is_older u x old)) marks
+    | inr last ↦ absurd (let no : false ≡ true = sym plain ∙ ap (λ (y : Work). y.is_mark) last ∙ marks in cc no)
+  ]
+
+  marked_there : ((f : Finished) → f ∈ over ++ aborted u ∷ [] → EndsAsMarked f.work f.fate) → (f : Finished) → f ∈ over ++ aborted w ∷ [] → EndsAsMarked f.work f.fate
+  marked_there each f m = elim (∈-either over (aborted w ∷ []) f m) as (λ _. EndsAsMarked f.work f.fate) [
+    | inl old ↦ each f (∈-first over (aborted u ∷ []) f old)
+    | inr last ↦ subst (λ (g : Finished). EndsAsMarked g.work g.fate) (only_one w f last) plain
+  ]
+
   pub stands_reread : StandsFor 0 (record { over = over ++ record { work = w; fate = world.aborts } ∷ []; stand = world.idle }) (record { over = over ++ record { work = u; fate = world.aborts } ∷ []; stand = world.idle })
   stands_reread = record {
     commits = λ seat. no_commit seat over w ∙ sym (no_commit seat over u);
@@ -153,6 +228,9 @@ module _ (over : List Finished) (w u : Work) (more : HasReadMore w u) where
     };
     excluded = λ x stamp succ pred m. kept_fate (record { work = x; fate = world.excluded stamp succ pred }) m (λ none. absurd (cc none));
     sealed = λ bound. omega (arith, ended_sum (λ (f : Finished). one_below bound (stamp_of f.fate)) over w u refl);
+    unmarked = λ each x is. absurd (cc is);
+    marks = marks_there;
+    marked = marked_there;
   }
 
 -- IT BEGAN A SNAPSHOT, which no line tells.
@@ -178,73 +256,7 @@ stands_unwatched over begin = record {
   numbered = λ is. record { over = is.over; now = λ w now. absurd now };
   excluded = λ w stamp succ pred m. m;
   sealed = λ bound. omega arith;
+  unmarked = λ each w is. absurd (cc is);
+  marks = λ each w has marks. elim has as (λ _. IsBareMark w) [ inl old ↦ each w (inl old) marks | inr now ↦ absurd now ];
+  marked = λ each. each;
 }
-
--- ITS SNAPSHOT ENDED, behind its last line.
-abbrev of_snapshot : Snapshot → Work
-of_snapshot x = world.begun x.number x.begin
-
-module _ (over : List Finished) (x : Snapshot) where
-  abbrev told_so : Session
-  told_so = record { over = over; stand = world.snapshot x }
-
-  abbrev ended_so : Session
-  ended_so = record { over = over ++ aborted (of_snapshot x) ∷ []; stand = world.idle }
-
-  ended_was : (w : Work) → HasIn told_so w → HasIn ended_so w
-  ended_was w (inl (g, m, is)) = inl (g, ∈-first over (aborted (of_snapshot x) ∷ []) g m, is)
-  ended_was w (inr now) = inl (aborted (of_snapshot x), ∈-last over (aborted (of_snapshot x)), now)
-
-  ended_is : (w : Work) → HasIn ended_so w → HasIn told_so w
-  ended_is w (inr now) = absurd now
-  ended_is w (inl (g, m, is)) = elim (∈-either over (aborted (of_snapshot x) ∷ []) g m) as (λ _. HasIn told_so w) [
-    | inl old ↦ inl (g, old, is)
-    | inr last ↦ inr (ap (λ (h : Finished). h.work) (only_one (of_snapshot x) g last) ∙ is)
-  ]
-
-  one_more : (count : Finished → ℕ) → count (aborted (of_snapshot x)) ≡ 0 → sum_by count over ≡ sum_by count (over ++ aborted (of_snapshot x) ∷ [])
-  one_more count none = omega (arith, sum_by-append count over (aborted (of_snapshot x) ∷ []), sum_by-cons count (aborted (of_snapshot x)) [], none)
-
-  -- an aborted one has no stamp and was not excluded
-  kept_over : (g : Finished) → g ∈ ended_so.over → (stamp_of g.fate ≡ None → ⊥) → g ∈ over
-  kept_over g m some = elim (∈-either over (aborted (of_snapshot x) ∷ []) g m) as (λ _. g ∈ over) [
-    | inl old ↦ old
-    | inr last ↦ absurd (some (sym (ap (λ (h : Finished). stamp_of h.fate) (only_one (of_snapshot x) g last))))
-  ]
-
-  ended_stamped : (w : Work) (stamp : ℕ) → StampedIn told_so w stamp → StampedIn ended_so w stamp
-  ended_stamped w stamp (inl (g, m, is, at)) = inl (g, ∈-first over (aborted (of_snapshot x) ∷ []) g m, is, at)
-  ended_stamped w stamp (inr now) = absurd (cc now)
-
-  ended_numbered : IsNumbered ended_so → IsNumbered told_so
-  ended_numbered is = record {
-    over = λ k g at. is.over k g (found over k g at);
-    now = λ w now. let last = is.over (length over) (aborted (of_snapshot x)) (at_end over) in omega (arith, last, ap (λ (u : Work). u.number) now);
-  }
-    where
-      found : (gs : List Finished) (k : ℕ) (g : Finished) → slice_get gs k ≡ Some g → slice_get (gs ++ aborted (of_snapshot x) ∷ []) k ≡ Some g
-      found [] k g at = absurd (cc at)
-      found (h ∷ gs) zero g at = at
-      found (h ∷ gs) (suc k) g at = found gs k g at
-
-      at_end : (gs : List Finished) → slice_get (gs ++ aborted (of_snapshot x) ∷ []) (length gs) ≡ Some (aborted (of_snapshot x))
-      at_end [] = refl
-      at_end (h ∷ gs) = at_end gs
-
-  pub stands_ended : StandsFor 0 (record { over = over; stand = world.snapshot x }) (record { over = over ++ record { work = world.begun x.number x.begin; fate = world.aborts } ∷ []; stand = world.idle })
-  stands_ended = record {
-    commits = λ seat. append_none (committed_in seat over) ∙ sym (no_commit seat over (of_snapshot x));
-    made = λ y. omega (arith, one_more (λ (g : Finished). times_made g.work.made y) refl);
-    claims = omega (arith, one_more (λ (g : Finished). length g.work.claims) refl);
-    current = refl;
-    was = λ w has. (w, ended_was w has, read_itself w);
-    is = λ w has. inl (w, ended_is w has, read_itself w);
-    working = λ w now. absurd now;
-    stamped = ended_stamped;
-    numbered = ended_numbered;
-    excluded = λ w stamp succ pred m. ∈-first over (aborted (of_snapshot x) ∷ []) (record { work = w; fate = world.excluded stamp succ pred }) m;
-    sealed = λ bound. omega (arith, one_more (λ (g : Finished). one_below bound (stamp_of g.fate)) refl);
-  }
-    where
-      append_none : (h : History) → h ≡ h ++ []
-      append_none h = sym (append-nil h)

@@ -80,7 +80,7 @@ module _ (f : View) (told : ℕ → Session) (drew : ℕ → ℕ) (stands : (sea
   safe_here stamp safe = record {
     past = safe.past;
     history = subst (λ (h : History). IsSafeAt h stamp) (sym same_history) safe.history;
-    begins = λ seat w session now. safe.begins seat w session ((stands seat session).working w now);
+    begins = λ seat w session now. let (u, there, same) = (stands seat session).working w now in let low = safe.begins seat u session there in omega (arith, low, same);
   }
 
   stamp_there : (seat : ℕ) (w : Work) (stamp : ℕ) → IsSession f seat → HasStamp g seat w stamp → HasStamp f seat w stamp
@@ -130,6 +130,9 @@ module _ (f : View) (told : ℕ → Session) (drew : ℕ → ℕ) (stands : (sea
       once = λ seat session. subst OnceOf (sym (stands seat session).current) (holds.once seat session);
       saves = λ seat w session stand j saved at. absurd (cc at);
       few_saves = λ seat session active. omega arith;
+      unmarked = λ seat w session stand. (stands seat session).unmarked (λ u at. holds.unmarked seat u session at) w stand;
+      marks = λ seat w session has marks. (stands seat session).marks (λ u there is. holds.marks seat u session there is) w has marks;
+      marked = λ seat h session m. (stands seat session).marked (λ k n. holds.marked seat k session n) h m;
     }
 
   -- THE LOG may have one block more for each stamp that isn't told.
