@@ -1,6 +1,6 @@
 -- Where the lines told leave a session of an execution that was cut off: its transaction may have been aborted behind them, having read more, or
--- sealed with a stamp that none of them tells; a snapshot may have been begun, which none of them tells, or ended.
-use Rattle.std.proofs.Common.{◌≡◌, ℕ, Bool, true, false, List, [], ◌∷◌, ◌++◌, Option, Some, None, inl, inr, refl, sym, ap, ◌∙◌, subst}
+-- sealed with a stamp that none of them tells; a snapshot may have been begun, which none of them tells, or ended, or sealed with its mark.
+use Rattle.std.proofs.Common.{◌≡◌, ℕ, Bool, true, false, List, [], ◌∷◌, ◌++◌, Option, Some, None, option_map, option_to_list, inl, inr, refl, sym, ap, ◌∙◌, subst}
 use Rattle.erm_model.specs.declared.outcome.Phase.TheVariants.{Active, Idle}
 use Rattle.erm_model.specs.Member.{◌∈◌}
 use Rattle.erm_model.proofs.Members.{none_in_nil}
@@ -14,27 +14,33 @@ use Rattle.erm_world.specs.Whole.{HasStamps}
 use Rattle.erm_world.specs.World.{Finished, IsSession, Session, Stand, View, Work, phase_at, phase_of, work_at, work_of}
 use Rattle.erm_world.specs.World as world
 use Rattle.erm_world.proofs.Lists.{∈-last}
-use Rattle.erm_good_report.specs.Transactions.{Aborts, Progress, Transaction, Unfinished, steps_of}
-use Rattle.erm_lines.specs.Told.{Tells, TellsNow}
+use Rattle.erm_good_report.specs.Transactions.{Aborts, Progress, Snapshot, Transaction, Unfinished, steps_of, with_ending}
+use Rattle.erm_lines.specs.Told.{Tells, TellsNow, TellsOver, TellsWatched}
 use Rattle.erm_beside.specs.Calls.{After, Passes}
-use Rattle.erm_beside.specs.Safe.{DidBeginSafeBeside}
-use Rattle.erm_lines_at_once.specs.CutRuns.{IsRest, Waited, aborted, drew, ended, stood, watched}
-use Rattle.erm_told.proofs.Sessions.{aborted_told}
-use Rattle.erm_told.proofs.Turns.{TellsAt, idle_in, none_active, now_active}
+use Rattle.erm_beside.specs.Safe.{DidBeginSafeBeside, DidMarkBeside}
+use Rattle.erm_lines_at_once.specs.CutRuns.{IsRest, Waited, aborted, drew, ended, marks, stood, watched}
+use Rattle.erm_told.proofs.Sessions.{aborted_told, ended_told, now_watching}
+use Rattle.erm_told.proofs.Turns.{TellsAt, idle_in, none_active, now_active, seals_plain}
+use Rattle.erm_told.proofs.Watching.{Watching, watching as watching_told}
 use Rattle.erm_causes_at_once.proofs.Called.{KeptOn, kept_same, tried_kept}
 use Rattle.erm_told_limits.proofs.Holds.{Laws}
 use Rattle.erm_told_limits.proofs.Ran.{active_with, same_work}
 use Rattle.erm_limits_at_once.proofs.Looked.{BeganIn, began_in}
 use Rattle.erm_cut_at_once.proofs.Closing.{closed_progress}
-use Rattle.erm_cut_at_once.proofs.Rereading.{HasReadMore, read_itself, tried_reads}
-use Rattle.erm_cut_at_once.proofs.Stands.{StandsFor, stands_ended, stands_itself, stands_reread, stands_unsealed, stands_unwatched, watching}
+use Rattle.erm_cut_at_once.proofs.Rereading.{HasReread, reread_itself, tried_reads}
+use Rattle.erm_cut_at_once.proofs.Stands.{StandsFor, stands_itself, stands_reread, stands_unmarked, stands_unsealed, stands_unwatched, watching}
+
+-- what a session that was closed behind its lines had in progress: a transaction that they tell unfinished, or none
+abbrev pub IsGone : Progress → Type 0
+IsGone p = ((t : Transaction) × (p.current ≡ Some t) × (t.ending ≡ Unfinished)) ⊎ (p.current ≡ None)
 
 -- A session of the world that is left, for one of the world in which all end, whose transactions are told so: what of it was over and sealed is there,
--- and it is sealed only where that is.
+-- and it is sealed only where that is. Its snapshot, where it was closed, is told no mark.
 pub record Leaves (f : View) (seat : ℕ) (p : Progress) (told : Session) (drawn : ℕ) (gone : Bool) : Type 0 where
   pub stands : StandsFor drawn told (f.session seat)
   pub tells : Tells seat (closed_progress gone p) told
-  pub unfinished : gone ≡ true → (t : Transaction) × (p.current ≡ Some t) × (t.ending ≡ Unfinished)
+  pub unfinished : gone ≡ true → IsGone p
+  pub unmarked : gone ≡ true → (s : Snapshot) → p.snapshot ≡ Some s → s.mark ≡ None
   pub over : (of : Finished) (stamp succ : ℕ) → of ∈ (f.session seat).over → HasStamps of.fate stamp succ → of ∈ told.over
   pub sealed : (w : Work) (stamp : ℕ) → told.stand ≡ world.sealed w stamp → (f.session seat).stand ≡ world.sealed w stamp
 
@@ -61,6 +67,9 @@ never_sealed world.idle w stamp active is = absurd (cc is)
 never_sealed (world.active u) w stamp active is = absurd (cc is)
 never_sealed (world.sealed u at) w stamp active is = absurd (cc active)
 never_sealed (world.snapshot s) w stamp active is = absurd (cc is)
+
+the_snapshot : (s x : Snapshot) → Some s ≡ Some x → s ≡ x
+the_snapshot s x is = cc
 
 -- with its transaction aborted, as this work
 abbrev ended_with : Session → Work → Session
@@ -98,7 +107,7 @@ module _ (laws : Laws) (f : View) (seat : ℕ) (session : IsSession f seat) (hol
     told = here;
     drawn = 0;
     gone = false;
-    leaves = record { stands = stands; tells = tells; unfinished = λ no. absurd (cc no); over = over; sealed = sealed };
+    leaves = record { stands = stands; tells = tells; unfinished = λ no. absurd (cc no); unmarked = λ no. absurd (cc no); over = over; sealed = sealed };
   }
 
   -- nothing was done
@@ -117,21 +126,39 @@ module _ (laws : Laws) (f : View) (seat : ℕ) (session : IsSession f seat) (hol
       as_here (subst (λ (s : Session). StandsFor 0 here s) (sym began) (subst (λ (s : Session). StandsFor 0 s (watching here.over begin)) (sym own) (stands_unwatched here.over begin)))
       (λ of stamp succ m has. subst (λ (s : Session). of ∈ s.over) began m) (λ w stamp at. let no : world.idle ≡ world.sealed w stamp = sym stand ∙ at in absurd (cc no))
 
-  -- its snapshot was ended, behind its last line
+  -- its snapshot was ended, behind its last line: it counts as closed
   ended_there : HasSnapshot last seat → After seat (λ u w. DidAbort u seat w) last end → Leaving f seat p
   ended_there (x, stand) (u, passes, did) =
       let gone : Work = world.begun x.number x.begin in
       let over : f.session seat ≡ ended_with here (work_at last seat) = sym ends ∙ did.own ∙ ap (λ (s : Session). ended_with s (work_of s.stand)) passes.own in
       let ended : f.session seat ≡ ended_with here gone = over ∙ ap (λ (at : Stand). ended_with here (work_of at)) stand in
-      let own : here ≡ record { over = here.over; stand = world.snapshot x } = ap (λ (at : Stand). record { over = here.over; stand = at }) stand in
-      as_here (subst (λ (s : Session). StandsFor 0 here s) (sym ended) (subst (λ (s : Session). StandsFor 0 s (ended_with here gone)) (sym own) (stands_ended here.over x)))
-      (λ of stamp succ m has. stamped_before here.over gone of stamp succ (subst (λ (s : Session). of ∈ s.over) ended m) has)
-      (λ w stamp at. let no : world.snapshot x ≡ world.sealed w stamp = sym stand ∙ at in absurd (cc no))
+      let now = subst (λ (at : Stand). TellsNow seat p.current at) stand tells.now in
+      let own : Watching p.snapshot x = watching_told p.snapshot x (subst (λ (at : Stand). TellsWatched p.snapshot at) stand tells.watched) in record {
+        told = ended_with here gone;
+        drawn = 0;
+        gone = true;
+        leaves = record {
+          stands = subst (λ (s : Session). StandsFor 0 (ended_with here gone) s) (sym ended) (stands_itself (ended_with here gone));
+          tells = record {
+            over = subst (λ (o : Option Snapshot). TellsOver seat (p.over ++ option_to_list (option_map (with_ending Aborts) p.current)) (p.snapshots ++ option_to_list o) (here.over ++ record { work = gone; fate = world.aborts } ∷ []))
+                (sym own.is) (ended_told seat p.over p.current (with_ending Aborts) p.snapshots own.own x here.over tells.over now own.tells.snapshot own.tells.untold);
+            now = tt;
+            watched = tt;
+          };
+          unfinished = λ is. inr (now_watching seat p.current x now);
+          unmarked = λ is s same. let one : own.own ≡ s = the_snapshot own.own s (sym own.is ∙ same) in ap (λ (y : Snapshot). y.mark) (sym one) ∙ own.tells.untold;
+          over = λ of stamp succ m has. subst (λ (s : Session). of ∈ s.over) ended m;
+          sealed = λ w stamp at. absurd (cc at);
+        };
+      }
 
   -- its commit drew a stamp
   drew_there : (stamp : ℕ) → phase_at last seat ≡ Active → After seat (λ u w. DidSeal u seat stamp w) last end → Leaving f seat p
   drew_there stamp active (u, passes, did) =
       let w = work_at last seat in
+      let plain : w.is_mark ≡ false =
+      subst (λ (s : Session). (work_of s.stand).is_mark ≡ false) passes.own (seals_plain u seat stamp end (ap (λ (s : Session). phase_of s.stand) passes.own ∙ active) did)
+      in
       let sealed : f.session seat ≡ record { over = here.over; stand = world.sealed w stamp } =
       sym ends ∙ did.own ∙ ap (λ (s : Session). record { over = s.over; stand = world.sealed (work_of s.stand) stamp }) passes.own
       in
@@ -141,11 +168,35 @@ module _ (laws : Laws) (f : View) (seat : ℕ) (session : IsSession f seat) (hol
         gone = false;
         leaves = record {
           stands = subst (λ (s : Session). StandsFor 1 here s) (sym sealed)
-              (subst (λ (s : Session). StandsFor 1 s (record { over = here.over; stand = world.sealed w stamp })) (sym own) (stands_unsealed here.over w stamp));
+              (subst (λ (s : Session). StandsFor 1 s (record { over = here.over; stand = world.sealed w stamp })) (sym own) (stands_unsealed here.over w stamp plain));
           tells = tells;
           unfinished = λ no. absurd (cc no);
+          unmarked = λ no. absurd (cc no);
           over = λ of at succ m has. subst (λ (s : Session). of ∈ s.over) sealed m;
           sealed = λ x at is. absurd (never_sealed here.stand x at active is);
+        };
+      }
+
+  -- the mark of its safe snapshot drew a place
+  marked_there : (stamp : ℕ) → After seat (DidMarkBeside seat stamp) last end → Leaving f seat p
+  marked_there stamp (u, passes, did) =
+      let x = did.snapshot in
+      let stand : here.stand ≡ world.snapshot x = sym (ap (λ (s : Session). s.stand) passes.own) ∙ did.stands in
+      let sealed : f.session seat ≡ record { over = here.over; stand = world.sealed (world.marking x) stamp } =
+      sym ends ∙ did.seals.own ∙ ap (λ (s : Session). record { over = s.over; stand = world.sealed (world.marking x) stamp }) passes.own
+      in
+      let own : here ≡ record { over = here.over; stand = world.snapshot x } = ap (λ (at : Stand). record { over = here.over; stand = at }) stand in record {
+        told = here;
+        drawn = 1;
+        gone = false;
+        leaves = record {
+          stands = subst (λ (s : Session). StandsFor 1 here s) (sym sealed)
+              (subst (λ (s : Session). StandsFor 1 s (record { over = here.over; stand = world.sealed (world.marking x) stamp })) (sym own) (stands_unmarked here.over x stamp));
+          tells = tells;
+          unfinished = λ no. absurd (cc no);
+          unmarked = λ no. absurd (cc no);
+          over = λ of at succ m has. subst (λ (s : Session). of ∈ s.over) sealed m;
+          sealed = λ w at is. let no : world.snapshot x ≡ world.sealed w at = sym stand ∙ is in absurd (cc no);
         };
       }
 
@@ -154,8 +205,8 @@ module _ (laws : Laws) (f : View) (seat : ℕ) (session : IsSession f seat) (hol
   wait_kept None u active passes = kept_same here (u.session seat) active passes.own
   wait_kept (Some l) u active (n, tried) = tried_kept f seat l.command n last u active tried
 
-  reads_more : (line : Option ScriptLine) (u : View) → phase_at last seat ≡ Active → Waited f seat line last u → BeganIn (work_at u seat) → HasReadMore (work_at last seat) (work_at u seat)
-  reads_more None u active passes began = subst (λ (s : Session). HasReadMore (work_at last seat) (work_of s.stand)) (sym passes.own) (read_itself (work_at last seat))
+  reads_more : (line : Option ScriptLine) (u : View) → phase_at last seat ≡ Active → Waited f seat line last u → BeganIn (work_at u seat) → HasReread (work_at last seat) (work_at u seat)
+  reads_more None u active passes began = subst (λ (s : Session). HasReread (work_at last seat) (work_of s.stand)) (sym passes.own) (reread_itself (work_at last seat))
   reads_more (Some l) u active (n, tried) began =
       let (t, current, unfinished) = told_active seat p.current here.stand tells.now active in
       tried_reads (work_at u seat) began f seat l.command n last u active tried (steps_of t) (known.runs t current active).run (same_work (work_at u seat))
@@ -171,19 +222,22 @@ module _ (laws : Laws) (f : View) (seat : ℕ) (session : IsSession f seat) (hol
       sym ends ∙ did.own ∙ ap (λ (gs : List Finished). record { over = gs ++ gone ∷ []; stand = world.idle }) kept.over
       in
       let over : gone ∈ (f.session seat).over = subst (λ (s : Session). gone ∈ s.over) (sym ended) (∈-last here.over gone) in
-      let began = began_in laws f seat session holds y (inl (gone, over, refl)) in record {
+      let began = began_in laws f seat session holds y (inl (gone, over, refl)) in
+      let reads : HasReread w y = reads_more next u active waited began in
+      let plain : w.is_mark ≡ false = sym reads.mark ∙ holds.marked seat gone session over in record {
         told = ended_with here w;
         drawn = 0;
         gone = true;
         leaves = record {
-          stands = subst (λ (s : Session). StandsFor 0 (ended_with here w) s) (sym ended) (stands_reread here.over w y (reads_more next u active waited began));
+          stands = subst (λ (s : Session). StandsFor 0 (ended_with here w) s) (sym ended) (stands_reread here.over w y reads.more plain);
           tells = record {
             over = aborted_told seat Aborts p.over p.current p.snapshots p.snapshot here.over w w tt refl refl (λ steps answered. answered) tells.over (now_active seat p here active tells)
                 (none_active seat p here active tells);
             now = tt;
             watched = tt;
           };
-          unfinished = λ is. told_active seat p.current here.stand tells.now active;
+          unfinished = λ is. inl (told_active seat p.current here.stand tells.now active);
+          unmarked = λ is s same. let no : None ≡ Some s = sym (none_active seat p here active tells) ∙ same in absurd (cc no);
           over = λ of stamp succ m has. sealed_there here.over w y of stamp succ (subst (λ (s : Session). of ∈ s.over) ended m) has;
           sealed = λ x at is. absurd (cc is);
         };
@@ -193,5 +247,6 @@ module _ (laws : Laws) (f : View) (seat : ℕ) (session : IsSession f seat) (hol
   leaving_by (stood passes) = stood_there passes
   leaving_by (aborted u active waited did) = aborted_there u active waited did
   leaving_by (drew l stamp active is commits did) = drew_there stamp active did
+  leaving_by (marks l stamp safe is asks did) = marked_there stamp did
   leaving_by (watched l begin idle is asks did) = watched_there begin idle did
   leaving_by (ended has none did) = ended_there has did

@@ -1,7 +1,7 @@
 -- The world that is left of an execution that was cut off, as its lines tell it: of the sessions whose transactions were aborted behind them it is said
 -- that they were closed, which leaves the commits as they are.
-use Rattle.std.proofs.Common.{◌≡◌, ◌⊎◌, ℕ, zero, suc, Bool, true, false, List, [], ◌∷◌, ◌++◌, Option, Some, option_to_list, inl, inr, refl, sym, ap, ◌∙◌, subst, arith}
-use Rattle.std.specs.List.{cons_option, range_with_len}
+use Rattle.std.proofs.Common.{◌≡◌, ◌⊎◌, ℕ, zero, suc, Bool, true, false, List, [], ◌∷◌, ◌++◌, Option, Some, None, option_map, option_to_list, inl, inr, refl, sym, ap, ◌∙◌, subst, arith}
+use Rattle.std.specs.List.{cons_option, filter_map, flat_map, range_with_len}
 use Rattle.std.proofs.lemmas.Bool.{cases_lt}
 use Rattle.std.proofs.lemmas.List.{append-nil}
 use Rattle.erm_model.specs.declared.outcome.Phase.TheVariants.{Idle}
@@ -18,7 +18,7 @@ use Rattle.erm_world.specs.World as world
 use Rattle.erm_maps.specs.Runs.{IsAnswered}
 use Rattle.erm_good_report.specs.GoodReport.{places_of}
 use Rattle.erm_good_report.specs.Phases.{Closed}
-use Rattle.erm_good_report.specs.Transactions.{Aborts, Ending, Progress, Said, Transaction, Unfinished, committed_as, committed_of, ended, history_of, nothing, progress_of, steps_of, transactions_of, with_ending}
+use Rattle.erm_good_report.specs.Transactions.{Aborts, Ending, Mark, Progress, Said, Snapshot, Transaction, committed_as, committed_of, ended, history_of, marked_as, marks_of, nothing, progress_of, steps_of, transactions_of, with_ending}
 use Rattle.erm_good_at_once.specs.CutReports.{answered_of}
 use Rattle.erm_lines.specs.Executions.{IsOpened}
 use Rattle.erm_lines.specs.Told.{Tells}
@@ -37,7 +37,7 @@ use Rattle.erm_cut_at_once.proofs.Closing.{closed_progress, gones, progress_with
 use Rattle.erm_cut_at_once.proofs.Stands.{StandsFor}
 use Rattle.erm_cut_at_once.proofs.World.{is_left, safe_here, same_history, told_world}
 use Rattle.erm_told_log_at_once.specs.Left.{CutRunsLeaveWorlds, HasLogOf, LeavesWorld}
-use Rattle.erm_told_log_at_once.proofs.Leaving.{Leaves, Leaving, leaving_by}
+use Rattle.erm_told_log_at_once.proofs.Leaving.{IsGone, Leaves, Leaving, leaving_by}
 
 -- THE COMMITS told are the same where unfinished transactions are told to be aborted
 same_commit : (t u : Transaction) → IsAs t u → committed_of u ≡ committed_of t
@@ -68,13 +68,36 @@ told_there (x ∷ ts) (u ∷ us) alike t m = elim (∈-cons t x ts m) [
 abbrev all_in : Progress → List Transaction
 all_in p = p.over ++ option_to_list p.current
 
-alike_closed : (gone : Bool) (p : Progress) → (gone ≡ true → (t : Transaction) × (p.current ≡ Some t) × (t.ending ≡ Unfinished)) → Alike (all_in p) (all_in (closed_progress gone p))
+alike_closed : (gone : Bool) (p : Progress) → (gone ≡ true → IsGone p) → Alike (all_in p) (all_in (closed_progress gone p))
 alike_closed false p now = alike_itself (all_in p)
-alike_closed true p now =
-    let (t, current, unfinished) = now refl in
-    subst (λ (c : Option Transaction). Alike (p.over ++ option_to_list c) (all_in (ended Aborts (record p { current = c })))) (sym current)
-    (subst (λ (us : List Transaction). Alike (p.over ++ t ∷ []) us) (sym (append-nil (p.over ++ with_ending Aborts t ∷ [])))
-    (alike_both p.over p.over (t ∷ []) (with_ending Aborts t ∷ []) (alike_itself p.over) (inr (unfinished, refl), tt)))
+alike_closed true p now = elim (now refl) as (λ _. Alike (all_in p) (all_in (closed_progress true p))) [
+  | inl (t, current, unfinished) ↦
+      subst (λ (c : Option Transaction). Alike (p.over ++ option_to_list c) (all_in (ended Aborts (record p { current = c })))) (sym current)
+      (subst (λ (us : List Transaction). Alike (p.over ++ t ∷ []) us) (sym (append-nil (p.over ++ with_ending Aborts t ∷ [])))
+      (alike_both p.over p.over (t ∷ []) (with_ending Aborts t ∷ []) (alike_itself p.over) (inr (unfinished, refl), tt)))
+  | inr none ↦
+      subst (λ (c : Option Transaction). Alike (p.over ++ option_to_list c) (all_in (ended Aborts (record p { current = c })))) (sym none)
+      (subst (λ (us : List Transaction). Alike (p.over ++ []) us) (sym (append-nil (p.over ++ []))) (alike_itself (p.over ++ [])))
+]
+
+-- THE MARKS told are the same where sessions are closed: their snapshots are told none
+more_marks : (seat : ℕ) (ss : List Snapshot) (s : Snapshot) → s.mark ≡ None → filter_map (marked_as seat) (ss ++ s ∷ []) ≡ filter_map (marked_as seat) ss
+more_marks seat [] s none = ap (λ (o : Option (ℕ × ℕ)). cons_option (option_map (λ m. record { session = seat; number = s.number; begin = s.begin; safe = m.0; stamp = m.1 }) o) []) none
+more_marks seat (x ∷ ss) s none = ap (λ (ks : List Mark). cons_option (marked_as seat x) ks) (more_marks seat ss s none)
+
+marks_closed : (seat : ℕ) (gone : Bool) (p : Progress) → (gone ≡ true → (s : Snapshot) → p.snapshot ≡ Some s → s.mark ≡ None)
+    → filter_map (marked_as seat) (closed_progress gone p).snapshots ≡ filter_map (marked_as seat) p.snapshots
+marks_closed seat false p none = refl
+marks_closed seat true p none = with_it p.snapshot (none refl)
+  where
+    with_it : (o : Option Snapshot) → ((s : Snapshot) → o ≡ Some s → s.mark ≡ None) → filter_map (marked_as seat) (p.snapshots ++ option_to_list o) ≡ filter_map (marked_as seat) p.snapshots
+    with_it None unmarked = ap (λ (ss : List Snapshot). filter_map (marked_as seat) ss) (append-nil p.snapshots)
+    with_it (Some s) unmarked = more_marks seat p.snapshots s (unmarked s refl)
+
+same_flat : (g h : ℕ → List Mark) (ns : List ℕ) → ((n : ℕ) → n ∈ ns → g n ≡ h n) → flat_map g ns ≡ flat_map h ns
+same_flat g h [] same = refl
+same_flat g h (n ∷ ns) same =
+    ap (λ (ks : List Mark). ks ++ flat_map g ns) (same n (∈-head n ns)) ∙ ap (λ (ks : List Mark). h n ++ ks) (same_flat g h ns (λ m of. same m (∈-behind n ns m of)))
 
 -- a number is that of a session, or of none
 abbrev Chosen : View → ℕ → Type 0
@@ -180,6 +203,13 @@ module _ (v f : View) (script : List ScriptLine) (counts : ℕ → ℕ) (answers
       let session : IsSession v q = (bounds.0, omega (arith, bounds.1)) in
       subst (λ (p : Progress). Alike (all_in (progress q)) (all_in p)) (sym (progress_said q session)) (alike_closed (gone q) (progress q) (leaves q session).unfinished))
 
+  marks_same : marks_of sessions said ≡ marks_of sessions (places_of part answers closed)
+  marks_same = same_flat (λ (q : ℕ). filter_map (marked_as q) (progress_of q said).snapshots) (λ (q : ℕ). filter_map (marked_as q) (progress q).snapshots) (range_with_len 1 sessions)
+      (λ q m.
+      let bounds = in_range 1 sessions q m in
+      let session : IsSession v q = (bounds.0, omega (arith, bounds.1)) in
+      ap (λ (p : Progress). filter_map (marked_as q) p.snapshots) (progress_said q session) ∙ marks_closed q (gone q) (progress q) (leaves q session).unmarked)
+
   pub left_world : LeavesWorld v f script counts answers closed
   left_world = record {
     left = g;
@@ -191,6 +221,7 @@ module _ (v f : View) (script : List ScriptLine) (counts : ℕ → ℕ) (answers
     commits =
         ap (λ (o : world.Opening). history_of (transactions_of o.sessions said)) opening
         ∙ same_commits (transactions_of sessions (places_of part answers closed)) (transactions_of sessions said) alike;
+    marks = ap (λ (o : world.Opening). marks_of o.sessions said) opening ∙ marks_same;
     each = λ t m.
         subst (λ (o : world.Opening). (u : Transaction) × (u ∈ transactions_of o.sessions said) × (u.begin ≡ t.begin) × (steps_of u ≡ steps_of t)) (sym opening)
         (told_there (transactions_of sessions (places_of part answers closed)) (transactions_of sessions said) alike t m);

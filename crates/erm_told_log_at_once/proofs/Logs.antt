@@ -7,9 +7,10 @@ use Rattle.erm_world.specs.Log.{IsEnd, IsLog, Log, Undecided, gathered_to}
 use Rattle.erm_world.specs.Whole.{IsBlockOf, IsLogOf, IsSealedAt}
 use Rattle.erm_world.specs.World.{IsSession, Stand, View, Work}
 use Rattle.erm_world.specs.World as world
+use Rattle.erm_good_report.specs.Transactions.{Mark}
 use Rattle.erm_told.proofs.Executed.{still_session}
 use Rattle.erm_told_crash.specs.Laws.{StandApart}
-use Rattle.erm_told_crash.specs.Logged.{HasCommits}
+use Rattle.erm_told_crash.specs.Logged.{HasCommits, HasMarks, StayBehind}
 use Rattle.erm_told_log_at_once.specs.Left.{HasLogOf}
 
 -- one that isn't decided, where it is sealed in the world
@@ -128,3 +129,9 @@ module _ (f g : View) (has : HasLogOf f g) where
 
     pub commits_here : (commits : List Committed) → HasCommits (log_in g log) commits → HasCommits log commits
     commits_here commits has_commits = record { each = has_commits.each; all = has_commits.all; within = has_commits.within }
+
+    pub behind_here : (commits : List Committed) → StayBehind (log_in g log) commits → StayBehind log commits
+    behind_here commits behind c m = behind c m
+
+    pub marks_here : (marks : List Mark) → HasMarks (log_in g log) marks → HasMarks log marks
+    marks_here marks has_marks = record { each = has_marks.each; all = has_marks.all; within = has_marks.within; safe = has_marks.safe }

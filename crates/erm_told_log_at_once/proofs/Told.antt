@@ -9,14 +9,14 @@ use Rattle.erm_world.specs.Whole.{IsLogOf}
 use Rattle.erm_world.specs.World.{View}
 use Rattle.erm_world.specs.World as world
 use Rattle.erm_good_report.specs.Opening.{Opening}
-use Rattle.erm_good_report.specs.Transactions.{Said, history_of}
+use Rattle.erm_good_report.specs.Transactions.{Mark, Said, history_of, marks_of}
 use Rattle.erm_invariant.specs.Commits.{EachFrontRuns}
 use Rattle.erm_lines.specs.Executions.{IsOpeningOf}
 use Rattle.erm_told_order.specs.Told.{IsTold, told_in}
 use Rattle.erm_told_crash.specs.Laws.{StandApart, ToldTellAll, ToldTellStates}
-use Rattle.erm_told_crash.specs.Logged.{HasCommits, ToldLogCommits}
+use Rattle.erm_told_crash.specs.Logged.{HasCommits, HasMarks, StayBehind, ToldCommitsStayBehind, ToldLogCommits, ToldLogMarks}
 use Rattle.erm_told_fronts.specs.Fronts.{ToldFrontsRun}
-use Rattle.erm_told_log_at_once.specs.Laws.{LogsCommits, TellsAll, TellsStates}
+use Rattle.erm_told_log_at_once.specs.Laws.{LogsCommits, StaysBehind, TellsAll, TellsStates}
 
 module _ (v f : View) (same : f.opening ≡ v.opening) (said : List Said) (told : IsTold f said) (commits : List Committed) (are : history_of (told_in f said) ≡ commits) where
   map_is : (opening : Opening) → IsOpeningOf v opening → opening.map ≡ map_of_rows f.opening.rows
@@ -37,3 +37,11 @@ module _ (v f : View) (same : f.opening ≡ v.opening) (said : List Said) (told 
 
     pub logged : ToldLogCommits → (opening : Opening) → LogsCommits opening commits log
     logged law opening = subst (λ (cs : List Committed). HasCommits log cs) are (law f said told apart log of_log is)
+
+    pub behind : ToldCommitsStayBehind → (opening : Opening) → StaysBehind opening commits log
+    behind law opening = subst (λ (cs : List Committed). StayBehind log cs) are (law f said told log of_log)
+
+-- the marks too
+pub marked : (f : View) (said : List Said) → IsTold f said → (marks : List Mark) → marks_of f.opening.sessions said ≡ marks → StandApart f → (log : Log) → IsLogOf f log → IsLog sound_law.meets log
+    → ToldLogMarks → HasMarks log marks
+marked f said told marks are apart log of_log is law = subst (λ (ks : List Mark). HasMarks log ks) are (law f said told apart log of_log is)

@@ -16,14 +16,14 @@ use Rattle.erm_good_report.specs.GoodReport.{places_of}
 use Rattle.erm_good_report.specs.Opening.{Opening}
 use Rattle.erm_good_report.specs.Phases.{Closed}
 use Rattle.erm_good_report.specs.Stamps.{place_told}
-use Rattle.erm_good_report.specs.Transactions.{history_of, transactions_of}
+use Rattle.erm_good_report.specs.Transactions.{history_of, marks_of, transactions_of}
 use Rattle.erm_good_at_once.specs.CutReports.{answered_of}
 use Rattle.erm_invariant.specs.Commits.{EachFrontRuns}
 use Rattle.erm_lines.specs.Executions.{IsOpeningOf}
 use Rattle.erm_lines_at_once.specs.CutRuns.{IsCutRunAtOnce}
 use Rattle.erm_lines_at_once.specs.Executions.{IsRunAtOnce}
 use Rattle.erm_told_crash.specs.Laws.{StandApart}
-use Rattle.erm_told_crash.specs.Logged.{HasCommits}
+use Rattle.erm_told_crash.specs.Logged.{HasCommits, HasMarks, StayBehind}
 
 -- a fact of the commits that an execution tells, of its opening, and of the log of the world in which all end
 abbrev pub Fact : Type 1
@@ -55,6 +55,10 @@ TellsAll opening commits log = gathered_to log ≡ log.tail → (order : List Co
 abbrev pub LogsCommits : Fact
 LogsCommits opening commits log = HasCommits log commits
 
+-- and their successor stamps lie behind its start
+abbrev pub StaysBehind : Fact
+StaysBehind opening commits log = StayBehind log commits
+
 -- so the log of a whole execution tells states
 abbrev pub RunsAtOnceTellStates : Type 0
 RunsAtOnceTellStates = OfLoggedRuns TellsStates
@@ -67,6 +71,15 @@ RunsAtOnceTellAll = OfLoggedRuns TellsAll
 abbrev pub RunsAtOnceLogCommits : Type 0
 RunsAtOnceLogCommits = OfLoggedRuns LogsCommits
 
+-- which stay behind its start
+abbrev pub RunsAtOnceStayBehind : Type 0
+RunsAtOnceStayBehind = OfLoggedRuns StaysBehind
+
+-- and it has the marks that the report tells
+abbrev pub RunsAtOnceLogMarks : Type 0
+RunsAtOnceLogMarks = (v f : View) (script : List ScriptLine) (answers : List Answer) (closed : List Closed) → IsRunAtOnce v script answers closed f
+    → StandApart f → (log : Log) → IsLogOf f log → IsLog sound_law.meets log → HasMarks log (marks_of v.opening.sessions (places_of script answers closed))
+
 -- the log of an execution that was cut off tells states too
 abbrev pub CutRunsTellStates : Type 0
 CutRunsTellStates = OfLoggedCutRuns TellsStates
@@ -74,6 +87,15 @@ CutRunsTellStates = OfLoggedCutRuns TellsStates
 -- and has the commits that the lines answered tell
 abbrev pub CutRunsLogCommits : Type 0
 CutRunsLogCommits = OfLoggedCutRuns LogsCommits
+
+-- which stay behind its start
+abbrev pub CutRunsStayBehind : Type 0
+CutRunsStayBehind = OfLoggedCutRuns StaysBehind
+
+-- and the marks
+abbrev pub CutRunsLogMarks : Type 0
+CutRunsLogMarks = (v f : View) (script : List ScriptLine) (counts : ℕ → ℕ) (answers : List Answer) (closed : List Closed) → IsCutRunAtOnce v script counts answers closed f
+    → StandApart f → (log : Log) → IsLogOf f log → IsLog sound_law.meets log → HasMarks log (marks_of v.opening.sessions (places_of (answered_of counts script) answers closed))
 
 -- the commits that an execution at once tells, those below any stamp, give their replies in the serial order
 abbrev pub RunsAtOnceRunInFronts : Type 0

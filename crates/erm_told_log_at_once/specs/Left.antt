@@ -9,7 +9,7 @@ use Rattle.erm_world.specs.World.{Finished, HasStamp, IsSession, View, Work}
 use Rattle.erm_world.specs.World as world
 use Rattle.erm_good_report.specs.GoodReport.{places_of}
 use Rattle.erm_good_report.specs.Phases.{Closed}
-use Rattle.erm_good_report.specs.Transactions.{Said, Transaction, history_of, steps_of, transactions_of}
+use Rattle.erm_good_report.specs.Transactions.{Said, Transaction, history_of, marks_of, steps_of, transactions_of}
 use Rattle.erm_good_at_once.specs.CutReports.{answered_of}
 use Rattle.erm_lines_at_once.specs.CutRuns.{IsCutRunAtOnce}
 use Rattle.erm_told_order.specs.Told.{IsTold, told_in}
@@ -26,7 +26,8 @@ pub record HasLogOf (f g : View) : Type 0 where
   pub stamped : (seat : ℕ) (w : Work) (stamp : ℕ) → IsSession f seat → HasStamp g seat w stamp → HasStamp f seat w stamp
 
 -- A world with the log of that in which all end, of which this is said; it has the same commits, and each stamp that is safe there is safe in it. The
--- commits that are said are those that the lines answered tell, and each transaction that these tell is said too, with its begin stamp and its replies.
+-- commits that are said, and the marks, are those that the lines answered tell, and each transaction that these tell is said too, with its begin stamp and
+-- its replies.
 pub record LeavesWorld (v f : View) (script : List ScriptLine) (counts : ℕ → ℕ) (answers : List Answer) (closed : List Closed) : Type 0 where
   pub left : View
   pub said : List Said
@@ -35,6 +36,7 @@ pub record LeavesWorld (v f : View) (script : List ScriptLine) (counts : ℕ →
   pub history : world.history_of left ≡ world.history_of f
   pub safe : (stamp : ℕ) → IsSafeIn f stamp → IsSafeIn left stamp
   pub commits : history_of (told_in left said) ≡ history_of (transactions_of v.opening.sessions (places_of (answered_of counts script) answers closed))
+  pub marks : marks_of left.opening.sessions said ≡ marks_of v.opening.sessions (places_of (answered_of counts script) answers closed)
   pub each : (t : Transaction) → t ∈ transactions_of v.opening.sessions (places_of (answered_of counts script) answers closed)
       → (u : Transaction) × (u ∈ told_in left said) × (u.begin ≡ t.begin) × (steps_of u ≡ steps_of t)
 

@@ -2,7 +2,7 @@
 //! tells; and which of its answers speak of the log. Each law is the contract of a function that does nothing.
 #![tactic(auto)]
 
-ghost use Rattle.erm_told_log_at_once.specs.Laws.{CutRunsCutFew, CutRunsLogCommits, CutRunsRunInFronts, CutRunsTellFlushed, CutRunsTellStates, RunsAtOnceCutFew, RunsAtOnceLogCommits, RunsAtOnceRunInFronts, RunsAtOnceTellAll, RunsAtOnceTellFlushed, RunsAtOnceTellStates};
+ghost use Rattle.erm_told_log_at_once.specs.Laws.{CutRunsCutFew, CutRunsLogCommits, CutRunsLogMarks, CutRunsRunInFronts, CutRunsStayBehind, CutRunsTellFlushed, CutRunsTellStates, RunsAtOnceCutFew, RunsAtOnceLogCommits, RunsAtOnceLogMarks, RunsAtOnceRunInFronts, RunsAtOnceStayBehind, RunsAtOnceTellAll, RunsAtOnceTellFlushed, RunsAtOnceTellStates};
 ghost use Rattle.erm_told_log_at_once.specs.Left.{CutRunsLeaveWorlds};
 
 /// At each block of the log, the rows behind it stand for the state, as the report tells it, below the place behind it.
@@ -24,6 +24,22 @@ pub fn runs_at_once_tell_all()
 /// The log has the commits that the report tells: its blocks are theirs, and those of excluded transactions.
 pub fn runs_at_once_log_commits()
     ensures { RunsAtOnceLogCommits }
+{
+    erm_told_at_once::runs_in_part_are_told();
+    erm_told_crash::told_logs_tell_states();
+}
+
+/// The successor stamps of these commits lie behind the place where the log was opened.
+pub fn runs_at_once_stay_behind()
+    ensures { RunsAtOnceStayBehind }
+{
+    erm_told_at_once::runs_in_part_are_told();
+    erm_told_crash::told_logs_tell_states();
+}
+
+/// The log has the marks that the report tells: its marks are theirs.
+pub fn runs_at_once_log_marks()
+    ensures { RunsAtOnceLogMarks }
 {
     erm_told_at_once::runs_in_part_are_told();
     erm_told_crash::told_logs_tell_states();
@@ -72,6 +88,22 @@ pub fn cut_runs_tell_states()
 /// The log has the commits that the lines answered tell, and those of the sessions that were decided behind them.
 pub fn cut_runs_log_commits()
     ensures { CutRunsLogCommits }
+{
+    cut_runs_leave_worlds();
+    erm_told_crash::told_logs_tell_states();
+}
+
+/// The successor stamps of these lie behind the place where the log was opened.
+pub fn cut_runs_stay_behind()
+    ensures { CutRunsStayBehind }
+{
+    cut_runs_leave_worlds();
+    erm_told_crash::told_logs_tell_states();
+}
+
+/// The log has the marks that the lines answered tell.
+pub fn cut_runs_log_marks()
+    ensures { CutRunsLogMarks }
 {
     cut_runs_leave_worlds();
     erm_told_crash::told_logs_tell_states();
