@@ -39,6 +39,10 @@ goes_rest f seat next v t (rest.ended (x, stand) none (u, passes, did)) =
     continues_then (v.session seat) (u.session seat) (t.session seat) (continues_itself (v.session seat) (u.session seat) passes.own)
     (continues_from (u.session seat) (t.session seat) (world.snapshot x) (ap (λ (s : Session). s.stand) passes.own ∙ stand)
     (record { work = work_at u seat; fate = world.aborts } ∷ []) (ap (λ (s : Session). s.over) did.own) tt)
+goes_rest f seat next v t (rest.marks l stamp safe is asks (u, passes, did)) =
+    continues_then (v.session seat) (u.session seat) (t.session seat) (continues_itself (v.session seat) (u.session seat) passes.own)
+    (continues_from (u.session seat) (t.session seat) (world.snapshot did.snapshot) did.stands []
+    (ap (λ (s : Session). s.over) did.seals.own ∙ sym (append-nil (u.session seat).over)) tt)
 
 -- a line in which memory ran out
 pub goes_short : (s t : Session) → WasGivenUp s t → Continues s t
@@ -48,7 +52,10 @@ goes_short s t (work.aborted w u at more is) =
     let over = ap (λ (r : Session). r.over) is in
     continues_from s t (world.active w) at (gone ∷ []) over (u, more, inr (inr (gone, [], s.over, over, refl)))
 
--- A SNAPSHOT that was in progress is so still, or is over.
+-- A SNAPSHOT that was in progress is so still, or is sealed with its mark, or is over: a work of the session began where it did.
+abbrev pub BeganAt : Session → ℕ → Type 0
+BeganAt s begin = (w : Work) × HasIn s w × (w.begin ≡ begin)
+
 abbrev bare : world.Snapshot → Work
 bare x = world.begun x.number x.begin
 
@@ -58,22 +65,34 @@ never_active x stand is active = let no : world.snapshot x ≡ world.active (wor
 never_idle : (x : world.Snapshot) (stand : Stand) → stand ≡ world.snapshot x → phase_of stand ≡ Idle → ⊥
 never_idle x stand is idle = let no : world.snapshot x ≡ world.idle = sym is ∙ idle_in stand idle in cc
 
-stands_still : (s t : Session) (x : world.Snapshot) → s.stand ≡ world.snapshot x → t ≡ s → HasIn t (bare x)
-stands_still s t x stand is = inr (subst (λ (at : Stand). IsCurrent at (bare x)) (sym (ap (λ (r : Session). r.stand) is ∙ stand)) refl)
+one_snapshot : (x y : world.Snapshot) → world.snapshot x ≡ world.snapshot y → x ≡ y
+one_snapshot x y is = cc
 
-pub watched_rest : (f : View) (seat : ℕ) (next : Option ScriptLine) (v t : View) (x : world.Snapshot) → (v.session seat).stand ≡ world.snapshot x → IsRest f seat next v t → HasIn (t.session seat) (bare x)
+stands_still : (s t : Session) (x : world.Snapshot) → s.stand ≡ world.snapshot x → t ≡ s → BeganAt t x.begin
+stands_still s t x stand is = (bare x, inr (subst (λ (at : Stand). IsCurrent at (bare x)) (sym (ap (λ (r : Session). r.stand) is ∙ stand)) refl), refl)
+
+pub watched_rest : (f : View) (seat : ℕ) (next : Option ScriptLine) (v t : View) (x : world.Snapshot) → (v.session seat).stand ≡ world.snapshot x → IsRest f seat next v t → BeganAt (t.session seat) x.begin
 watched_rest f seat next v t x stand (rest.stood passes) = stands_still (v.session seat) (t.session seat) x stand passes.own
 watched_rest f seat next v t x stand (rest.aborted u active waited did) = absurd (never_active x (v.session seat).stand stand active)
 watched_rest f seat next v t x stand (rest.drew l stamp active is commits did) = absurd (never_active x (v.session seat).stand stand active)
 watched_rest f seat next v t x stand (rest.watched l begin idle is asks did) = absurd (never_idle x (v.session seat).stand stand idle)
 watched_rest f seat next v t x stand (rest.ended has none (u, passes, did)) =
-    let gone : Finished = record { work = work_at u seat; fate = world.aborts } in
-    inl (
-      gone,
-      subst (λ (s : Session). gone ∈ s.over) (sym did.own) (∈-last (u.session seat).over gone),
-      ap (λ (s : Session). work_of s.stand) passes.own ∙ ap work_of stand,
+    let gone : Finished = record { work = work_at u seat; fate = world.aborts } in (
+      bare x,
+      inl (
+        gone,
+        subst (λ (s : Session). gone ∈ s.over) (sym did.own) (∈-last (u.session seat).over gone),
+        ap (λ (s : Session). work_of s.stand) passes.own ∙ ap work_of stand,
+      ),
+      refl,
+    )
+watched_rest f seat next v t x stand (rest.marks l stamp safe is asks (u, passes, did)) =
+    let own : did.snapshot ≡ x = one_snapshot did.snapshot x (sym did.stands ∙ ap (λ (s : Session). s.stand) passes.own ∙ stand) in (
+      world.marking did.snapshot,
+      inr (subst (λ (at : Stand). IsCurrent at (world.marking did.snapshot)) (sym (ap (λ (s : Session). s.stand) did.seals.own)) refl),
+      ap (λ (y : world.Snapshot). y.begin) own,
     )
 
-pub watched_short : (s t : Session) (x : world.Snapshot) → s.stand ≡ world.snapshot x → WasGivenUp s t → HasIn t (bare x)
+pub watched_short : (s t : Session) (x : world.Snapshot) → s.stand ≡ world.snapshot x → WasGivenUp s t → BeganAt t x.begin
 watched_short s t x stand (work.stayed is) = stands_still s t x stand is
 watched_short s t x stand (work.aborted w u at more is) = let no : world.snapshot x ≡ world.active w = sym stand ∙ at in absurd (cc no)

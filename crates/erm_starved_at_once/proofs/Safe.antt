@@ -7,11 +7,11 @@ use Rattle.erm_model.specs.Committed.{Committed}
 use Rattle.erm_model.specs.History.{HasNewestRows, History}
 use Rattle.erm_model.specs.Member.{◌∈◌}
 use Rattle.erm_model.proofs.Members.{none_in_nil, ∈-behind}
-use Rattle.erm_machine.proofs.Listed.{∈-either, ∈-first, ∈-head}
+use Rattle.erm_machine.proofs.Listed.{∈-either, ∈-first, ∈-head, ∈-second}
 use Rattle.erm_node.specs.TreeMap.{map_of_rows}
 use Rattle.erm_report.specs.declared.answer.Answer.{Answer}
 use Rattle.erm_script.specs.declared.script.ScriptLine.{ScriptLine}
-use Rattle.erm_world.specs.World.{Finished, Has, IsSession, Stand, View, Work, history_of}
+use Rattle.erm_world.specs.World.{Finished, IsCurrent, IsSession, Stand, View, Work, history_of}
 use Rattle.erm_world.specs.World as world
 use Rattle.erm_good_report.specs.GoodReport.{places_of}
 use Rattle.erm_good_report.specs.Opening.{Opening}
@@ -19,7 +19,7 @@ use Rattle.erm_good_report.specs.Phases.{Closed}
 use Rattle.erm_good_report.specs.Transactions.{HasSnapshot, Progress, Said, Snapshot, heard, history_of as commits_of, nothing, progress_of, said_of, transactions_of}
 use Rattle.erm_good_at_once.specs.CutReports.{answered_of}
 use Rattle.erm_lines.specs.Executions.{IsOpeningOf, line_moves}
-use Rattle.erm_lines.specs.Told.{Tells, TellsWatched}
+use Rattle.erm_lines.specs.Told.{Continues, Tells, TellsWatched}
 use Rattle.erm_lines_at_once.specs.Executions.{IsOwnRun, all_moves}
 use Rattle.erm_told.specs.Snapshots.{IsKeptSafe}
 use Rattle.erm_told.proofs.Executed.{Knows, hears, still_session}
@@ -34,6 +34,7 @@ use Rattle.erm_causes_at_once.proofs.Safely.{kept_by}
 use Rattle.erm_told_limits.proofs.Holds.{Laws}
 use Rattle.erm_told_log_at_once.specs.Left.{LeavesWorld}
 use Rattle.erm_works.specs.Starved.{IsStarvedRunAtOnce}
+use Rattle.erm_starved_at_once.proofs.Going.{BeganAt}
 use Rattle.erm_starved_at_once.proofs.Starved.{AnswersStay, BegunAreRuns, Ran, leaves, named, ran}
 
 -- a number that no line names is told nothing
@@ -53,10 +54,15 @@ session_or v (suc n) = elim (cases_lt n v.opening.sessions) as (λ _. IsSession 
 ]
 
 -- one that was in progress, or over, where a session's moves that are told end is one of the world in which all end
-has_then : (f : View) (seat : ℕ) (last : View) (w : Work) → ((x : world.Snapshot) → (last.session seat).stand ≡ world.snapshot x → Has f seat (world.begun x.number x.begin))
-    → ((g : Finished) → g ∈ (last.session seat).over → g ∈ (f.session seat).over) → Lasts w (last.session seat) → Has f seat w
-has_then f seat last w watched over (lasting.still y stand is) = subst (λ (u : Work). Has f seat u) is (watched y stand)
-has_then f seat last w watched over (lasting.over (g, m, is)) = inl (g, over g m, is)
+has_then : (f : View) (seat : ℕ) (last : View) (w : Work) → ((x : world.Snapshot) → (last.session seat).stand ≡ world.snapshot x → BeganAt (f.session seat) x.begin)
+    → Continues (last.session seat) (f.session seat) → Lasts w (last.session seat) → BeganAt (f.session seat) w.begin
+has_then f seat last w watched goes (lasting.still y stand is) = subst (λ (n : ℕ). BeganAt (f.session seat) n) (ap (λ (u : Work). u.begin) is) (watched y stand)
+has_then f seat last w watched goes (lasting.sealed u stamp stand number begin) = elim (goes.sealed u stamp stand) as (λ _. BeganAt (f.session seat) w.begin) [
+  | inl still ↦ (u, inr (subst (λ (at : Stand). IsCurrent at u) (sym still) refl), begin)
+  | inr (g, rest, front, over, of, stamped) ↦ (u, inl (g, subst (λ (gs : List Finished). g ∈ gs) (sym over) (∈-second front (g ∷ rest) g (∈-head g rest)), of), begin)
+]
+has_then f seat last w watched goes (lasting.over u (g, m, is) number begin) =
+    (u, inl (g, subst (λ (gs : List Finished). g ∈ gs) (sym goes.over) (∈-first (last.session seat).over goes.more g m), is), begin)
 
 -- a begin stamp that is told
 told_as : (o : Option ℕ) (begin other : ℕ) → o ≡ Some begin → IfSome o (λ stamp. stamp ≡ other) → begin ≡ other
@@ -93,17 +99,15 @@ module _ (v f : View) (script : List ScriptLine) (counts : ℕ → ℕ) (answers
 
     above : (w : Work) (begin : ℕ) → Lasts w (lines.0.session seat) → begin ≡ w.begin → 0 < begin
     above w begin lasts same =
-        let over : (g : Finished) → g ∈ (its.last.session seat).over → g ∈ (f.session seat).over =
-        λ g m. subst (λ (gs : List Finished). g ∈ gs) (sym its.goes.over) (∈-first (its.last.session seat).over its.goes.more g m) in
-        let has = has_then f seat its.last w its.watched over (lasts_own runs stay f seat w (map close_of closed) lines.0 its.last lines.2 lasts) in
-        let low = (run.ends.serializable.begins seat w (still_session v f seat run.opening session) has).0 in
-        omega (arith, run.ends.serializable.opened, low, same)
+        let (u, has, begins) = has_then f seat its.last w its.watched its.goes (lasts_own runs stay f seat w (map close_of closed) lines.0 its.last lines.2 lasts) in
+        let low = (run.ends.serializable.begins seat u (still_session v f seat run.opening session) has).0 in
+        omega (arith, run.ends.serializable.opened, low, begins, same)
 
     over_above : (s : Snapshot) (begin : ℕ) → s ∈ (progress_of seat said).snapshots → s.begin ≡ Some begin → 0 < begin
     over_above s begin m is =
         let p : Progress = progress_of seat said in
         let found = ended_at seat p.over p.snapshots (lines.0.session seat).over s tells.over m in
-        above found.0.work begin (lasting.over (found.0, found.1, refl)) (told_as s.begin begin found.0.work.begin is found.2.snapshot.begin_is)
+        above found.0.work begin (lasting.over found.0.work (found.0, found.1, refl) refl refl) (told_as s.begin begin found.0.work.begin is found.2.snapshot.begin_is)
 
     now_above : (s : Snapshot) (begin : ℕ) → (progress_of seat said).snapshot ≡ Some s → s.begin ≡ Some begin → 0 < begin
     now_above s begin at is = from (lines.0.session seat).stand refl (subst (λ (o : Option Snapshot). TellsWatched o (lines.0.session seat).stand) at tells.watched)
@@ -111,7 +115,7 @@ module _ (v f : View) (script : List ScriptLine) (counts : ℕ → ℕ) (answers
         from : (stand : Stand) → (lines.0.session seat).stand ≡ stand → TellsWatched (Some s) stand → 0 < begin
         from world.idle stood told = absurd told
         from (world.active w) stood told = absurd told
-        from (world.sealed w stamp) stood told = absurd told
+        from (world.sealed w stamp) stood told = above w begin (lasting.sealed w stamp stood refl refl) (told_as s.begin begin w.begin is told.snapshot.begin_is)
         from (world.snapshot x) stood told = above (world.begun x.number x.begin) begin (lasting.still x stood refl) (told_as s.begin begin x.begin is told.snapshot.begin_is)
 
     positive : (begin : ℕ) (s : Snapshot) → HasSnapshot said seat s → s.begin ≡ Some begin → 0 < begin

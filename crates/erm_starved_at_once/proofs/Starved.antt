@@ -1,6 +1,6 @@
 -- The world that is left of an execution for some of whose sessions memory ran out: of one for which it did its transaction in progress counts as closed
 -- behind the last answer, however far it went on.
-use Rattle.std.proofs.Common.{◌≡◌, ℕ, ◌<◌, ◌≤◌, true, false, List, map, inl, inr, refl, sym, ap, ◌∙◌, subst, arith}
+use Rattle.std.proofs.Common.{◌≡◌, ℕ, ◌<◌, ◌≤◌, true, false, List, map, Some, None, inl, inr, refl, sym, ap, ◌∙◌, subst, arith}
 use Rattle.erm_model.specs.declared.outcome.Phase.{Phase}
 use Rattle.erm_model.specs.declared.outcome.Phase.TheVariants.{Active, Idle, Sealed, Pending, Safe}
 use Rattle.erm_model.specs.Member.{◌∈◌}
@@ -9,7 +9,7 @@ use Rattle.erm_report.specs.declared.answer.Answer.{Answer}
 use Rattle.erm_report.specs.declared.answer.Answer.TheVariants as answer
 use Rattle.erm_script.specs.declared.script.ScriptLine.{ScriptLine}
 use Rattle.erm_world.specs.Going.{Extends}
-use Rattle.erm_world.specs.World.{Has, IsSession, Session, View, Work, phase_of, work_of}
+use Rattle.erm_world.specs.World.{IsSession, Session, View, Work, phase_of, work_of}
 use Rattle.erm_world.specs.World as world
 use Rattle.erm_maps.specs.Runs.{IsAnswered}
 use Rattle.erm_good_report.specs.Phases.{Closed, Closes}
@@ -30,7 +30,7 @@ use Rattle.erm_told_at_once.proofs.Runs.{close_of, first_known, is_closed, knows
 use Rattle.erm_told_limits.proofs.Holds.{Laws}
 use Rattle.erm_cut_at_once.proofs.Closing.{closed_progress}
 use Rattle.erm_cut_at_once.proofs.Parted.{all_answered, in_script}
-use Rattle.erm_cut_at_once.proofs.Stands.{HasIn, stands_itself}
+use Rattle.erm_cut_at_once.proofs.Stands.{stands_itself}
 use Rattle.erm_told_log_at_once.specs.Laws.{AreCutsFew, AreFlushed}
 use Rattle.erm_told_log_at_once.specs.Left.{LeavesWorld}
 use Rattle.erm_told_log_at_once.proofs.Answered.{HasOwn, are_flushed, cuts_few}
@@ -39,7 +39,7 @@ use Rattle.erm_told_log_at_once.proofs.Leaving.{Leaving, leaving_by, told_active
 use Rattle.erm_told_log_at_once.proofs.Left.{known, left_world, told_of}
 use Rattle.erm_worker.specs.Work.{WasGivenUp, aborted, stayed}
 use Rattle.erm_works.specs.Starved.{IsStarvedPart, IsStarvedRunAtOnce}
-use Rattle.erm_starved_at_once.proofs.Going.{goes_rest, goes_short, watched_rest, watched_short}
+use Rattle.erm_starved_at_once.proofs.Going.{BeganAt, goes_rest, goes_short, watched_rest, watched_short}
 
 -- what was answered on a work stays so on one that has gone on
 abbrev pub AnswersStay : Type 0
@@ -58,6 +58,7 @@ leaving_short stay f seat p here tells (stayed is) = record {
     stands = stands_itself (f.session seat);
     tells = subst (λ (s : Session). Tells seat p s) (sym is) tells;
     unfinished = λ lacked. absurd (cc lacked);
+    unmarked = λ lacked. absurd (cc lacked);
     over = λ of stamp succ m has. m;
     sealed = λ w stamp at. at;
   };
@@ -77,7 +78,8 @@ leaving_short stay f seat p here tells (aborted w u at goes is) =
           now = tt;
           watched = tt;
         });
-        unfinished = λ gone. told_active seat p.current here.stand tells.now active;
+        unfinished = λ gone. inl (told_active seat p.current here.stand tells.now active);
+        unmarked = λ gone s same. let no : None ≡ Some s = sym (none_active seat p here active tells) ∙ same in absurd (cc no);
         over = λ of stamp succ m has. m;
         sealed = λ x stamp there. there;
       };
@@ -94,13 +96,14 @@ closes_sealed Pending a fits sealed = absurd fits
 closes_sealed Safe answer.Aborted fits sealed = absurd sealed
 closes_sealed Safe a fits sealed = absurd fits
 
--- EACH SESSION has an own run of its moves that are told, was flushed no further there, and went on from there: a snapshot that it had is one of its own.
+-- EACH SESSION has an own run of its moves that are told, was flushed no further there, and went on from there: what began where a snapshot did that it had
+-- is its own.
 pub record Ran (f : View) (seat : ℕ) (v : View) (moves : List Move) : Type 0 where
   pub last : View
   pub run : IsOwnRun f seat v moves last
   pub flushed : last.flushed ≤ f.flushed
   pub goes : Continues (last.session seat) (f.session seat)
-  pub watched : (x : world.Snapshot) → (last.session seat).stand ≡ world.snapshot x → Has f seat (world.begun x.number x.begin)
+  pub watched : (x : world.Snapshot) → (last.session seat).stand ≡ world.snapshot x → BeganAt (f.session seat) x.begin
 
 module _ (v f : View) (script : List ScriptLine) (counts : ℕ → ℕ) (answers : List Answer) (closed : List Closed) (run : IsStarvedRunAtOnce v script counts answers closed f) where
   abbrev part : List ScriptLine
@@ -115,7 +118,7 @@ module _ (v f : View) (script : List ScriptLine) (counts : ℕ → ℕ) (answers
     run = its.run;
     flushed = omega (arith, (rest_beyond f seat (next_of seat counts script) its.last its.end its.rest).flushed, its.within.1);
     goes = subst (λ (s : Session). Continues (its.last.session seat) s) its.ends (goes_rest f seat (next_of seat counts script) its.last its.end its.rest);
-    watched = λ x stand. subst (λ (s : Session). HasIn s (world.begun x.number x.begin)) its.ends (watched_rest f seat (next_of seat counts script) its.last its.end x stand its.rest);
+    watched = λ x stand. subst (λ (s : Session). BeganAt s x.begin) its.ends (watched_rest f seat (next_of seat counts script) its.last its.end x stand its.rest);
   }
   ran_of seat (inr its) = record {
     last = its.last;

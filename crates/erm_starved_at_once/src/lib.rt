@@ -5,7 +5,7 @@
 ghost use Rattle.erm_starved_at_once.specs.Laws.{StarvedRunsTell};
 
 /// The log has just the commits that the lines answered tell, with the sessions that were decided behind them, and stands for the states that they
-/// make; those below any stamp give their replies in the serial order. Each answer is one to its line, whose replies are those of its transaction's
+/// make, and their marks; those below any stamp give their replies in the serial order. Each answer is one to its line, whose replies are those of its transaction's
 /// snapshot, or of its safe one. What a line in which memory ran out claimed, or made, was given up.
 pub fn starved_runs_tell()
     ensures { StarvedRunsTell }

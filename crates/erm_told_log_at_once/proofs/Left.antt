@@ -18,7 +18,7 @@ use Rattle.erm_world.specs.World as world
 use Rattle.erm_maps.specs.Runs.{IsAnswered}
 use Rattle.erm_good_report.specs.GoodReport.{places_of}
 use Rattle.erm_good_report.specs.Phases.{Closed}
-use Rattle.erm_good_report.specs.Transactions.{Aborts, Ending, Mark, Progress, Said, Snapshot, Transaction, committed_as, committed_of, ended, history_of, marked_as, marks_of, nothing, progress_of, steps_of, transactions_of, with_ending}
+use Rattle.erm_good_report.specs.Transactions.{Aborts, Ending, Mark, Progress, Said, Snapshot, Transaction, committed_as, committed_of, ended, history_of, marked_as, marks_of, nothing, progress_of, stamp_of, steps_of, transactions_of, with_ending}
 use Rattle.erm_good_at_once.specs.CutReports.{answered_of}
 use Rattle.erm_lines.specs.Executions.{IsOpened}
 use Rattle.erm_lines.specs.Told.{Tells}
@@ -62,6 +62,19 @@ told_there (x ∷ ts) [] alike t m = absurd alike
 told_there (x ∷ ts) (u ∷ us) alike t m = elim (∈-cons t x ts m) [
   | inl here ↦ let (begin, steps) = told_so t u (subst (λ (y : Transaction). IsAs y u) here alike.0) in (u, ∈-head u us, begin, steps)
   | inr later ↦ let (y, in_it, begin, steps) = told_there ts us alike.1 t later in (y, ∈-behind u us y in_it, begin, steps)
+]
+
+-- and its commit stamp
+same_stamp : (t u : Transaction) → IsAs t u → stamp_of u ≡ stamp_of t
+same_stamp t u (inl is) = ap stamp_of is
+same_stamp t u (inr (unfinished, is)) = ap stamp_of is ∙ ap (λ (e : Ending). stamp_of (with_ending e t)) (sym unfinished)
+
+stamp_there : (ts us : List Transaction) → Alike ts us → (t : Transaction) → t ∈ ts → (u : Transaction) × (u ∈ us) × (stamp_of u ≡ stamp_of t)
+stamp_there [] us alike t m = absurd (none_in_nil t m)
+stamp_there (x ∷ ts) [] alike t m = absurd alike
+stamp_there (x ∷ ts) (u ∷ us) alike t m = elim (∈-cons t x ts m) [
+  | inl here ↦ (u, ∈-head u us, same_stamp t u (subst (λ (y : Transaction). IsAs y u) here alike.0))
+  | inr later ↦ let (y, in_it, stamp) = stamp_there ts us alike.1 t later in (y, ∈-behind u us y in_it, stamp)
 ]
 
 -- a session's transactions, in the one telling and in the other
@@ -225,6 +238,9 @@ module _ (v f : View) (script : List ScriptLine) (counts : ℕ → ℕ) (answers
     each = λ t m.
         subst (λ (o : world.Opening). (u : Transaction) × (u ∈ transactions_of o.sessions said) × (u.begin ≡ t.begin) × (steps_of u ≡ steps_of t)) (sym opening)
         (told_there (transactions_of sessions (places_of part answers closed)) (transactions_of sessions said) alike t m);
+    stamps = λ t m.
+        subst (λ (o : world.Opening). (u : Transaction) × (u ∈ transactions_of o.sessions said) × (stamp_of u ≡ stamp_of t)) (sym opening)
+        (stamp_there (transactions_of sessions (places_of part answers closed)) (transactions_of sessions said) alike t m);
   }
 
 pub cut_runs_leave : Laws → NoneRuns → ((w u : Work) (steps : List Step) → Extends w u → IsAnswered w steps → IsAnswered u steps) → CutRunsLeaveWorlds

@@ -9,7 +9,7 @@ use Rattle.erm_world.specs.World.{Finished, HasStamp, IsSession, View, Work}
 use Rattle.erm_world.specs.World as world
 use Rattle.erm_good_report.specs.GoodReport.{places_of}
 use Rattle.erm_good_report.specs.Phases.{Closed}
-use Rattle.erm_good_report.specs.Transactions.{Said, Transaction, history_of, marks_of, steps_of, transactions_of}
+use Rattle.erm_good_report.specs.Transactions.{Said, Transaction, history_of, marks_of, stamp_of, steps_of, transactions_of}
 use Rattle.erm_good_at_once.specs.CutReports.{answered_of}
 use Rattle.erm_lines_at_once.specs.CutRuns.{IsCutRunAtOnce}
 use Rattle.erm_told_order.specs.Told.{IsTold, told_in}
@@ -27,7 +27,7 @@ pub record HasLogOf (f g : View) : Type 0 where
 
 -- A world with the log of that in which all end, of which this is said; it has the same commits, and each stamp that is safe there is safe in it. The
 -- commits that are said, and the marks, are those that the lines answered tell, and each transaction that these tell is said too, with its begin stamp and
--- its replies.
+-- its replies, and with its commit stamp.
 pub record LeavesWorld (v f : View) (script : List ScriptLine) (counts : ℕ → ℕ) (answers : List Answer) (closed : List Closed) : Type 0 where
   pub left : View
   pub said : List Said
@@ -39,6 +39,7 @@ pub record LeavesWorld (v f : View) (script : List ScriptLine) (counts : ℕ →
   pub marks : marks_of left.opening.sessions said ≡ marks_of v.opening.sessions (places_of (answered_of counts script) answers closed)
   pub each : (t : Transaction) → t ∈ transactions_of v.opening.sessions (places_of (answered_of counts script) answers closed)
       → (u : Transaction) × (u ∈ told_in left said) × (u.begin ≡ t.begin) × (steps_of u ≡ steps_of t)
+  pub stamps : (t : Transaction) → t ∈ transactions_of v.opening.sessions (places_of (answered_of counts script) answers closed) → (u : Transaction) × (u ∈ told_in left said) × (stamp_of u ≡ stamp_of t)
 
 -- each execution that was cut off leaves one
 abbrev pub CutRunsLeaveWorlds : Type 0

@@ -16,5 +16,5 @@ returns c =
     in
     let ways = c.calls_stay_in_their_table.ensures in
     let laws = given histories (record { way = ways.way; met = ways.met; next = ways.next }) c.begun_transactions_are_runs.ensures in
-    tell laws c.begun_transactions_are_runs.ensures c.answers_stay.ensures c.told_logs_tell_states.ensures.states c.told_logs_tell_states.ensures.commits c.told_fronts_run.ensures
+    tell laws c.begun_transactions_are_runs.ensures c.answers_stay.ensures c.told_logs_tell_states.ensures.states c.told_logs_tell_states.ensures.commits c.told_logs_tell_states.ensures.behind c.told_logs_tell_states.ensures.marks c.told_fronts_run.ensures
     c.told_worlds_have_snapshots.ensures c.told_worlds_have_safe_snapshots.ensures
