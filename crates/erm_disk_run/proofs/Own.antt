@@ -58,14 +58,31 @@ meet_told begun slots P (Some b) after (c, told, p) meets = (
     the_one : (x y : List Step) → Some x ≡ Some y → x ≡ y
     the_one x y same = cc
 
+-- what recovery met before is one
+one_found : (old : List Step) (pair before : Pair) (blocks found : List Block) → Recovers sound_law.meets (contents old) pair blocks → Recovers sound_law.meets (contents old) before found → blocks ≡ found
+one_found old pair before blocks found first other =
+    (same_recovery sound_law.meets (same_log_list stored_length-le stored_whole sound_law.meets) (contents old) pair before blocks found first other).1
+
+module _
+    (state : State) (log : Log) (commits : List Committed) (has : HasCommits log commits) (marks : List Mark) (are : HasMarks log marks) (stay : StayBehind log commits)
+    (start : log.opened.at ≡ state.at + LEAST_BLOCK) where
+  opening : (old mid : List Step) (pair : Pair) (blocks : List Block) → Recovers sound_law.meets (contents old) pair blocks → (state_behind (base pair) blocks).at ≡ state.at → (first : List Step)
+      → KeepsFound sound_law.meets state pair blocks first mid → KeepsOwn commits marks state blocks first mid
+  opening old mid pair blocks recovers at first opens =
+      weaker _ _ first mid
+      (λ now image kept tears.
+      opening_own sound_law.meets log commits has marks are stay state.at state.run start (contents old) pair blocks recovers at image state refl refl (kept tears)) opens
+
+  -- where nothing was done behind the opening
+  pub opens_own : (begun : Log) (slots : Slots) (old mid : List Step) → OpensFound state begun slots old mid → StaysOwn commits marks state old mid
+  opens_own begun slots old mid o before found other =
+      subst (λ (bs : List Block). SinceSettled (KeepsOwn commits marks state bs) old mid) (one_found old o.pair before o.blocks found o.recovers other)
+      (since_then (KeepsFound sound_law.meets state o.pair o.blocks) (KeepsOwn commits marks state o.blocks) old mid mid
+      (λ first opens. opening old mid o.pair o.blocks o.recovers o.at first opens) o.keeps)
+
 module _
     (state : State) (log : Log) (is : IsLog sound_law.meets log) (commits : List Committed) (has : HasCommits log commits) (marks : List Mark) (are : HasMarks log marks) (stay : StayBehind log commits)
     (start : log.opened.at ≡ state.at + LEAST_BLOCK) where
-  -- what recovery met before is one
-  one_found : (old : List Step) (pair before : Pair) (blocks found : List Block) → Recovers sound_law.meets (contents old) pair blocks → Recovers sound_law.meets (contents old) before found → blocks ≡ found
-  one_found old pair before blocks found first other =
-      (same_recovery sound_law.meets (same_log_list stored_length-le stored_whole sound_law.meets) (contents old) pair before blocks found first other).1
-
   -- from the opening on
   pub stays_own : (begun : Log) (slots : Slots) (place : ℕ) (old mid new : List Step) → begun.opened.at ≡ log.opened.at → OpensFound state begun slots old mid
       → KeepsBlocks sound_law.meets (state_at log []) log.gathered place mid new × StepsMeet begun slots mid new → StaysOwn commits marks state old new
@@ -74,9 +91,7 @@ module _
       (since_then (KeepsFound sound_law.meets state o.pair o.blocks) (KeepsOwn commits marks state o.blocks) old mid new
       (λ first opens.
       joined _ first mid new
-      (weaker _ _ first mid
-      (λ now image kept tears.
-      opening_own sound_law.meets log is commits has marks are stay state.at state.run start (contents old) o.pair o.blocks o.recovers o.at image state refl refl (kept tears)) opens)
+      (opening state log commits has marks are stay start old mid o.pair o.blocks o.recovers o.at first opens)
       later) o.keeps)
     where
       earlier : List Block

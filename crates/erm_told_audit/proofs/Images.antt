@@ -47,28 +47,11 @@ no_marks bound (k ∷ ks) above =
     ∙ no_marks bound ks (λ j m. above j (∈-behind k ks j m))
 
 module _
-    (sound : Rows → Type 0) (log : Log) (is : IsLog sound log) (commits : List Committed) (has : HasCommits log commits) (marks : List Mark) (are : HasMarks log marks) (stay : StayBehind log commits)
+    (sound : Rows → Type 0) (log : Log) (commits : List Committed) (has : HasCommits log commits) (marks : List Mark) (are : HasMarks log marks) (stay : StayBehind log commits)
     (place run : ℕ) (start : log.opened.at ≡ place + LEAST_BLOCK) (old : Image) (pair : Pair) (found : List Block) (recovers : Recovers sound old pair found)
     (at : (state_behind (base pair) found).at ≡ place) where
-  low : BeginBelow place found
-  low b m = let there = met_within sound old pair found recovers b m in let less = there.below in omega (arith, less, at)
-
-  -- the place behind the blocks that recovery meets is one
-  ends : (image : Image) (state : State) (p : Pair) (there : RecoversTo sound state p image) (best : Pair) (blocks : List Block) → Recovers sound image best blocks
-      → state.at ≡ (state_behind (base best) blocks).at
-  ends image state p there best blocks other =
-      let same = same_recovery sound (same_log_list stored_length-le stored_whole sound) image p best there.blocks blocks there.recovers other in
-      sym there.is.at ∙ ap (λ (q : Pair). (state_behind (base q) there.blocks).at) same.0 ∙ ap (λ (bs : List Block). (state_behind (base best) bs).at) same.1
-
-  -- in an image at a moment
-  pub front_own : (flushed : ℕ) (image : Image) → RecoversPast sound (state_at log []) log.gathered flushed image
-      → MeetsOlder sound log.opened.at (found ++ open_block place run ∷ []) image → MeetsOwn sound commits marks place found image
-  front_own flushed image past older best blocks other =
-      let end : place_behind log.opened.at past.front ≡ (state_behind (base best) blocks).at =
-      sym (place_is (state_at log []) past.front) ∙ ends image (state_behind (state_at log []) past.front) past.pair past.there best blocks other in
-      subst (λ (n : ℕ). AreOwn commits marks place found (base best).at n blocks) end
-      (are_own sound log is commits has marks are stay past.front past.rest past.split place run start found low (base best).at blocks
-      (image_meets sound log flushed image is past best blocks other) (older best blocks other))
+  low_found : BeginBelow place found
+  low_found b m = let there = met_within sound old pair found recovers b m in let less = there.below in omega (arith, less, at)
 
   -- while the log is opened
   pub opening_own : (image : Image) (state : State) → state.at ≡ place → state.run ≡ run → MeetsFound sound state pair found image → MeetsOwn sound commits marks place found image
@@ -90,12 +73,36 @@ module _
             ∙ ap (λ (s : State). s.at) (state_behind-append (base pair) found (open_block place run ∷ [])) ∙ ap (λ (n : ℕ). n + 5) at in
             omega (arith, to, start)
       ] in
-      found_own commits marks place run found blocks (base best).at (state_behind (base best) blocks).at low
+      found_own commits marks place run found blocks (base best).at (state_behind (base best) blocks).at low_found
       (λ b within. let there = met_within sound old pair found recovers b within in let above = there.above in omega (arith, above, from)) is_one
       (no_commits (state_behind (base best) blocks).at commits (λ c within. let above = (has.within c within).0 in omega (arith, end, above)))
       (no_marks (state_behind (base best) blocks).at marks (λ k within. let above = (are.within k within).0 in omega (arith, end, above)))
       (λ k within. let above = (are.safe k within).0 in omega (arith, above, start))
       (λ c within. let above = stay c within in omega (arith, above, start))
+
+module _
+    (sound : Rows → Type 0) (log : Log) (is : IsLog sound log) (commits : List Committed) (has : HasCommits log commits) (marks : List Mark) (are : HasMarks log marks) (stay : StayBehind log commits)
+    (place run : ℕ) (start : log.opened.at ≡ place + LEAST_BLOCK) (old : Image) (pair : Pair) (found : List Block) (recovers : Recovers sound old pair found)
+    (at : (state_behind (base pair) found).at ≡ place) where
+  low : BeginBelow place found
+  low = low_found sound log commits has marks are stay place run start old pair found recovers at
+
+  -- the place behind the blocks that recovery meets is one
+  ends : (image : Image) (state : State) (p : Pair) (there : RecoversTo sound state p image) (best : Pair) (blocks : List Block) → Recovers sound image best blocks
+      → state.at ≡ (state_behind (base best) blocks).at
+  ends image state p there best blocks other =
+      let same = same_recovery sound (same_log_list stored_length-le stored_whole sound) image p best there.blocks blocks there.recovers other in
+      sym there.is.at ∙ ap (λ (q : Pair). (state_behind (base q) there.blocks).at) same.0 ∙ ap (λ (bs : List Block). (state_behind (base best) bs).at) same.1
+
+  -- in an image at a moment
+  pub front_own : (flushed : ℕ) (image : Image) → RecoversPast sound (state_at log []) log.gathered flushed image
+      → MeetsOlder sound log.opened.at (found ++ open_block place run ∷ []) image → MeetsOwn sound commits marks place found image
+  front_own flushed image past older best blocks other =
+      let end : place_behind log.opened.at past.front ≡ (state_behind (base best) blocks).at =
+      sym (place_is (state_at log []) past.front) ∙ ends image (state_behind (state_at log []) past.front) past.pair past.there best blocks other in
+      subst (λ (n : ℕ). AreOwn commits marks place found (base best).at n blocks) end
+      (are_own sound log is commits has marks are stay past.front past.rest past.split place run start found low (base best).at blocks
+      (image_meets sound log flushed image is past best blocks other) (older best blocks other))
 
   -- and on a disk that holds the log
   pub held_own : (slots : Slots) (steps : List Step) → MeetsTail sound (found ++ open_block place run ∷ []) log slots steps → MeetsOwn sound commits marks place found (contents steps)
