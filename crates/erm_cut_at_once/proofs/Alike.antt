@@ -17,10 +17,11 @@ use Rattle.erm_good_report.specs.Opening.{AtOnce, Opening}
 use Rattle.erm_good_report.specs.Refusals.{HasLogCause, HasRefusalCause, HasUnfilledCause, HasWindowBefore, IsNewerBy, IsOwnedBy, Moment, WasOver}
 use Rattle.erm_good_report.specs.Snapshots.{BeginsRightly, HasSafeCause, IsSafeAmong, SnapshotsAgree}
 use Rattle.erm_good_report.specs.Stamps.{AllInTime, DrawsUntold, StampsAgree, Told, begin_told}
-use Rattle.erm_good_report.specs.Transactions.{Aborts, Commits, Ending, Excludes, Said, Transaction, Unfinished, committed_as, committed_of, history_of, looks_of, said_of, stamp_of, stamp_of_ending, steps_of, with_ending}
+use Rattle.erm_good_report.specs.Transactions.{Aborts, Commits, Ending, Excludes, Said, Transaction, Unfinished, committed_as, committed_of, history_of, looks_of, said_of, stamp_of, stamp_of_ending, steps_of, with_ending, Mark}
 use Rattle.erm_good_at_once.specs.CutReports.{AreSerial, OwesInPart, moment_in}
 use Rattle.erm_good_at_once.specs.Rising.{IsMetBelow, Names, StampsRise}
 use Rattle.erm_told.proofs.Pairs.{Pairs, all_pairs, pairs_of}
+use Rattle.erm_good_report.specs.Marks.{TellsStamps}
 
 -- one that is told, and the other: the same, or it isn't told to have ended
 abbrev pub IsAs : Transaction → Transaction → Type 0
@@ -113,6 +114,16 @@ named_as t u is a names = as_fact (λ x y. Names a x → Names a y) (λ x same. 
 
 writes_so : (t u : Transaction) (table : ℕ) → IsAs t u → WritesTable u table → WritesTable t table
 writes_so t u table is = as_fact (λ x y. WritesTable y table → WritesTable x table) (λ x same. same) (λ x unfinished writes. record { line = writes.line; of = writes.of; names = writes.names; writes = writes.writes }) t u is
+
+-- what a mark tells of them
+pub stamps_here : (ts us : List Transaction) → Alike ts us → (k : Mark) → TellsStamps us k → TellsStamps ts k
+stamps_here ts us alike k tells = record {
+  begin = tells.begin;
+  behind = tells.behind;
+  apart = λ t m.
+      let (u, within, is) = there ts us alike t m in
+      subst (λ (o : Option ℕ). IfSome o (λ stamp. stamp ≢ k.stamp)) (same_stamp t u is) (tells.apart u within);
+}
 
 module _ (ts us : List Transaction) (alike : Alike ts us) where
   -- so the history is the same

@@ -1,7 +1,7 @@
 -- Where the lines told leave a session of an execution that was cut off: one whose transaction was aborted behind them counts as closed. A snapshot that
--- was begun behind them isn't told, and one that was ended behind them is told as they leave it.
-use Rattle.std.proofs.Common.{◌≡◌, ◌⊎◌, ℕ, zero, suc, ◌==◌, ◌≤◌, Bool, true, false, cond, List, [], ◌∷◌, ◌++◌, Option, Some, None, inl, inr, refl, sym, ap, ◌∙◌, subst, eq-eqb, ne_eqb, arith, le_trans}
-use Rattle.erm_model.specs.declared.outcome.Phase.TheVariants.{Active, Idle}
+-- was begun behind them isn't told, and one that was ended behind them counts as closed too.
+use Rattle.std.proofs.Common.{◌≡◌, ◌⊎◌, ℕ, zero, suc, ◌==◌, ◌≤◌, Bool, true, false, cond, List, [], ◌∷◌, ◌++◌, Option, Some, None, inl, inr, refl, sym, ap, ◌∙◌, subst, eq-eqb, ne_eqb, arith, le_trans, if◌then◌else◌}
+use Rattle.erm_model.specs.declared.outcome.Phase.TheVariants.{Active, Idle, Pending, Safe}
 use Rattle.erm_model.specs.declared.outcome.Phase.{Phase}
 use Rattle.erm_model.specs.declared.row_stop.RowStop.TheVariants as stop
 use Rattle.erm_model.specs.RowTransaction.{Asked, asked_claim, asked_make, asked_read}
@@ -15,7 +15,7 @@ use Rattle.erm_script.specs.declared.script.ScriptLine.{ScriptLine}
 use Rattle.erm_world.specs.Calls.{DidAbort, DidSeal}
 use Rattle.erm_world.specs.Laws.{IsSerializable}
 use Rattle.erm_world.specs.Safe.{HasSnapshot}
-use Rattle.erm_world.specs.World.{Finished, GivenUp, IsSession, IsWorking, Session, Stand, View, Work, phase_at, phase_of, work_at, work_of}
+use Rattle.erm_world.specs.World.{Finished, GivenUp, IsSession, Session, Stand, View, Work, phase_at, phase_of, work_at, work_of}
 use Rattle.erm_world.specs.World as world
 use Rattle.erm_machine.proofs.Listed.{∈-first}
 use Rattle.erm_world.proofs.Lists.{∈-last}
@@ -23,9 +23,9 @@ use Rattle.erm_maps.specs.Runs.{IsRunOf, kept_at}
 use Rattle.erm_good_report.specs.Phases.{Closes}
 use Rattle.erm_lines.specs.Executions.{Move}
 use Rattle.erm_beside.specs.Calls.{After, Passes, RefusedBeside}
-use Rattle.erm_beside.specs.Safe.{DidBeginSafeBeside}
+use Rattle.erm_beside.specs.Safe.{DidBeginSafeBeside, DidMarkBeside}
 use Rattle.erm_lines_at_once.specs.Answers.{DidCloseBeside, DidEndBeside}
-use Rattle.erm_lines_at_once.specs.CutRuns.{IsCutPart, IsRest, Waited, aborted, drew, ended, stood, watched}
+use Rattle.erm_lines_at_once.specs.CutRuns.{IsCutPart, IsRest, Waited, aborted, drew, ended, stood, watched, marks}
 use Rattle.erm_lines_at_once.specs.Executions.{IsOwnRun}
 use Rattle.erm_lines_at_once.specs.Operations.{WasTried}
 use Rattle.erm_causes_at_once.proofs.Called.{KeptOn, kept_same, tried_kept}
@@ -33,10 +33,11 @@ use Rattle.erm_limits_at_once.proofs.Chained.{passes_itself}
 use Rattle.erm_limits_at_once.proofs.Looked.{BeganIn, began_in}
 use Rattle.erm_told_limits.proofs.Holds.{Laws}
 use Rattle.erm_told_limits.proofs.Ran.{active_with, same_work}
-use Rattle.erm_cut_at_once.proofs.Rereading.{HasReadMore, read_itself, tried_reads}
-use Rattle.erm_told.proofs.Turns.{idle_in}
-use Rattle.erm_cut_at_once.proofs.Given.{GivenHas, HasNumbered}
-use Rattle.erm_cut_at_once.proofs.Stands.{StandsFor, stands_ended, stands_itself, stands_reread, stands_unsealed, stands_unwatched, watching}
+use Rattle.erm_cut_at_once.proofs.Rereading.{tried_reads, HasReread, reread_itself}
+use Rattle.erm_told.proofs.Turns.{idle_in, seals_plain}
+use Rattle.erm_cut_at_once.proofs.Given.{GivenHas, HasNumbered, IsWorking}
+use Rattle.erm_cut_at_once.proofs.Stands.{StandsFor, stands_itself, stands_reread, stands_unsealed, stands_unwatched, watching, stands_unmarked}
+use Rattle.erm_good_report.specs.Refusals.{draws_of}
 
 -- it was closed by this, or not at all
 abbrev pub ClosedBy : Bool → ℕ → View → View → Type 0
@@ -54,8 +55,8 @@ pub record LeftAs (f : View) (seat : ℕ) (next : Option ScriptLine) (v : View) 
   pub ends : after.session seat ≡ told
   pub given_up : after.given_up seat ≡ f.given_up seat
   pub within : (after.tail ≤ f.tail) × (after.flushed ≤ f.flushed)
-  pub active : gone ≡ true → phase_at last seat ≡ Active
-  pub draws : (drawn ≡ 0) ⊎ ((drawn ≡ 1) × ((l : ScriptLine) × (next ≡ Some l) × (l.command ≡ command.Commit)))
+  pub active : gone ≡ true → (phase_at last seat ≡ Active) ⊎ HasSnapshot last seat
+  pub draws : (drawn ≡ 0) ⊎ ((drawn ≡ 1) × ((l : ScriptLine) × (next ≡ Some l) × (draws_of l.command ≡ 1)))
 
 pub record Left (f : View) (seat : ℕ) (next : Option ScriptLine) (v : View) (moves : List Move) : Type 0 where
   pub told : Session
@@ -123,6 +124,21 @@ did_end seat v active = record {
   did = subst (λ (phase : Phase). DidCloseBeside phase seat answer.Aborted v (closed_view seat v)) (sym active) (v, passes_itself seat v, did_abort seat v);
 }
 
+-- so a snapshot is ended
+closes_snapshot : (b : Bool) → Closes (if b then Safe else Pending) answer.Aborted
+closes_snapshot true = tt
+closes_snapshot false = tt
+
+did_close : (seat : ℕ) (v : View) (b : Bool) → DidCloseBeside (if b then Safe else Pending) seat answer.Aborted v (closed_view seat v)
+did_close seat v true = (v, passes_itself seat v, did_abort seat v)
+did_close seat v false = (v, passes_itself seat v, did_abort seat v)
+
+did_end_snapshot : (seat : ℕ) (v : View) (x : world.Snapshot) → (v.session seat).stand ≡ world.snapshot x → DidEndBeside seat answer.Aborted v (closed_view seat v)
+did_end_snapshot seat v x stand = record {
+  fits = subst (λ (phase : Phase). Closes phase answer.Aborted) (sym (ap phase_of stand)) (closes_snapshot x.is_safe);
+  did = subst (λ (phase : Phase). DidCloseBeside phase seat answer.Aborted v (closed_view seat v)) (sym (ap phase_of stand)) (did_close seat v x.is_safe);
+}
+
 module _ (laws : Laws) (f : View) (seat : ℕ) (session : IsSession f seat) (holds : IsSerializable sound_law f) (next : Option ScriptLine) (v : View) (moves : List Move) (part : IsCutPart f seat next v moves)
     (run : phase_at part.last seat ≡ Active → (steps : List Step) × IsRunOf (kept_at part.last seat) steps) (given : GivenHas seat part.last) where
   abbrev last : View
@@ -139,6 +155,8 @@ module _ (laws : Laws) (f : View) (seat : ℕ) (session : IsSession f seat) (hol
   drew_there : (l : ScriptLine) (stamp : ℕ) → phase_at part.last seat ≡ Active → next ≡ Some l → l.command ≡ command.Commit → After seat (λ u w. DidSeal u seat stamp w) part.last part.end → Left f seat next v moves
   drew_there l stamp active is commits (u, passes, did) =
       let w = work_at last seat in
+      let plain : w.is_mark ≡ false = subst (λ (s : Session). (work_of s.stand).is_mark ≡ false) passes.own
+      (seals_plain u seat stamp part.end (ap (λ (s : Session). phase_of s.stand) passes.own ∙ active) did) in
       let sealed : part.end.session seat ≡ record { over = here.over; stand = world.sealed w stamp } =
       did.own ∙ ap (λ (s : Session). record { over = s.over; stand = world.sealed (work_of s.stand) stamp }) passes.own in record {
         told = here;
@@ -146,7 +164,7 @@ module _ (laws : Laws) (f : View) (seat : ℕ) (session : IsSession f seat) (hol
         gone = false;
         left = record {
           stands = subst (λ (s : Session). StandsFor 1 here s) (sym sealed ∙ part.ends)
-              (subst (λ (s : Session). StandsFor 1 s (record { over = here.over; stand = world.sealed w stamp })) (sym (active_session here active)) (stands_unsealed here.over w stamp));
+              (subst (λ (s : Session). StandsFor 1 s (record { over = here.over; stand = world.sealed w stamp })) (sym (active_session here active)) (stands_unsealed here.over w stamp plain));
           given = given_here (part.end.given_up seat) part.given_up (ap (λ (given : ℕ → List GivenUp). given seat) did.given_up ∙ passes.given_up);
           last = last;
           run = part.run;
@@ -156,15 +174,46 @@ module _ (laws : Laws) (f : View) (seat : ℕ) (session : IsSession f seat) (hol
           given_up = sym (ap (λ (given : ℕ → List GivenUp). given seat) did.given_up ∙ passes.given_up) ∙ part.given_up;
           within = (omega (arith, passes.tail, did.tail, part.within.0), omega (arith, passes.flushed, did.flushed, part.within.1));
           active = λ no. absurd (cc no);
-          draws = inr (refl, (l, is, commits));
+          draws = inr (refl, (l, is, ap draws_of commits));
+        };
+      }
+
+  -- the mark of its safe snapshot drew a place
+  marked_there : (l : ScriptLine) (stamp : ℕ) → next ≡ Some l → l.command ≡ command.Mark → After seat (DidMarkBeside seat stamp) part.last part.end → Left f seat next v moves
+  marked_there l stamp is asks (u, passes, did) =
+      let x = did.snapshot in
+      let stand : here.stand ≡ world.snapshot x = sym (ap (λ (s : Session). s.stand) passes.own) ∙ did.stands in
+      let sealed : part.end.session seat ≡ record { over = here.over; stand = world.sealed (world.marking x) stamp } =
+      did.seals.own ∙ ap (λ (s : Session). record { over = s.over; stand = world.sealed (world.marking x) stamp }) passes.own in
+      let stands : here ≡ record { over = here.over; stand = world.snapshot x } = ap (λ (at : Stand). record { over = here.over; stand = at }) stand in record {
+        told = here;
+        drawn = 1;
+        gone = false;
+        left = record {
+          stands = subst (λ (s : Session). StandsFor 1 here s) (sym sealed ∙ part.ends)
+              (subst (λ (s : Session). StandsFor 1 s (record { over = here.over; stand = world.sealed (world.marking x) stamp })) (sym stands) (stands_unmarked here.over x stamp));
+          given = given_here (part.end.given_up seat) part.given_up (ap (λ (given : ℕ → List GivenUp). given seat) did.seals.given_up ∙ passes.given_up);
+          last = last;
+          run = part.run;
+          after = last;
+          closes = refl;
+          ends = refl;
+          given_up = sym (ap (λ (given : ℕ → List GivenUp). given seat) did.seals.given_up ∙ passes.given_up) ∙ part.given_up;
+          within = (omega (arith, passes.tail, did.seals.tail, part.within.0), omega (arith, passes.flushed, did.seals.flushed, part.within.1));
+          active = λ no. absurd (cc no);
+          draws = inr (refl, (l, is, ap draws_of asks));
         };
       }
 
   -- the tries only read
-  reads_more : (line : Option ScriptLine) (u : View) → phase_at part.last seat ≡ Active → Waited f seat line part.last u → BeganIn (work_at u seat) → HasReadMore (work_at part.last seat) (work_at u seat)
-  reads_more None u active passes began = subst (λ (s : Session). HasReadMore (work_at part.last seat) (work_of s.stand)) (sym passes.own) (read_itself (work_at part.last seat))
+  reads_more : (line : Option ScriptLine) (u : View) → phase_at part.last seat ≡ Active → Waited f seat line part.last u → BeganIn (work_at u seat) → HasReread (work_at part.last seat) (work_at u seat)
+  reads_more None u active passes began = subst (λ (s : Session). HasReread (work_at part.last seat) (work_of s.stand)) (sym passes.own) (reread_itself (work_at part.last seat))
   reads_more (Some l) u active (n, tried) began =
       let r = run active in tried_reads (work_at u seat) began f seat l.command n part.last u active tried r.0 r.1 (same_work (work_at u seat))
+
+  ended_over : (number : ℕ) → HasSnapshot last seat → HasNumbered here number → HasNumbered (ended_with here (work_at last seat)) number
+  ended_over number has (w, inl (g, m, is), same) = (w, inl (g, ∈-first here.over (gone_as (work_at last seat) ∷ []) g m, is), same)
+  ended_over number (x, stand) (w, inr now, same) = absurd (subst (λ (at : Stand). IsWorking at w) stand now)
 
   ended_number : (number : ℕ) → phase_at last seat ≡ Active → HasNumbered here number → HasNumbered (ended_with here (work_at last seat)) number
   ended_number number active (w, inl (g, m, is), same) = (w, inl (g, ∈-first here.over (gone_as (work_at last seat) ∷ []) g m, is), same)
@@ -182,12 +231,14 @@ module _ (laws : Laws) (f : View) (seat : ℕ) (session : IsSession f seat) (hol
       let over : record { work = y; fate = world.aborts } ∈ (f.session seat).over =
       subst (λ (s : Session). record { work = y; fate = world.aborts } ∈ s.over) (sym ended ∙ part.ends) (∈-last here.over (record { work = y; fate = world.aborts })) in
       let began = began_in laws f seat session holds y (inl (record { work = y; fate = world.aborts }, over, refl)) in
+      let reread = reads_more next u active waited began in
+      let plain : w.is_mark ≡ false = sym reread.mark ∙ holds.marked seat (record { work = y; fate = world.aborts }) session over in
       let passes = wait_passes f seat next last u waited in record {
         told = ended_with here w;
         drawn = 0;
         gone = true;
         left = record {
-          stands = subst (λ (s : Session). StandsFor 0 (ended_with here w) s) (sym ended ∙ part.ends) (stands_reread here.over w y (reads_more next u active waited began));
+          stands = subst (λ (s : Session). StandsFor 0 (ended_with here w) s) (sym ended ∙ part.ends) (stands_reread here.over w y reread.more plain);
           given = λ x m. ended_number x.number active (given_here (part.end.given_up seat) part.given_up (ap (λ (given : ℕ → List GivenUp). given seat) did.given_up ∙ passes.2) x m);
           last = last;
           run = part.run;
@@ -196,7 +247,7 @@ module _ (laws : Laws) (f : View) (seat : ℕ) (session : IsSession f seat) (hol
           ends = (did_abort seat last).own;
           given_up = sym (ap (λ (given : ℕ → List GivenUp). given seat) did.given_up ∙ passes.2) ∙ part.given_up;
           within = (omega (arith, passes.0, did.tail, part.within.0), omega (arith, passes.1, did.flushed, part.within.1));
-          active = λ is. active;
+          active = λ is. inl active;
           draws = inl refl;
         };
       }
@@ -238,18 +289,31 @@ module _ (laws : Laws) (f : View) (seat : ℕ) (session : IsSession f seat) (hol
   -- its snapshot was ended
   ended_there : HasSnapshot last seat → After seat (λ u w. DidAbort u seat w) last part.end → Left f seat next v moves
   ended_there (x, is) (u, passes, did) =
-      let over : part.end.session seat ≡ ended_with here (work_at last seat) = did.own ∙ ap (λ (s : Session). ended_with s (work_of s.stand)) passes.own in
-      let ended : part.end.session seat ≡ ended_with here (world.begun x.number x.begin) = over ∙ ap (λ (stand : Stand). ended_with here (work_of stand)) is in
-      let stands : here ≡ record { over = here.over; stand = world.snapshot x } = ap (λ (stand : Stand). record { over = here.over; stand = stand }) is in
-      as_here
-      (subst (λ (s : Session). StandsFor 0 here s) (sym ended ∙ part.ends)
-      (subst (λ (s : Session). StandsFor 0 s (ended_with here (world.begun x.number x.begin))) (sym stands) (stands_ended here.over x)))
-      (ap (λ (given : ℕ → List GivenUp). given seat) did.given_up ∙ passes.given_up) (omega (arith, passes.tail, did.tail), omega (arith, passes.flushed, did.flushed))
+      let w = work_at last seat in
+      let over : part.end.session seat ≡ ended_with here w = did.own ∙ ap (λ (s : Session). ended_with s (work_of s.stand)) passes.own in record {
+        told = ended_with here w;
+        drawn = 0;
+        gone = true;
+        left = record {
+          stands = subst (λ (s : Session). StandsFor 0 (ended_with here w) s) (sym over ∙ part.ends) (stands_itself (ended_with here w));
+          given = λ y m. ended_over y.number (x, is) (given_here (part.end.given_up seat) part.given_up (ap (λ (given : ℕ → List GivenUp). given seat) did.given_up ∙ passes.given_up) y m);
+          last = last;
+          run = part.run;
+          after = closed_view seat last;
+          closes = did_end_snapshot seat last x is;
+          ends = (did_abort seat last).own;
+          given_up = sym (ap (λ (given : ℕ → List GivenUp). given seat) did.given_up ∙ passes.given_up) ∙ part.given_up;
+          within = (omega (arith, passes.tail, did.tail, part.within.0), omega (arith, passes.flushed, did.flushed, part.within.1));
+          active = λ gone. inr (x, is);
+          draws = inl refl;
+        };
+      }
 
   left_by : IsRest f seat next part.last part.end → Left f seat next v moves
   left_by (stood passes) = stood_there passes
   left_by (aborted u active waited did) = aborted_there u active waited did
   left_by (drew l stamp active is commits did) = drew_there l stamp active is commits did
+  left_by (marks l stamp safe is asks did) = marked_there l stamp is asks did
   left_by (watched l begin idle is asks did) = watched_there begin idle did
   left_by (ended has none did) = ended_there has did
 

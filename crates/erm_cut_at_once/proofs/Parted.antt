@@ -192,27 +192,27 @@ all_answered seat counts (k ∷ script) is = elim (next_is seat counts k script)
 abbrev dummies : List ScriptLine → List Answer
 dummies ls = map (λ l. answer.Aborted) ls
 
-one_count : (seat : ℕ) (l : ScriptLine) → l.session ≡ seat → l.command ≡ command.Commit → own_count draws_of seat (record { session = l.session; asked = Some l.command; answer = answer.Aborted }) ≡ 1
+one_count : (seat : ℕ) (l : ScriptLine) → l.session ≡ seat → draws_of l.command ≡ 1 → own_count draws_of seat (record { session = l.session; asked = Some l.command; answer = answer.Aborted }) ≡ 1
 one_count seat l own is = by (eqb_tells l.session seat)
   where
     by : (((l.session == seat) ≡ true) × (l.session ≡ seat)) ⊎ (((l.session == seat) ≡ false) × (l.session ≢ seat)) → cond (l.session == seat) (draws_of l.command) 0 ≡ 1
-    by (inl (same, eq)) = ap (λ (b : Bool). cond b (draws_of l.command) 0) same ∙ ap draws_of is
+    by (inl (same, eq)) = ap (λ (b : Bool). cond b (draws_of l.command) 0) same ∙ is
     by (inr (same, ne)) = absurd (ne own)
 
-commit_counts : (seat : ℕ) (ls : List ScriptLine) (l : ScriptLine) → l ∈ ls → l.session ≡ seat → l.command ≡ command.Commit → 1 ≤ own_total draws_of seat (places_of ls (dummies ls) [])
+commit_counts : (seat : ℕ) (ls : List ScriptLine) (l : ScriptLine) → l ∈ ls → l.session ≡ seat → draws_of l.command ≡ 1 → 1 ≤ own_total draws_of seat (places_of ls (dummies ls) [])
 commit_counts seat [] l m own is = absurd (none_in_nil l m)
 commit_counts seat (k ∷ ls) l m own is =
     let s : Said = record { session = k.session; asked = Some k.command; answer = answer.Aborted } in
     let all = sum_by-cons (λ (x : Said). own_count draws_of seat x) s (places_of ls (dummies ls) []) in
     elim (∈-cons l k ls m) as (λ _. 1 ≤ own_total draws_of seat (places_of (k ∷ ls) (dummies (k ∷ ls)) [])) [
       | inl at ↦
-          let one = one_count seat k (ap (λ (x : ScriptLine). x.session) at ∙ own) (ap (λ (x : ScriptLine). x.command) at ∙ is) in omega (arith, all, one)
+          let one = one_count seat k (ap (λ (x : ScriptLine). x.session) at ∙ own) (ap (λ (x : ScriptLine). draws_of x.command) at ∙ is) in omega (arith, all, one)
       | inr further ↦ let more = commit_counts seat ls l further own is in omega (arith, all, more)
     ]
 
--- a session drew one stamp at most, and that only where its next line commits
+-- a session drew one stamp at most, and that only where its next line commits, or marks
 abbrev pub MayDraw : (ℕ → ℕ) → List ScriptLine → (ℕ → ℕ) → ℕ → Type 0
-MayDraw counts script drew seat = (drew seat ≡ 0) ⊎ ((drew seat ≡ 1) × ((l : ScriptLine) × (next_of seat counts script ≡ Some l) × (l.command ≡ command.Commit)))
+MayDraw counts script drew seat = (drew seat ≡ 0) ⊎ ((drew seat ≡ 1) × ((l : ScriptLine) × (next_of seat counts script ≡ Some l) × (draws_of l.command ≡ 1)))
 
 module _ (counts : ℕ → ℕ) (script : List ScriptLine) (drew : ℕ → ℕ) (may : (seat : ℕ) → MayDraw counts script drew seat) where
   abbrev left : List Said

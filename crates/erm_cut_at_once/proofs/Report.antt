@@ -13,13 +13,13 @@ use Rattle.erm_maps.specs.Runs.{IsAnswered}
 use Rattle.erm_good_report.specs.GoodReport.{places_of}
 use Rattle.erm_good_report.specs.Phases.{Closed, Closes, phase_of}
 use Rattle.erm_good_report.specs.Transactions.{Said, ended_of, nothing, transactions_of}
-use Rattle.erm_good_at_once.specs.CutReports.{OwesInPart, answered_of}
+use Rattle.erm_good_at_once.specs.CutReports.{OwesInPart, answered_of, MarksOweInPart}
 use Rattle.erm_lines.specs.Executions.{line_moves}
 use Rattle.erm_lines.proofs.Keeping.{NoneRuns}
 use Rattle.erm_told.proofs.Pairs.{pairs_of}
 use Rattle.erm_told.proofs.Runs.{said_lines}
 use Rattle.erm_told_at_once.proofs.Runs.{close_of, first_known, is_closed, knows_own, own_split}
-use Rattle.erm_cut_at_once.specs.Laws.{CutRunsCloseUnseen, CutRunsOwe, CutRunsReportWell}
+use Rattle.erm_cut_at_once.specs.Laws.{CutRunsCloseUnseen, CutRunsOwe, CutRunsReportWell, CutRunsMark}
 use Rattle.erm_cut_at_once.proofs.Parted.{all_answered}
 
 -- what closes a session as a sealed one closes none other
@@ -51,8 +51,8 @@ module _ (runs : NoneRuns) (stay : (w u : Work) (steps : List Step) → Extends 
 once : (closed : List Closed) → AllPairs (λ a b. a.session < b.session) closed → AllPairs (λ c d. c.session ≢ d.session) closed
 once closed ascend i j d less within = λ is. omega (arith, is, ascend i j d less within)
 
-pub report_well : CutRunsOwe → CutRunsCloseUnseen → CutRunsReportWell
-report_well owe unseen v f script opening names lines of many few was fits = record {
+pub report_well : CutRunsOwe → CutRunsMark → CutRunsCloseUnseen → CutRunsReportWell
+report_well owe have_marks unseen v f script opening names lines of many few was fits = record {
   counts = was.counts;
   answers = was.answers;
   each = was.run.each;
@@ -65,4 +65,6 @@ report_well owe unseen v f script opening names lines of many few was fits = rec
       subst (λ (n : ℕ). OwesInPart opening script (answered_of was.counts script) was.answers (transactions_of n (places_of (answered_of was.counts script) was.answers was.closed))
       (ended_of n (places_of (answered_of was.counts script) was.answers was.closed))) many
       (owe v f script was.counts was.answers was.closed opening was.run of (omega (arith, many, few)));
+  marks =
+      subst (λ (n : ℕ). MarksOweInPart opening n script (answered_of was.counts script) was.answers was.closed) many (have_marks v f script was.counts was.answers was.closed opening was.run of);
 }

@@ -34,7 +34,7 @@ pub record HasReread (w u : Work) : Type 0 where
   pub more : HasReadMore w u
   pub mark : u.is_mark ≡ w.is_mark
 
-reread_itself : (w : Work) → HasReread w w
+pub reread_itself : (w : Work) → HasReread w w
 reread_itself w = record { more = read_itself w; mark = refl }
 
 read_then : (w x u : Work) → HasReread w x → HasReread x u → HasReread w u

@@ -1,7 +1,7 @@
 -- What an execution that was cut off owes: what the world as it is told owes, of which the sessions that were aborted behind the last answers count
 -- as closed.
-use Rattle.std.proofs.Common.{◌≡◌, ◌⊎◌, ℕ, zero, suc, ◌≤◌, Bool, true, false, List, [], ◌∷◌, ◌++◌, map, flat_map, fold, Option, Some, None, option_to_list, inl, inr, refl, sym, ap, ◌∙◌, subst, arith, le_trans}
-use Rattle.std.specs.List.{filter_map, range_with_len}
+use Rattle.std.proofs.Common.{◌≡◌, ◌⊎◌, ℕ, zero, suc, ◌≤◌, Bool, true, false, List, [], ◌∷◌, ◌++◌, map, flat_map, fold, Option, Some, None, option_to_list, inl, inr, refl, sym, ap, ◌∙◌, subst, arith, le_trans, ⊎_elim, ◌≢◌}
+use Rattle.std.specs.List.{filter_map, range_with_len, AllPairs, cons_option}
 use Rattle.std.proofs.lemmas.Bool.{cases_lt}
 use Rattle.std.proofs.lemmas.List.{append-nil}
 use Rattle.erm_model.specs.declared.outcome.Phase.TheVariants.{Active, Idle}
@@ -10,7 +10,7 @@ use Rattle.erm_model.specs.Committed.{Committed}
 use Rattle.erm_model.specs.Member.{◌∈◌}
 use Rattle.erm_model.specs.Run.{Step}
 use Rattle.erm_model.proofs.Members.{none_in_nil, ∈-behind}
-use Rattle.erm_machine.proofs.Listed.{∈-head}
+use Rattle.erm_machine.proofs.Listed.{∈-head, ∈-first}
 use Rattle.erm_report.specs.declared.answer.Answer.{Answer}
 use Rattle.erm_script.specs.declared.script.Command.{Command}
 use Rattle.erm_script.specs.declared.script.Command.TheVariants as command
@@ -22,11 +22,11 @@ use Rattle.erm_maps.specs.Runs.{IsAnswered}
 use Rattle.erm_good_report.specs.GoodReport.{places_of}
 use Rattle.erm_good_report.specs.Opening.{Opening}
 use Rattle.erm_good_report.specs.Phases.{Closed}
-use Rattle.erm_good_report.specs.Refusals.{total_of}
-use Rattle.erm_good_report.specs.Transactions.{Aborts, Progress, Said, Snapshot, Transaction, Unfinished, ended, ended_as, ended_of, nothing, progress_of, transactions_of, with_ending}
-use Rattle.erm_good_at_once.specs.CutReports.{OwesInPart, answered_of}
+use Rattle.erm_good_report.specs.Refusals.{total_of, Moment}
+use Rattle.erm_good_report.specs.Transactions.{Aborts, Progress, Said, Snapshot, Transaction, Unfinished, ended, ended_as, ended_of, nothing, progress_of, transactions_of, with_ending, Mark, marked_as, marks_of, placed_at}
+use Rattle.erm_good_at_once.specs.CutReports.{OwesInPart, answered_of, MarksOweInPart, moment_in}
 use Rattle.erm_lines.specs.Executions.{IsOpeningOf, Move, said_in}
-use Rattle.erm_lines.specs.Told.{TellsNow}
+use Rattle.erm_lines.specs.Told.{TellsNow, TellsWatch, TellsWatched}
 use Rattle.erm_lines.proofs.Keeping.{NoneRuns}
 use Rattle.erm_lines_at_once.specs.CutRuns.{IsCutRunAtOnce, next_of}
 use Rattle.erm_lines_at_once.specs.Executions.{IsOwnPart, IsOwnRun, all_moves}
@@ -41,21 +41,25 @@ use Rattle.erm_limits_at_once.proofs.Chained.{knows_run}
 use Rattle.erm_limits_at_once.specs.Laws.{AreCellsFull, RunsInPartFillCells}
 use Rattle.erm_causes_at_once.specs.Laws.{RunsInPartTellLog}
 use Rattle.erm_owes_at_once.specs.Laws.{RunsInPartOwe}
-use Rattle.erm_cut_at_once.specs.Laws.{CutRunsFillCells, CutRunsOwe}
-use Rattle.erm_cut_at_once.proofs.Alike.{Alike, alike_both, alike_flat, alike_itself, owes_here}
+use Rattle.erm_cut_at_once.specs.Laws.{CutRunsFillCells, CutRunsOwe, CutRunsMark}
+use Rattle.erm_cut_at_once.proofs.Alike.{Alike, alike_both, alike_flat, alike_itself, owes_here, stamps_here}
 use Rattle.erm_cut_at_once.proofs.Closing.{closed_progress, closes, gones, moves_with, own_join, progress_with}
 use Rattle.erm_cut_at_once.proofs.Given.{GivenHas, HasNumbered, run_given}
 use Rattle.erm_cut_at_once.proofs.Left.{Left, LeftAs, left_of}
 use Rattle.erm_cut_at_once.proofs.MetThere.{run_here}
+use Rattle.erm_causes_at_once.proofs.Marks as own
 use Rattle.erm_cut_at_once.proofs.Parted.{drawn_within, in_script, no_more, total_parts}
 use Rattle.erm_cut_at_once.proofs.Stands.{StandsFor}
 use Rattle.erm_cut_at_once.proofs.World.{drawn_upto, is_left, told_world}
+use Rattle.erm_world.specs.Safe.{HasSnapshot}
+use Rattle.erm_good_report.specs.Marks.{HasMarkCause, StopsAtMarks}
+use Rattle.erm_told.proofs.Sessions.{now_watching}
 
 -- lists put together are the same where each of them is
-flat_same : (one other : ℕ → List Committed) (ns : List ℕ) → ((n : ℕ) → n ∈ ns → one n ≡ other n) → flat_map one ns ≡ flat_map other ns
+flat_same : {X : Type 0} (one other : ℕ → List X) (ns : List ℕ) → ((n : ℕ) → n ∈ ns → one n ≡ other n) → flat_map one ns ≡ flat_map other ns
 flat_same one other [] each = refl
-flat_same one other (n ∷ ns) each =
-    ap (λ (xs : List Committed). xs ++ flat_map one ns) (each n (∈-head n ns)) ∙ ap (λ (xs : List Committed). other n ++ xs) (flat_same one other ns (λ k m. each k (∈-behind n ns k m)))
+flat_same {X} one other (n ∷ ns) each =
+    ap (λ (xs : List X). xs ++ flat_map one ns) (each n (∈-head n ns)) ∙ ap (λ (xs : List X). other n ++ xs) (flat_same one other ns (λ k m. each k (∈-behind n ns k m)))
 
 -- a number is that of a session, or of none
 abbrev Chosen : View → ℕ → Type 0
@@ -79,22 +83,54 @@ told_now seat (Some t) (world.sealed w stamp) tells active = cc
 told_now seat None (world.snapshot s) tells active = let no : world.snapshot s ≡ world.active (work_of (world.snapshot s)) = active_with (world.snapshot s) active in cc
 told_now seat (Some t) (world.snapshot s) tells active = absurd tells
 
+-- one with a snapshot is told to have none, and its snapshot has neither ended nor a mark
+record NowWatches (p : Progress) : Type 0 where
+  none : p.current ≡ None
+  untold : (s : Snapshot) → p.snapshot ≡ Some s → (s.placed ≡ false) × (s.mark ≡ None)
+
+now_watches : (p : Progress) (stand : Stand) (x : world.Snapshot) → stand ≡ world.snapshot x → (seat : ℕ) → TellsNow seat p.current stand → TellsWatched p.snapshot stand → NowWatches p
+now_watches p stand x is seat now watched = record {
+  none = now_watching seat p.current x (subst (λ (at : Stand). TellsNow seat p.current at) is now);
+  untold = λ s told.
+      let its : TellsWatch s x = subst (λ (at : Stand). TellsWatched (Some s) at) is (subst (λ (o : Option Snapshot). TellsWatched o stand) told watched) in (its.unfinished, its.untold);
+}
+
 -- a session's transactions, in the one telling and in the other
 abbrev all_in : Progress → List Transaction
 all_in p = p.over ++ option_to_list p.current
 
-alike_closed : (gone : Bool) (p : Progress) → (gone ≡ true → (t : Transaction) × (p.current ≡ Some t) × (t.ending ≡ Unfinished)) → Alike (all_in p) (all_in (closed_progress gone p))
-alike_closed false p now = alike_itself (all_in p)
-alike_closed true p now =
-    let (t, current, unfinished) = now refl in
-    subst (λ (c : Option Transaction). Alike (p.over ++ option_to_list c) (all_in (ended Aborts (record p { current = c })))) (sym current)
-    (subst (λ (us : List Transaction). Alike (p.over ++ t ∷ []) us) (sym (append-nil (p.over ++ with_ending Aborts t ∷ [])))
-    (alike_both p.over p.over (t ∷ []) (with_ending Aborts t ∷ []) (alike_itself p.over) (inr (unfinished, refl), tt)))
+abbrev NowUntold : Progress → Type 0
+NowUntold p = ((t : Transaction) × (p.current ≡ Some t) × (t.ending ≡ Unfinished)) ⊎ (p.current ≡ None)
 
--- its snapshots that are over stay the same
-same_snapshots : (gone : Bool) (p : Progress) → (gone ≡ true → p.snapshot ≡ None) → (closed_progress gone p).snapshots ≡ p.snapshots
-same_snapshots false p none = refl
-same_snapshots true p none = ap (λ (s : Option Snapshot). p.snapshots ++ option_to_list s) (none refl) ∙ append-nil p.snapshots
+alike_closed : (gone : Bool) (p : Progress) → (gone ≡ true → NowUntold p) → Alike (all_in p) (all_in (closed_progress gone p))
+alike_closed false p now = alike_itself (all_in p)
+alike_closed true p now = by (now refl)
+  where
+    by : NowUntold p → Alike (all_in p) (all_in (closed_progress true p))
+    by (inr none) =
+        subst (λ (c : Option Transaction). Alike (p.over ++ option_to_list c) (all_in (ended Aborts (record p { current = c })))) (sym none)
+        (subst (λ (us : List Transaction). Alike (p.over ++ []) us) (sym (append-nil (p.over ++ []))) (alike_itself (p.over ++ [])))
+    by (inl (t, current, unfinished)) =
+        subst (λ (c : Option Transaction). Alike (p.over ++ option_to_list c) (all_in (ended Aborts (record p { current = c })))) (sym current)
+        (subst (λ (us : List Transaction). Alike (p.over ++ t ∷ []) us) (sym (append-nil (p.over ++ with_ending Aborts t ∷ [])))
+        (alike_both p.over p.over (t ∷ []) (with_ending Aborts t ∷ []) (alike_itself p.over) (inr (unfinished, refl), tt)))
+
+-- its snapshots that are over tell the same of what tells nothing of the last one
+filter_none : {X : Type 0} (h : Snapshot → Option X) (ss : List Snapshot) (o : Option Snapshot) → ((s : Snapshot) → o ≡ Some s → h s ≡ None) → filter_map h (ss ++ option_to_list o) ≡ filter_map h ss
+filter_none h [] None none = refl
+filter_none {X} h [] (Some s) none = ap (λ (r : Option X). cons_option r []) (none s refl)
+filter_none {X} h (r ∷ ss) o none = ap (λ (xs : List X). cons_option (h r) xs) (filter_none h ss o none)
+
+same_snapshots : {X : Type 0} (h : Snapshot → Option X) (gone : Bool) (p : Progress) → (gone ≡ true → (s : Snapshot) → p.snapshot ≡ Some s → h s ≡ None)
+    → filter_map h (closed_progress gone p).snapshots ≡ filter_map h p.snapshots
+same_snapshots h false p none = refl
+same_snapshots h true p none = filter_none h p.snapshots p.snapshot (none refl)
+
+never_ended : (q : ℕ) (s : Snapshot) → s.placed ≡ false → ended_as q s ≡ None
+never_ended q s is = ap (λ (b : Bool). if b then option_map (placed_at q s) s.begin else None) is
+
+never_marked : (q : ℕ) (s : Snapshot) → s.mark ≡ None → marked_as q s ≡ None
+never_marked q s is = ap (λ (o : Option (ℕ × ℕ)). option_map (λ m. record { session = q; number = s.number; begin = s.begin; safe = m.0; stamp = m.1 }) o) is
 
 module _ (laws : Laws) (runs : NoneRuns) (stay : (w u : Work) (steps : List Step) → Extends w u → IsAnswered w steps → IsAnswered u steps)
     (v f : View) (script : List ScriptLine) (counts : ℕ → ℕ) (answers : List Answer) (closed : List Closed) (run : IsCutRunAtOnce v script counts answers closed f) where
@@ -201,13 +237,14 @@ module _ (laws : Laws) (runs : NoneRuns) (stay : (w u : Work) (steps : List Step
   }
 
   -- THE TRANSACTIONS are those told, but for endings
-  now_told : (seat : ℕ) → IsSession v seat → gone seat ≡ true
-      → (t : Transaction) × ((progress_of seat (places_of part answers closed)).current ≡ Some t) × (t.ending ≡ Unfinished)
+  now_told : (seat : ℕ) → IsSession v seat → gone seat ≡ true → NowUntold (progress_of seat (places_of part answers closed))
   now_told seat session is =
       let its = left_as seat session in
-      let tells = (known seat session its.last its.run).told.tells.now in
-      subst (λ (said : List Said). (t : Transaction) × ((progress_of seat said).current ≡ Some t) × (t.ending ≡ Unfinished)) (all_say part answers closed)
-      (told_now seat (fold (hears seat) nothing (said_in moves)).current (its.last.session seat).stand tells (its.active is))
+      let p = fold (hears seat) nothing (said_in moves) in
+      let tells = (known seat session its.last its.run).told.tells in
+      subst (λ (said : List Said). NowUntold (progress_of seat said)) (all_say part answers closed)
+      (⊎_elim (λ (active : phase_at its.last seat ≡ Active). inl (told_now seat p.current (its.last.session seat).stand tells.now active))
+      (λ (has : HasSnapshot its.last seat). inr (now_watches p (its.last.session seat).stand has.0 has.1 seat tells.now tells.watched).none) (its.active is))
 
   alike : Alike (transactions_of sessions (places_of part answers closed)) (transactions_of sessions (places_of part answers (closed ++ others)))
   alike = alike_flat (λ (q : ℕ). all_in (progress_of q (places_of part answers closed))) (λ (q : ℕ). all_in (progress_of q (places_of part answers (closed ++ others)))) (range_with_len 1 sessions)
@@ -218,11 +255,16 @@ module _ (laws : Laws) (runs : NoneRuns) (stay : (w u : Work) (steps : List Step
       (alike_closed (gone q) (progress_of q (places_of part answers closed)) (λ is. now_told q session is)))
 
   -- and the snapshots that ended
-  never_watched : (seat : ℕ) → IsSession v seat → gone seat ≡ true → (progress_of seat (places_of part answers closed)).snapshot ≡ None
+  never_watched : (seat : ℕ) → IsSession v seat → gone seat ≡ true → (s : Snapshot) → (progress_of seat (places_of part answers closed)).snapshot ≡ Some s → (s.placed ≡ false) × (s.mark ≡ None)
   never_watched seat session is =
       let its = left_as seat session in
-      subst (λ (said : List Said). (progress_of seat said).snapshot ≡ None) (all_say part answers closed)
-      (none_active seat (fold (hears seat) nothing (said_in moves)) (its.last.session seat) (its.active is) (known seat session its.last its.run).told.tells)
+      let p = fold (hears seat) nothing (said_in moves) in
+      let tells = (known seat session its.last its.run).told.tells in
+      subst (λ (said : List Said). (s : Snapshot) → (progress_of seat said).snapshot ≡ Some s → (s.placed ≡ false) × (s.mark ≡ None)) (all_say part answers closed)
+      (⊎_elim
+      (λ (active : phase_at its.last seat ≡ Active).
+      λ s told. let no : None ≡ Some s = sym (none_active seat p (its.last.session seat) active tells) ∙ told in absurd (cc no))
+      (λ (has : HasSnapshot its.last seat). (now_watches p (its.last.session seat).stand has.0 has.1 seat tells.now tells.watched).untold) (its.active is))
 
   abbrev ended_in : List Said → ℕ → List Committed
   ended_in said q = filter_map (ended_as q) (progress_of q said).snapshots
@@ -233,7 +275,36 @@ module _ (laws : Laws) (runs : NoneRuns) (stay : (w u : Work) (steps : List Step
       let bounds = in_range 1 sessions q m in
       let session : IsSession v q = (bounds.0, omega (arith, bounds.1)) in
       ap (λ (p : Progress). filter_map (ended_as q) p.snapshots) (progress_with gone q sessions part answers closed session.0 session.1)
-      ∙ ap (λ (ss : List Snapshot). filter_map (ended_as q) ss) (same_snapshots (gone q) (progress_of q (places_of part answers closed)) (λ is. never_watched q session is)))
+      ∙ same_snapshots (ended_as q) (gone q) (progress_of q (places_of part answers closed)) (λ is s told. never_ended q s (never_watched q session is s told).0))
+
+  -- nor are there other marks
+  abbrev marks_in : List Said → ℕ → List Mark
+  marks_in said q = filter_map (marked_as q) (progress_of q said).snapshots
+
+  marks_same : marks_of sessions (places_of part answers (closed ++ others)) ≡ marks_of sessions (places_of part answers closed)
+  marks_same = flat_same (marks_in (places_of part answers (closed ++ others))) (marks_in (places_of part answers closed)) (range_with_len 1 sessions)
+      (λ q m.
+      let bounds = in_range 1 sessions q m in
+      let session : IsSession v q = (bounds.0, omega (arith, bounds.1)) in
+      ap (λ (p : Progress). filter_map (marked_as q) p.snapshots) (progress_with gone q sessions part answers closed session.0 session.1)
+      ∙ same_snapshots (marked_as q) (gone q) (progress_of q (places_of part answers closed)) (λ is s told. never_marked q s (never_watched q session is s told).1))
+
+  abbrev m : Opening → ℕ → ScriptLine → Moment
+  m opening i l = moment_in opening script part answers (transactions_of sessions (places_of part answers closed)) i l
+
+  pub owes_marks : (opening : Opening) → MarksOweInPart opening v.opening.sessions script (answered_of counts script) answers closed
+  owes_marks opening = record {
+    settles = λ i l a at answered. own.settles runs stay v g script part answers (closed ++ others) in_part i l a at answered;
+    closes = λ c m. own.closes runs stay v g script part answers (closed ++ others) in_part c (run.sessions c m) (∈-first closed others c m);
+    stamps = λ k m.
+        stamps_here (transactions_of sessions (places_of part answers closed)) (transactions_of sessions (places_of part answers (closed ++ others))) alike k
+        (own.stamps runs stay v g script part answers (closed ++ others) in_part k (subst (λ (ks : List Mark). k ∈ ks) (sym marks_same) m));
+    differ = subst (λ (ks : List Mark). AllPairs (λ (j k : Mark). j.stamp ≢ k.stamp) ks) marks_same (own.differ runs stay v g script part answers (closed ++ others) in_part);
+    causes = λ i l a s at answered current.
+        subst (λ (ks : List Mark). HasMarkCause (m opening i l) ks s l.command a) marks_same (own.causes runs stay v g script part answers (closed ++ others) in_part i l a at answered (m opening i l) s);
+    stops = λ i place l a at answered is.
+        subst (λ (ks : List Mark). StopsAtMarks (m opening i l) ks place) marks_same (own.stops runs stay v g script part answers (closed ++ others) in_part i l a at answered (m opening i l) place is);
+  }
 
   pub owes : RunsInPartOwe → RunsInPartTellLog → (opening : Opening) → IsOpeningOf v opening → v.opening.sessions ≤ SESSIONS
       → OwesInPart opening script (answered_of counts script) answers (transactions_of v.opening.sessions (places_of (answered_of counts script) answers closed))
@@ -252,6 +323,9 @@ module _ (laws : Laws) (runs : NoneRuns) (stay : (w u : Work) (steps : List Step
 pub cut_owe : Laws → NoneRuns → ((w u : Work) (steps : List Step) → Extends w u → IsAnswered w steps → IsAnswered u steps) → RunsInPartOwe
     → RunsInPartTellLog → CutRunsOwe
 cut_owe laws runs stay owe logs v f script counts answers closed opening run of few = owes laws runs stay v f script counts answers closed run owe logs opening of few
+
+pub cut_marks : Laws → NoneRuns → ((w u : Work) (steps : List Step) → Extends w u → IsAnswered w steps → IsAnswered u steps) → CutRunsMark
+cut_marks laws runs stay v f script counts answers closed opening run of = owes_marks laws runs stay v f script counts answers closed run opening
 
 pub cut_fills : Laws → NoneRuns → ((w u : Work) (steps : List Step) → Extends w u → IsAnswered w steps → IsAnswered u steps) → RunsInPartFillCells → CutRunsFillCells
 cut_fills laws runs stay fill v f script counts answers closed run = fills laws runs stay v f script counts answers closed run fill

@@ -12,7 +12,7 @@ use Rattle.erm_good_report.specs.GoodReport.{answer_lines, places_of}
 use Rattle.erm_good_report.specs.Opening.{Opening}
 use Rattle.erm_good_report.specs.Phases.{Closed}
 use Rattle.erm_good_report.specs.Transactions.{ended_of, transactions_of}
-use Rattle.erm_good_at_once.specs.CutReports.{IsCutAtOnce, IsUnseen, OwesInPart, answered_of}
+use Rattle.erm_good_at_once.specs.CutReports.{IsCutAtOnce, IsUnseen, OwesInPart, answered_of, MarksOweInPart}
 use Rattle.erm_model.specs.Member.{◌∈◌}
 use Rattle.erm_lines.specs.Executions.{IsOpeningOf}
 use Rattle.erm_lines_at_once.specs.CutRuns.{IsCutRunAtOnce}
@@ -25,6 +25,11 @@ CutRunsOwe = (v f : View) (script : List ScriptLine) (counts : ℕ → ℕ) (ans
     → IsCutRunAtOnce v script counts answers closed f → IsOpeningOf v opening → v.opening.sessions ≤ SESSIONS
     → OwesInPart opening script (answered_of counts script) answers (transactions_of v.opening.sessions (places_of (answered_of counts script) answers closed))
     (ended_of v.opening.sessions (places_of (answered_of counts script) answers closed))
+
+-- So is what it owes of marks.
+abbrev pub CutRunsMark : Type 0
+CutRunsMark = (v f : View) (script : List ScriptLine) (counts : ℕ → ℕ) (answers : List Answer) (closed : List Closed) (opening : Opening)
+    → IsCutRunAtOnce v script counts answers closed f → IsOpeningOf v opening → MarksOweInPart opening v.opening.sessions script (answered_of counts script) answers closed
 
 -- A session that was decided behind the last answers had all its lines answered, and they leave it sealed.
 abbrev pub CutRunsCloseUnseen : Type 0

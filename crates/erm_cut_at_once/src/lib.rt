@@ -2,15 +2,16 @@
 //! law is the contract of a function that does nothing.
 #![tactic(auto)]
 
-ghost use Rattle.erm_cut_at_once.specs.Laws.{CutRunsCloseUnseen, CutRunsFillCells, CutRunsOwe, CutRunsReportWell};
+ghost use Rattle.erm_cut_at_once.specs.Laws.{CutRunsCloseUnseen, CutRunsFillCells, CutRunsMark, CutRunsOwe, CutRunsReportWell};
 
 /// Phases and stamps agree, each transaction told was answered on its snapshot, the commits told and the safe snapshots that ended give their
 /// replies where they run in the serial order, each commit, exclusion and refusal told has its cause, what is owed of snapshots that only read
-/// is so, and what was met lies below what is begun later. A transaction that was aborted behind the last answers is told unfinished. What a
+/// is so, each outcome is of what is sealed, marks tell their stamps, and what was met lies below what is begun later. A transaction that was aborted behind the last answers is told unfinished. What a
 /// waiting line read for it, the stamp that a waiting commit drew, a snapshot that a waiting line began, and that one was ended behind its
 /// session's last line, is told by no line. Cells are full at the number that the world has.
 pub fn cut_runs_owe()
     ensures owes { CutRunsOwe }
+    ensures marks { CutRunsMark }
     ensures cells { CutRunsFillCells }
 {
     erm_core_ssn::rows_run_serially();

@@ -1,5 +1,5 @@
 use Rattle.erm_told_limits.proofs.Given.{HistoryLaws, given}
-use Rattle.erm_cut_at_once.proofs.Whole.{cut_fills, cut_owe}
+use Rattle.erm_cut_at_once.proofs.Whole.{cut_fills, cut_owe, cut_marks}
 use Rattle.erm_cut_at_once.proofs.cut_runs_owe.Goals as goal
 
 pub returns : goal.returns
@@ -18,5 +18,6 @@ returns c =
     let laws = given histories (record { way = ways.way; met = ways.met; next = ways.next }) c.begun_transactions_are_runs.ensures in
     record {
       owes = cut_owe laws c.begun_transactions_are_runs.ensures c.answers_stay.ensures c.runs_in_part_owe.ensures c.runs_in_part_tell_log.ensures.log;
+      marks = cut_marks laws c.begun_transactions_are_runs.ensures c.answers_stay.ensures;
       cells = cut_fills laws c.begun_transactions_are_runs.ensures c.answers_stay.ensures c.runs_in_part_refuse_for_room.ensures.cells;
     }
