@@ -116,8 +116,8 @@ writes_so : (t u : Transaction) (table : ℕ) → IsAs t u → WritesTable u tab
 writes_so t u table is = as_fact (λ x y. WritesTable y table → WritesTable x table) (λ x same. same) (λ x unfinished writes. record { line = writes.line; of = writes.of; names = writes.names; writes = writes.writes }) t u is
 
 -- what a mark tells of them
-pub stamps_here : (ts us : List Transaction) → Alike ts us → (k : Mark) → TellsStamps us k → TellsStamps ts k
-stamps_here ts us alike k tells = record {
+pub tells_here : (ts us : List Transaction) → Alike ts us → (k : Mark) → TellsStamps us k → TellsStamps ts k
+tells_here ts us alike k tells = record {
   begin = tells.begin;
   behind = tells.behind;
   apart = λ t m.

@@ -1,6 +1,6 @@
 -- What an execution that was cut off owes: what the world as it is told owes, of which the sessions that were aborted behind the last answers count
 -- as closed.
-use Rattle.std.proofs.Common.{◌≡◌, ◌⊎◌, ℕ, zero, suc, ◌≤◌, Bool, true, false, List, [], ◌∷◌, ◌++◌, map, flat_map, fold, Option, Some, None, option_to_list, inl, inr, refl, sym, ap, ◌∙◌, subst, arith, le_trans, ⊎_elim, ◌≢◌}
+use Rattle.std.proofs.Common.{◌≡◌, ◌⊎◌, ℕ, zero, suc, ◌≤◌, Bool, true, false, List, [], ◌∷◌, ◌++◌, map, flat_map, fold, Option, Some, None, option_to_list, inl, inr, refl, sym, ap, ◌∙◌, subst, arith, le_trans, ⊎_elim, ◌≢◌, option_map, if◌then◌else◌}
 use Rattle.std.specs.List.{filter_map, range_with_len, AllPairs, cons_option}
 use Rattle.std.proofs.lemmas.Bool.{cases_lt}
 use Rattle.std.proofs.lemmas.List.{append-nil}
@@ -16,7 +16,7 @@ use Rattle.erm_script.specs.declared.script.Command.{Command}
 use Rattle.erm_script.specs.declared.script.Command.TheVariants as command
 use Rattle.erm_script.specs.declared.script.ScriptLine.{ScriptLine}
 use Rattle.erm_world.specs.Going.{Extends}
-use Rattle.erm_world.specs.World.{GivenUp, IsSession, Session, Stand, View, Work, phase_of, work_of}
+use Rattle.erm_world.specs.World.{GivenUp, IsSession, Session, Stand, View, Work, phase_of, work_of, phase_at}
 use Rattle.erm_world.specs.World as world
 use Rattle.erm_maps.specs.Runs.{IsAnswered}
 use Rattle.erm_good_report.specs.GoodReport.{places_of}
@@ -42,7 +42,7 @@ use Rattle.erm_limits_at_once.specs.Laws.{AreCellsFull, RunsInPartFillCells}
 use Rattle.erm_causes_at_once.specs.Laws.{RunsInPartTellLog}
 use Rattle.erm_owes_at_once.specs.Laws.{RunsInPartOwe}
 use Rattle.erm_cut_at_once.specs.Laws.{CutRunsFillCells, CutRunsOwe, CutRunsMark}
-use Rattle.erm_cut_at_once.proofs.Alike.{Alike, alike_both, alike_flat, alike_itself, owes_here, stamps_here}
+use Rattle.erm_cut_at_once.proofs.Alike.{Alike, alike_both, alike_flat, alike_itself, owes_here, tells_here}
 use Rattle.erm_cut_at_once.proofs.Closing.{closed_progress, closes, gones, moves_with, own_join, progress_with}
 use Rattle.erm_cut_at_once.proofs.Given.{GivenHas, HasNumbered, run_given}
 use Rattle.erm_cut_at_once.proofs.Left.{Left, LeftAs, left_of}
@@ -130,7 +130,10 @@ never_ended : (q : ℕ) (s : Snapshot) → s.placed ≡ false → ended_as q s �
 never_ended q s is = ap (λ (b : Bool). if b then option_map (placed_at q s) s.begin else None) is
 
 never_marked : (q : ℕ) (s : Snapshot) → s.mark ≡ None → marked_as q s ≡ None
-never_marked q s is = ap (λ (o : Option (ℕ × ℕ)). option_map (λ m. record { session = q; number = s.number; begin = s.begin; safe = m.0; stamp = m.1 }) o) is
+never_marked q s is = ap (λ (o : Option (ℕ × ℕ)). option_map told_mark o) is
+  where
+    told_mark : ℕ × ℕ → Mark
+    told_mark pair = record { session = q; number = s.number; begin = s.begin; safe = pair.0; stamp = pair.1 }
 
 module _ (laws : Laws) (runs : NoneRuns) (stay : (w u : Work) (steps : List Step) → Extends w u → IsAnswered w steps → IsAnswered u steps)
     (v f : View) (script : List ScriptLine) (counts : ℕ → ℕ) (answers : List Answer) (closed : List Closed) (run : IsCutRunAtOnce v script counts answers closed f) where
@@ -297,7 +300,7 @@ module _ (laws : Laws) (runs : NoneRuns) (stay : (w u : Work) (steps : List Step
     settles = λ i l a at answered. own.settles runs stay v g script part answers (closed ++ others) in_part i l a at answered;
     closes = λ c m. own.closes runs stay v g script part answers (closed ++ others) in_part c (run.sessions c m) (∈-first closed others c m);
     stamps = λ k m.
-        stamps_here (transactions_of sessions (places_of part answers closed)) (transactions_of sessions (places_of part answers (closed ++ others))) alike k
+        tells_here (transactions_of sessions (places_of part answers closed)) (transactions_of sessions (places_of part answers (closed ++ others))) alike k
         (own.stamps runs stay v g script part answers (closed ++ others) in_part k (subst (λ (ks : List Mark). k ∈ ks) (sym marks_same) m));
     differ = subst (λ (ks : List Mark). AllPairs (λ (j k : Mark). j.stamp ≢ k.stamp) ks) marks_same (own.differ runs stay v g script part answers (closed ++ others) in_part);
     causes = λ i l a s at answered current.
