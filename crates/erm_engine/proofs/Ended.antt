@@ -48,7 +48,7 @@ use Rattle.erm_engine.proofs.Seats.{idle_part, rests, seat_part}
 abbrev F : ℕ
 F = FLUSH_SEAT
 
-module _ {L : Type 0} (law : Law) (o : Opening) (t : Table L) (ss : List (TableSession L)) (e : Book) (tail : ℕ) (behind : 1 < o.tail) (low : o.run ≤ LAST_RUN) (gathers : MayGather e.view) (unpinned : (part_of e.view F).place ≡ Idle) (joined : AreJoined law t ss e)
+module _ {L : Type 0} (law : Law) (o : Opening) (t : Table L) (ss : List (TableSession L)) (e : Book) (tail : ℕ) (behind : 8 ≤ o.tail) (low : o.run ≤ LAST_RUN) (gathers : MayGather e.view) (unpinned : (part_of e.view F).place ≡ Idle) (joined : AreJoined law t ss e)
     (end : EndsUnder law o e tail)
   where
     abbrev pub core : Core

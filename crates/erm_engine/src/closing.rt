@@ -1,5 +1,5 @@
 //! The end: all passes are joined, and the table is closed.
-ghost use Rattle.std.specs.Prelude.{◌≡◌, ℕ, ◌<◌, ◌≤◌, ◌++◌, length, map};
+ghost use Rattle.std.specs.Prelude.{◌≡◌, ℕ, ◌≤◌, ◌++◌, length, map};
 ghost use Rattle.erm_engine.specs.Closed.{AllRest, AreDone, AreJoined, ClosesJoined, HaveEnded};
 ghost use Rattle.erm_engine.specs.Opened.{AreIdle};
 ghost use Rattle.erm_engine.specs.Taken.{HasTaken};
@@ -43,7 +43,7 @@ pub fn join_all<L: RowLaw>(
 /// There is one world in which all have ended, each with what it has done as it knows it.
 pub fn close_joined<L: RowLaw>(table: Table<L>, pass: Pass) -> Stamp
     requires fits { Fits table.words.shared.table_id pass }
-    requires behind { 1 < table.words.shared.key.tail }
+    requires behind { 8 ≤ table.words.shared.key.tail }
     requires run_high { table.words.shared.key.run ≤ LAST_RUN }
     requires gathers { MayGather (view pass) }
     requires unpinned { (part_of (view pass) FLUSH_SEAT).place ≡ Idle }
@@ -62,7 +62,7 @@ pub fn close<L: RowLaw>(
     flush: Pass,
 ) -> Stamp
     requires fits { Fits table.words.shared.table_id flush }
-    requires behind { 1 < table.words.shared.key.tail }
+    requires behind { 8 ≤ table.words.shared.key.tail }
     requires run_high { table.words.shared.key.run ≤ LAST_RUN }
     requires joins { MayJoin (view flush) }
     requires gathers { MayGather (view flush) }

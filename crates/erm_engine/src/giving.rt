@@ -15,7 +15,7 @@ use std::alloc::{AllocError, Global};
 fn give<L: RowLaw>(t: &Table<L>, p: &mut Pass, _opening: &Opening, _given: Seat) -> Pass
     requires given { HasGiven L.law t.now.words.shared.table_id _opening.now _given p.old }
     requires none { _opening.now.sessions ≡ 0 }
-    requires behind { 1 < _opening.now.tail }
+    requires behind { 8 ≤ _opening.now.tail }
     requires more { _given < SESSIONS }
     ensures rest { HasGiven L.law t.now.words.shared.table_id _opening.now (_given + 1) p.new }
     ensures given { IsGiven L.law t.now.words.shared.table_id _opening.now (_given + 1) result }
