@@ -26,9 +26,10 @@ use Rattle.erm_told_crash.specs.Logged.{HasCommits}
 use Rattle.erm_good_at_once.specs.CutReports.{IsCutAtOnce, IsUnseen, answered_of}
 use Rattle.erm_good_at_once.specs.GoodAtOnce.{IsGoodAtOnce}
 use Rattle.erm_good_report.specs.GoodReport.{answer_lines, places_of}
+use Rattle.erm_good_report.specs.Marks.{TellsStamps}
 use Rattle.erm_good_report.specs.Opening.{Opening}
 use Rattle.erm_good_report.specs.Phases.{Closed}
-use Rattle.erm_good_report.specs.Transactions.{transactions_of}
+use Rattle.erm_good_report.specs.Transactions.{Mark, transactions_of}
 use Rattle.erm_invariant.specs.Commits.{EachFrontRuns}
 use Rattle.erm_log_run.proofs.Held.{tells_both, tells_join, tells_weaker}
 use Rattle.erm_log_run.proofs.Lasting.{TellsFor, cut_tells, report_tells}
@@ -38,11 +39,11 @@ use Rattle.erm_rule.specs.declared.view.Start.{Start}
 use Rattle.erm_start.specs.Recovered.{IsOpenedLog}
 use Rattle.erm_desk.specs.Desk.{HeldSince, IsDesk, IsHeld, KeepsFronts, MeetsMore, Sees, WritesSince}
 use Rattle.erm_desk.specs.Known.{flushed_log}
-use Rattle.erm_disk_run.specs.Crashes.{KeepsCommits, KeepsTold, Outlives}
+use Rattle.erm_disk_run.specs.Crashes.{KeepsCommits, KeepsTold, LeavesOwn, Outlives, StaysOwn}
 use Rattle.erm_disk_run.specs.Found.{StartsFrom}
 use Rattle.erm_disk_run.specs.Limits.{in_table}
 use Rattle.erm_disk_run.specs.Opened.{OpensEachLog, OpensLog}
-use Rattle.erm_disk_run.specs.Runs.{CutFew, HaveManyCells, commits_told}
+use Rattle.erm_disk_run.specs.Runs.{CutFew, HaveManyCells, commits_told, marks_told}
 use Rattle.erm_disk_run.proofs.Left.{OrdersAreOne}
 use Rattle.erm_disk_run.proofs.Meeting.{MeetsFound, MetLaws}
 use Rattle.erm_recover.specs.Opening.{open_block}
@@ -55,7 +56,7 @@ use Rattle.erm_disk_at_once.proofs.Files.{KeepsFiles, desk_keeps, keeps_then, op
 use Rattle.erm_disk_at_once.proofs.Left.{leaves_all}
 use Rattle.erm_disk_at_once.proofs.Outlived.{outlives}
 use Rattle.erm_disk_at_once.proofs.Standing.{TellFronts, stand_for}
-use Rattle.erm_disk_at_once.proofs.Starved.{answers_tell, no_commits, none_answered, none_counted, none_owe, none_runs}
+use Rattle.erm_disk_at_once.proofs.Starved.{answers_tell, no_commits, no_marks, none_answered, none_counted, none_owe, none_runs}
 use Rattle.erm_starved_at_once.specs.Owes.{OwesWhenStarved}
 
 -- what the opening did to the disk
@@ -71,7 +72,7 @@ pub record DeskDid (o : Start) (blocks tried : List Block) (old new : List Step)
 -- ---- what was opened, and what a desk did
 
 -- the log of a table that was just opened is one that was opened on the state
-opened_log : (state : State) (o : Start) → OpensTable state o → IsOpenedLog state.rows (state.at + LEAST_BLOCK) (state.run + 1) (flushed_log o [])
+pub opened_log : (state : State) (o : Start) → OpensTable state o → IsOpenedLog state.rows (state.at + LEAST_BLOCK) (state.run + 1) (flushed_log o [])
 opened_log state o t = record { at = t.tail; run = t.run; rows = t.rows; tail = t.tail; flushed = t.tail; gathered = refl; pinned = refl }
 
 pub disk_opened : (state : State) (o : Start) (slots : Slots) (before mid : Option (List Step)) → OpensTable state o → OpensEachLog state slots before mid → Tells (OpensDisk state) before mid
@@ -110,11 +111,12 @@ desk_did o began faults d desk tells = by began tells desk.keeps desk.writes des
 
 -- Where nothing was run behind the opening.
 pub was_unrun : MayOpenAll → (state : State) (o : Start) (slots : Slots) (before mid : Option (List Step)) → OpensTable state o → OpensEachLog state slots before mid
-    → (opening : Opening) → StartsFrom state opening → (names : List (List ℕ)) (script : List ScriptLine) → WasStarvedAtOnce before mid state names script
-was_unrun may state o slots before mid t opens opening starts names script =
+    → Tells (StaysOwn [] [] state) before mid → (opening : Opening) → StartsFrom state opening → (names : List (List ℕ)) (script : List ScriptLine) → WasStarvedAtOnce before mid state names script
+was_unrun may state o slots before mid t opens own opening starts names script =
     let told = opens (flushed_log o []) (opened_log state o t) in
     let none = no_commits names script in
     let no_line = none_answered script in
+    let none_marked = no_marks names script in
     record {
       low = t.low;
       run_low = t.run_low;
@@ -140,6 +142,9 @@ was_unrun may state o slots before mid t opens opening starts names script =
                 (λ first keeps. opening_told [] state is.pair first b refl refl keeps) is.keeps;
             acknowledged = λ place is. absurd (none_in_nil _ is.told);
           }) told));
+      own = subst (λ (cs : List Committed). Tells (StaysOwn cs (marks_told names (answered_of none_counted script) [] []) state) before mid) (sym none)
+          (subst (λ (ks : List Mark). Tells (StaysOwn [] ks state) before mid) (sym none_marked) own);
+      stamps = λ k m. absurd (none_in_nil k (subst (λ (ks : List Mark). k ∈ ks) none_marked m));
       slots = tells_weaker (OpensLog state (flushed_log o []) slots) KeepsSlots before mid
           (λ a b is. let keeps = opened_keeps state (flushed_log o []) slots a b is in (keeps.slot0, keeps.slot1)) told;
       segments = tells_weaker (OpensLog state (flushed_log o []) slots) (KeepsSegments state) before mid
@@ -203,8 +208,11 @@ module _ (may : MayOpenAll) (state : State) (o : Start) (blocks tried : List Blo
       → OwesWhenStarved opening script (answered_of counts script) answers (transactions_of (length names) (places_of (answered_of counts script) answers closed))
       → EachFrontRuns (commits_told names (answered_of counts script) answers closed) opening.map
       → StandFor (commits_told names (answered_of counts script) answers closed) state (state_at (flushed_log o (blocks ++ tried)) []) (blocks ++ tried)
-      → AreAcknowledged (place_behind o.tail blocks) answers → WasStarvedAtOnce before after state names script
-  was_starved names script opening starts counts answers closed each few once unseen owes fronts stand tells = record {
+      → AreAcknowledged (place_behind o.tail blocks) answers
+      → Tells (StaysOwn (commits_told names (answered_of counts script) answers closed) (marks_told names (answered_of counts script) answers closed) state) before after
+      → ((k : Mark) → k ∈ marks_told names (answered_of counts script) answers closed → TellsStamps (transactions_of (length names) (places_of (answered_of counts script) answers closed)) k)
+      → WasStarvedAtOnce before after state names script
+  was_starved names script opening starts counts answers closed each few once unseen owes fronts stand tells own stamps = record {
     low = t.low;
     run_low = t.run_low;
     opening = opening;
@@ -220,6 +228,8 @@ module _ (may : MayOpenAll) (state : State) (o : Start) (blocks tried : List Blo
     fronts = fronts;
     outlives = outlived (commits_told names (answered_of counts script) answers closed) stand (answer_lines (answered_of counts script) answers) answers
         (answers_tell (answered_of counts script) answers) tells;
+    own = own;
+    stamps = stamps;
     slots = both_slots;
     segments = segments;
   }
@@ -230,8 +240,10 @@ module _ (may : MayOpenAll) (state : State) (o : Start) (blocks tried : List Blo
       → tried ≡ [] → StandFor (commits_told names script good.good.report.answers good.good.report.closed) state (state_at (flushed_log o blocks) []) blocks
       → AreAcknowledged (place_behind o.tail blocks) good.good.report.answers
       → Tells (LeavesAll (commits_told names script good.good.report.answers good.good.report.closed) state (from_entries (entries_of good.good.report.pairs))) before after
+      → Tells (StaysOwn (commits_told names script good.good.report.answers good.good.report.closed) (marks_told names script good.good.report.answers good.good.report.closed) state) before after
+      → Tells (LeavesOwn (commits_told names script good.good.report.answers good.good.report.closed) (marks_told names script good.good.report.answers good.good.report.closed) state) before after
       → WasRunAtOnce before after state names script lines
-  was_run names script lines opening starts good few celled fronts none stand tells leaves =
+  was_run names script lines opening starts good few celled fronts none stand tells leaves own own_left =
       let r = good.good.report in
       let told : List Committed = commits_told names script r.answers r.closed in
       let whole : blocks ≡ blocks ++ tried = sym (ap (λ (bs : List Block). blocks ++ bs) none ∙ append-nil blocks) in
@@ -249,14 +261,18 @@ module _ (may : MayOpenAll) (state : State) (o : Start) (blocks tried : List Blo
         fronts = fronts;
         outlives = outlived told (subst (λ (bs : List Block). StandFor told state (state_at (flushed_log o bs) []) bs) whole stand) lines r.answers of tells;
         leaves = leaves;
+        own = own;
+        left = own_left;
       }
 
   -- One that the disk's fault cut off.
   pub was_cut : (names : List (List ℕ)) (script : List ScriptLine) (lines : List Line) (opening : Opening) → StartsFrom state opening → (cut : IsCutAtOnce opening names script lines)
       → CutFew in_table cut.answers → HaveManyCells in_table script cut.answers → EachFrontRuns (commits_told names (answered_of cut.counts script) cut.answers cut.closed) opening.map
       → StandFor (commits_told names (answered_of cut.counts script) cut.answers cut.closed) state (state_at (flushed_log o (blocks ++ tried)) []) (blocks ++ tried)
-      → AreAcknowledged (place_behind o.tail blocks) cut.answers → WasCutAtOnce before after state names script lines
-  was_cut names script lines opening starts cut few celled fronts stand tells = record {
+      → AreAcknowledged (place_behind o.tail blocks) cut.answers
+      → Tells (StaysOwn (commits_told names (answered_of cut.counts script) cut.answers cut.closed) (marks_told names (answered_of cut.counts script) cut.answers cut.closed) state) before after
+      → WasCutAtOnce before after state names script lines
+  was_cut names script lines opening starts cut few celled fronts stand tells own = record {
     low = t.low;
     run_low = t.run_low;
     opening = opening;
@@ -267,6 +283,7 @@ module _ (may : MayOpenAll) (state : State) (o : Start) (blocks tried : List Blo
     fronts = fronts;
     outlives = outlived (commits_told names (answered_of cut.counts script) cut.answers cut.closed) stand lines cut.answers
         (cut_tells lines opening.stamp opening.run (answered_of cut.counts script) cut.answers None cut.lines_ok) tells;
+    own = own;
     slots = both_slots;
     segments = segments;
   }

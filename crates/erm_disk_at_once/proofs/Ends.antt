@@ -12,6 +12,7 @@ use Rattle.erm_disk_at_once.specs.Desks.{HasDesk}
 use Rattle.erm_disk_at_once.specs.Laws.{CommitsAreLeft, CommitsOutlive, CutRunsAtOnceEndOnDisk, OpeningsAreLeft, RunsAtOnceEndOnDisk, StarvedRunsAtOnceEndOnDisk}
 use Rattle.erm_disk_at_once.proofs.AtOnce.{DeskDid, OpensDisk, desk_did, disk_met, disk_opened, left, outlived, was_unrun}
 use Rattle.erm_disk_at_once.proofs.Files.{told_of}
+use Rattle.erm_disk_at_once.proofs.Own.{OlderLaws, disk_found, opening_owned}
 use Rattle.erm_maps.proofs.Commits.{run_ends}
 use Rattle.erm_node.specs.Sound.{sound_law}
 use Rattle.erm_node.specs.TreeMap.{map_of_rows}
@@ -38,21 +39,24 @@ commits_are_left may one laws state slots o before mid faults d has sound told s
     has.desk.knows.log commits order (map_of_rows state.rows) end refl serial (run_ends order (map_of_rows state.rows) end run.run) slots (disk_met state o slots before mid has.table has.opens) (met state slots o before mid faults d has sound)
 
 pub openings_are_left : MayOpenAll → OpeningsAreLeft
-openings_are_left may state slots o before mid table opens opening starts names script = was_unrun may state o slots before mid table opens opening starts names script
+openings_are_left may state slots o before mid table opens opening starts names script =
+    was_unrun may state o slots before mid table opens (opening_owned state o slots before mid table opens) opening starts names script
 
 pub runs_end : MayOpenAll → OrdersAreOne → WholeLaws → RunsAtOnceEndOnDisk
 runs_end may one laws state slots o before mid faults d has sound names spare script opening v f lines starts fits flushed ends logged was =
     let holds = has.desk.holds sound in
     run_at_once may state o has.desk.blocks has.desk.tried before mid d.told has.table (opened state slots o before mid faults d has) (did state slots o before mid faults d has) v f script opening
     starts.starts starts.view starts.cuts starts.cells names spare lines starts.sessions starts.few starts.first fits flushed one laws was holds.0 logged ends
-    has.desk.knows.log slots (disk_met state o slots before mid has.table has.opens) (met state slots o before mid faults d has sound)
+    has.desk.knows.log slots (disk_met state o slots before mid has.table has.opens) (disk_found state o slots before mid has.table has.opens) (met state slots o before mid faults d has sound)
 
 pub cut_runs_end : MayOpenAll → CutLaws → CutRunsAtOnceEndOnDisk
 cut_runs_end may laws state slots o before mid faults d has names spare script opening v f lines starts fits flushed logged was =
     cut_at_once may state o has.desk.blocks has.desk.tried before mid d.told has.table (opened state slots o before mid faults d has) (did state slots o before mid faults d has) v f script opening
     starts.starts starts.view starts.cuts starts.cells names spare lines starts.sessions starts.few starts.first fits flushed laws was logged
+    slots (disk_found state o slots before mid has.table has.opens)
 
-pub starved_runs_end : MayOpenAll → StarvedRunsTell → StarvedRunsAtOnceEndOnDisk
-starved_runs_end may tell state slots o before mid faults d has names spare script opening v f counts answers closed starts flushed logged run =
+pub starved_runs_end : MayOpenAll → StarvedRunsTell → OlderLaws → StarvedRunsAtOnceEndOnDisk
+starved_runs_end may tell older state slots o before mid faults d has names spare script opening v f counts answers closed starts flushed logged run =
     starved_at_once may state o has.desk.blocks has.desk.tried before mid d.told has.table (opened state slots o before mid faults d has) (did state slots o before mid faults d has) v f script opening
-    starts.starts starts.view starts.cuts names spare starts.sessions starts.first flushed tell counts answers closed run logged
+    starts.starts starts.view starts.cuts names spare starts.sessions starts.first flushed tell older counts answers closed run logged
+    slots (disk_found state o slots before mid has.table has.opens)

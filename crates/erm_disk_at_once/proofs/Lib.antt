@@ -4,6 +4,8 @@ pub mod Ends
 pub mod Files
 pub mod Left
 pub mod Outlived
+pub mod Own
 pub mod Reported
+pub mod Spare
 pub mod Standing
 pub mod Starved

@@ -1,5 +1,5 @@
 -- The reports of sessions that ran at once, with the script's names alone, and what the log tells of their commits.
-use Rattle.std.proofs.Common.{◌≡◌, ℕ, ◌+◌, ◌<◌, ◌≤◌, List, [], ◌++◌, length, Option, refl, sym, ap, ◌∙◌, subst, arith}
+use Rattle.std.proofs.Common.{◌≡◌, ℕ, ◌+◌, ◌<◌, ◌≤◌, List, [], ◌++◌, append-nil, length, Option, refl, sym, ap, ◌∙◌, subst, arith}
 use Rattle.std.specs.List.{All}
 use Rattle.std.proofs.lemmas.List.{length-append}
 use Rattle.erm_model.specs.Committed.{Committed}
@@ -22,15 +22,16 @@ use Rattle.erm_world.specs.Log.{IsLog, gathered_to, place_behind}
 use Rattle.erm_world.specs.Log as world
 use Rattle.erm_world.specs.World.{View}
 use Rattle.erm_good_report.specs.GoodReport.{HaveTightWindows, Report, places_of}
+use Rattle.erm_good_report.specs.Marks.{TellsStamps}
 use Rattle.erm_good_report.specs.Opening.{Opening}
 use Rattle.erm_good_report.specs.Phases.{Closed}
-use Rattle.erm_good_report.specs.Transactions.{Said, Transaction, ended_of, history_of, transactions_of}
-use Rattle.erm_good_at_once.specs.CutReports.{IsCutAtOnce, OwesInPart, answered_of}
+use Rattle.erm_good_report.specs.Transactions.{Mark, Said, Transaction, ended_of, history_of, marks_of, transactions_of}
+use Rattle.erm_good_at_once.specs.CutReports.{IsCutAtOnce, MarksOweInPart, OwesInPart, answered_of}
 use Rattle.erm_good_at_once.specs.GoodAtOnce.{IsGoodAtOnce}
 use Rattle.erm_invariant.specs.Commits.{EachFrontRuns}
 use Rattle.erm_lines.specs.Executions.{IsOpeningOf}
 use Rattle.erm_limits_at_once.specs.Laws.{AreCellsFull, RunsAtOnceFillCells}
-use Rattle.erm_cut_at_once.specs.Laws.{CutRunsCloseUnseen, CutRunsFillCells, CutRunsOwe, TellsCutAtOnce}
+use Rattle.erm_cut_at_once.specs.Laws.{CutRunsCloseUnseen, CutRunsFillCells, CutRunsMark, CutRunsOwe, TellsCutAtOnce}
 use Rattle.erm_report_at_once.specs.Laws.{RunsAtOnceReportWell, TellsAtOnce}
 use Rattle.erm_tight_at_once.specs.Laws.{RunsAtOnceHaveTightWindows}
 use Rattle.erm_spare_names.specs.Spare.{NamesOnlyFirst, SpareNamesTellNothing}
@@ -38,22 +39,26 @@ use Rattle.erm_spare_names.proofs.Spare.{unseen_no_more}
 use Rattle.erm_starved_at_once.specs.Laws.{StarvedRunsTell}
 use Rattle.erm_starved_at_once.specs.Owes.{OwesWhenStarved}
 use Rattle.erm_works.specs.Starved.{IsStarvedRunAtOnce}
-use Rattle.erm_told_log_at_once.specs.Laws.{AreCutsFew, AreFlushed, CutRunsCutFew, CutRunsLogCommits, CutRunsRunInFronts, CutRunsTellFlushed, CutRunsTellStates, RunsAtOnceCutFew, RunsAtOnceLogCommits, RunsAtOnceRunInFronts, RunsAtOnceTellFlushed, RunsAtOnceTellStates}
-use Rattle.erm_told_crash.specs.Logged.{HasCommits}
+use Rattle.erm_told_log_at_once.specs.Laws.{AreCutsFew, AreFlushed, CutRunsCutFew, CutRunsLogCommits, CutRunsLogMarks, CutRunsRunInFronts, CutRunsStayBehind, CutRunsTellFlushed, CutRunsTellStates, RunsAtOnceCutFew, RunsAtOnceLogCommits, RunsAtOnceLogMarks, RunsAtOnceRunInFronts, RunsAtOnceStayBehind, RunsAtOnceTellFlushed, RunsAtOnceTellStates}
+use Rattle.erm_told_crash.specs.Logged.{HasCommits, HasMarks, StayBehind}
 use Rattle.erm_rule.specs.declared.view.Start.{Start}
 use Rattle.erm_desk.specs.Desk.{MeetsMore}
 use Rattle.erm_desk.specs.Known.{flushed_log}
+use Rattle.erm_disk_run.specs.Crashes.{StaysOwn}
 use Rattle.erm_disk_run.specs.Found.{StartsFrom}
 use Rattle.erm_disk_run.specs.Limits.{in_table}
-use Rattle.erm_disk_run.specs.Runs.{CutFew, HaveManyCells, commits_told}
+use Rattle.erm_disk_run.specs.Runs.{CutFew, HaveManyCells, commits_told, marks_told}
 use Rattle.erm_log_run.proofs.Good.{OrdersExist}
 use Rattle.erm_disk_run.proofs.Left.{OrdersAreOne}
 use Rattle.erm_disk_run.proofs.Meeting.{MeetsFound, MetLaws}
 use Rattle.erm_disk_run.proofs.Opened.{MayOpenAll}
+use Rattle.erm_disk_run.proofs.Own.{OpensFound}
 use Rattle.erm_disk_at_once.specs.Desks.{AreAcknowledged, HasLogged, OpensTable, StandFor}
 use Rattle.erm_disk_at_once.specs.Runs.{WasCutAtOnce, WasRunAtOnce, WasStarvedAtOnce}
 use Rattle.erm_disk_at_once.proofs.Alone.{own_order_of}
 use Rattle.erm_disk_at_once.proofs.AtOnce.{DeskDid, OpensDisk, left, logged_stand, was_cut, was_run, was_starved}
+use Rattle.erm_disk_at_once.proofs.Own.{OlderLaws, behind_flushed, marks_flushed, own_left, owned}
+use Rattle.erm_disk_at_once.proofs.Spare.{good_marks, unseen_marks}
 
 -- the laws that a whole run rests on: of reports, and of the log
 pub record WholeLaws : Type 0 where
@@ -66,6 +71,9 @@ pub record WholeLaws : Type 0 where
   pub flushed : RunsAtOnceTellFlushed
   pub few : RunsAtOnceCutFew
   pub cells : RunsAtOnceFillCells
+  pub marks : RunsAtOnceLogMarks
+  pub behind : RunsAtOnceStayBehind
+  pub older : OlderLaws
   pub met : MetLaws
   pub orders : OrdersExist
 
@@ -80,6 +88,10 @@ pub record CutLaws : Type 0 where
   pub flushed : CutRunsTellFlushed
   pub few : CutRunsCutFew
   pub cells : CutRunsFillCells
+  pub owe_marks : CutRunsMark
+  pub marks : CutRunsLogMarks
+  pub behind : CutRunsStayBehind
+  pub older : OlderLaws
 
 -- ---- the script's names alone
 
@@ -87,17 +99,23 @@ pub record CutLaws : Type 0 where
 abbrev all_told : View → List ScriptLine → List Answer → List Closed → List Committed
 all_told v part answers closed = history_of (transactions_of v.opening.sessions (places_of part answers closed))
 
+-- and the marks
+abbrev all_marks : View → List ScriptLine → List Answer → List Closed → List Mark
+all_marks v part answers closed = marks_of v.opening.sessions (places_of part answers closed)
+
 -- lines are a good report with these names, of these answers and closed sessions, and tell what they do with names enough
 pub record IsReported (v : View) (opening : Opening) (names : List (List ℕ)) (script : List ScriptLine) (answers : List Answer) (closed : List Closed) (lines : List Line) : Type 0 where
   pub good : IsGoodAtOnce opening names script lines
   pub answers_are : good.good.report.answers ≡ answers
   pub told : commits_told names script good.good.report.answers good.good.report.closed ≡ all_told v script answers closed
+  pub marked : marks_told names script good.good.report.answers good.good.report.closed ≡ all_marks v script answers closed
 
 -- the same of a report that was cut off
 pub record IsCutReported (v : View) (opening : Opening) (names : List (List ℕ)) (script : List ScriptLine) (counts : ℕ → ℕ) (answers : List Answer) (closed : List Closed) (lines : List Line) : Type 0 where
   pub cut : IsCutAtOnce opening names script lines
   pub answers_are : cut.answers ≡ answers
   pub told : commits_told names (answered_of cut.counts script) cut.answers cut.closed ≡ all_told v (answered_of counts script) answers closed
+  pub marked : marks_told names (answered_of cut.counts script) cut.answers cut.closed ≡ all_marks v (answered_of counts script) answers closed
 
 -- fewer names tell the same
 told_with : (n m : ℕ) (said : List Said) → transactions_of n said ≡ transactions_of m said → history_of (transactions_of n said) ≡ history_of (transactions_of m said)
@@ -128,6 +146,12 @@ module _ (v f : View) (script : List ScriptLine) (opening : Opening) (names spar
             ∙ ap (λ (given : List Answer). history_of (transactions_of (length (names ++ spare)) (places_of script given it.good.report.closed))) it.answers_are
             ∙ ap (λ (cs : List Closed). history_of (transactions_of (length (names ++ spare)) (places_of script was.answers cs))) it.closed_are
             ∙ ap (λ (n : ℕ). history_of (transactions_of n (places_of script was.answers was.closed))) (sym many);
+        marked =
+            good_marks opening names spare script lines first alone.0
+            ∙ ap (λ (r : Report). marks_of (length (names ++ spare)) (places_of script r.answers r.closed)) same
+            ∙ ap (λ (given : List Answer). marks_of (length (names ++ spare)) (places_of script given it.good.report.closed)) it.answers_are
+            ∙ ap (λ (cs : List Closed). marks_of (length (names ++ spare)) (places_of script was.answers cs)) it.closed_are
+            ∙ ap (λ (n : ℕ). marks_of n (places_of script was.answers was.closed)) (sym many);
       }
 
   pub cut_reported : (laws : CutLaws) → (was : TellsCutAtOnce v f opening script lines) → IsCutReported v opening names script was.counts was.answers was.closed lines
@@ -145,6 +169,7 @@ module _ (v f : View) (script : List ScriptLine) (opening : Opening) (names spar
         owes =
             subst (λ (n : ℕ). OwesInPart opening script part was.answers (transactions_of n (places_of part was.answers was.closed)) (ended_of n (places_of part was.answers was.closed))) many
             (laws.owe v f script was.counts was.answers was.closed opening was.run of sessions);
+        marks = subst (λ (n : ℕ). MarksOweInPart opening n script part was.answers was.closed) many (laws.owe_marks v f script was.counts was.answers was.closed opening was.run of);
       } in
       let alone = laws.spare.cut opening names spare script lines first full in
       let cut = alone.0 in
@@ -157,6 +182,12 @@ module _ (v f : View) (script : List ScriptLine) (opening : Opening) (names spar
             ∙ ap (λ (cs : List Closed). commits_told names part was.answers cs) alone.3
             ∙ told_with (length names) (length (names ++ spare)) (places_of part was.answers was.closed) alone.4
             ∙ ap (λ (n : ℕ). history_of (transactions_of n (places_of part was.answers was.closed))) (sym many);
+        marked =
+            unseen_marks names spare script cut.counts cut.answers cut.closed first cut.unseen
+            ∙ ap (λ (counts : ℕ → ℕ). marks_of (length (names ++ spare)) (places_of (answered_of counts script) cut.answers cut.closed)) alone.1
+            ∙ ap (λ (given : List Answer). marks_of (length (names ++ spare)) (places_of part given cut.closed)) alone.2
+            ∙ ap (λ (cs : List Closed). marks_of (length (names ++ spare)) (places_of part was.answers cs)) alone.3
+            ∙ ap (λ (n : ℕ). marks_of n (places_of part was.answers was.closed)) (sym many);
       }
 
 -- ---- what the log tells
@@ -202,9 +233,9 @@ module _ (may : MayOpenAll) (state : State) (o : Start) (blocks tried : List Blo
     (sessions : v.opening.sessions ≤ SESSIONS) (first : NamesOnlyFirst (length names) script) (fits : All FitsTypes lines) (flushed : f.flushed ≡ place_behind o.tail blocks) where
   -- A whole run, of which all is flushed.
   pub run_at_once : OrdersAreOne → WholeLaws → (was : TellsAtOnce v f opening (names ++ spare) script lines) → tried ≡ [] → HasLogged o blocks f → f.flushed ≡ f.tail
-      → IsLog sound_law.meets (flushed_log o blocks) → (slots : Slots) → Tells (MeetsFound state (flushed_log o []) slots) before mid → Tells (MeetsMore sound_law o blocks) mid after
-      → WasRunAtOnce before after state names script lines
-  run_at_once one laws was none has ends is slots met more =
+      → IsLog sound_law.meets (flushed_log o blocks) → (slots : Slots) → Tells (MeetsFound state (flushed_log o []) slots) before mid → Tells (OpensFound state (flushed_log o []) slots) before mid
+      → Tells (MeetsMore sound_law o blocks) mid after → WasRunAtOnce before after state names script lines
+  run_at_once one laws was none has ends is slots met found more =
       let r = reported v f script opening names spare lines of many sessions first fits laws was in
       let told : List Committed = all_told v script was.answers was.closed in
       let commits : HasCommits has.log told = laws.commits v f script was.answers was.closed opening was.run of has.apart has.log has.of_view has.is in
@@ -218,6 +249,16 @@ module _ (may : MayOpenAll) (state : State) (o : Start) (blocks tried : List Blo
       let stands : StandFor (commits_told names script good.report.answers good.report.closed) state (state_at (flushed_log o blocks) []) blocks =
       subst (λ (cs : List Committed). StandFor cs state (state_at (flushed_log o blocks) []) blocks) (sym r.told) stand
       in
+      let marked : List Mark = marks_told names script good.report.answers good.report.closed in
+      let are : HasMarks (flushed_log o blocks) marked =
+      subst (λ (ks : List Mark). HasMarks (flushed_log o blocks) ks) (sym r.marked)
+      (marks_flushed o blocks f has ends flushed (all_marks v script was.answers was.closed) (laws.marks v f script was.answers was.closed was.run has.apart has.log has.of_view has.is))
+      in
+      let stay : StayBehind (flushed_log o blocks) (commits_told names script good.report.answers good.report.closed) =
+      subst (λ (cs : List Committed). StayBehind (flushed_log o blocks) cs) (sym r.told)
+      (behind_flushed o blocks f has ends flushed told (laws.behind v f script was.answers was.closed opening was.run of has.apart has.log has.of_view has.is))
+      in
+      let whole : blocks ≡ blocks ++ tried = sym (ap (λ (bs : List Block). blocks ++ bs) none ∙ append-nil blocks) in
       let many_named : length (names ++ spare) ≡ length names + length spare = length-append names spare in
       let low = t.low in
       let at = starts.stamp in
@@ -230,16 +271,24 @@ module _ (may : MayOpenAll) (state : State) (o : Start) (blocks tried : List Blo
       (flushed_answers f (place_behind o.tail blocks) r.good.good.report.answers was.answers flushed r.answers_are (laws.flushed v f script was.answers was.closed was.run))
       (left may state o blocks tried before mid after t opens did one laws.met (commits_told names script good.report.answers good.report.closed) stands is here own.0 opening.map
       (from_entries (entries_of good.report.pairs)) starts.map own.1 own.2 slots met more)
+      (owned state o t (flushed_log o blocks) is refl (commits_told names script good.report.answers good.report.closed) here marked are stay laws.older slots blocks tried whole before mid after found did)
+      (own_left state o t blocks is (commits_told names script good.report.answers good.report.closed) here marked are stay slots before mid after met more)
 
   -- One that the disk's fault cut off.
-  pub cut_at_once : CutLaws → (was : TellsCutAtOnce v f opening script lines) → HasLogged o (blocks ++ tried) f → WasCutAtOnce before after state names script lines
-  cut_at_once laws was has =
+  pub cut_at_once : CutLaws → (was : TellsCutAtOnce v f opening script lines) → HasLogged o (blocks ++ tried) f → (slots : Slots)
+      → Tells (OpensFound state (flushed_log o []) slots) before mid → WasCutAtOnce before after state names script lines
+  cut_at_once laws was has slots found =
       let r = cut_reported v f script opening names spare lines of many sessions first fits laws was in
       let told : List Committed = all_told v (answered_of was.counts script) was.answers was.closed in
+      let commits : HasCommits has.log told = laws.commits v f script was.counts was.answers was.closed opening was.run of has.apart has.log has.of_view has.is in
       let stand : StandFor told state (state_at (flushed_log o (blocks ++ tried)) []) (blocks ++ tried) =
       logged_stand told state o (blocks ++ tried) f t has opening.map starts.map
-      (laws.states v f script was.counts was.answers was.closed opening was.run of has.apart has.log has.of_view has.is)
-      (laws.commits v f script was.counts was.answers was.closed opening was.run of has.apart has.log has.of_view has.is)
+      (laws.states v f script was.counts was.answers was.closed opening was.run of has.apart has.log has.of_view has.is) commits
+      in
+      let marked : List Mark = all_marks v (answered_of was.counts script) was.answers was.closed in
+      let own : Tells (StaysOwn told marked state) before after =
+      owned state o t has.log has.is has.opened told commits marked (laws.marks v f script was.counts was.answers was.closed was.run has.apart has.log has.of_view has.is)
+      (laws.behind v f script was.counts was.answers was.closed opening was.run of has.apart has.log has.of_view has.is) laws.older slots blocks tried has.gathered before mid after found did
       in
       was_cut may state o blocks tried before mid after t opens did names script lines opening starts r.cut
       (few_cuts v r.cut.answers was.answers cuts r.answers_are (laws.few v f script was.counts was.answers was.closed was.run))
@@ -247,15 +296,17 @@ module _ (may : MayOpenAll) (state : State) (o : Start) (blocks tried : List Blo
       (subst (λ (cs : List Committed). EachFrontRuns cs opening.map) (sym r.told) (laws.fronts v f script was.counts was.answers was.closed opening was.run of))
       (subst (λ (cs : List Committed). StandFor cs state (state_at (flushed_log o (blocks ++ tried)) []) (blocks ++ tried)) (sym r.told) stand)
       (flushed_answers f (place_behind o.tail blocks) r.cut.answers was.answers flushed r.answers_are (laws.flushed v f script was.counts was.answers was.closed was.run))
+      (subst (λ (cs : List Committed). Tells (StaysOwn cs (marks_told names (answered_of r.cut.counts script) r.cut.answers r.cut.closed) state) before after) (sym r.told)
+      (subst (λ (ks : List Mark). Tells (StaysOwn told ks state) before after) (sym r.marked) own))
 
 -- One for some of whose sessions memory ran out, or of which nothing is told.
 module _ (may : MayOpenAll) (state : State) (o : Start) (blocks tried : List Block) (before mid after : Option (List Step)) (t : OpensTable state o)
     (opens : Tells (OpensDisk state) before mid) (did : Tells (DeskDid o blocks tried) mid after) (v f : View) (script : List ScriptLine) (opening : Opening) (starts : StartsFrom state opening)
     (of : IsOpeningOf v opening) (cuts : v.opening.cuts ≡ TABLE_CELLS) (names spare : List (List ℕ)) (many : v.opening.sessions ≡ length (names ++ spare))
     (first : NamesOnlyFirst (length names) script) (flushed : f.flushed ≡ place_behind o.tail blocks) where
-  pub starved_at_once : StarvedRunsTell → (counts : ℕ → ℕ) (answers : List Answer) (closed : List Closed) → IsStarvedRunAtOnce v script counts answers closed f → HasLogged o (blocks ++ tried) f
-      → WasStarvedAtOnce before after state names script
-  starved_at_once tell counts answers closed run has =
+  pub starved_at_once : StarvedRunsTell → OlderLaws → (counts : ℕ → ℕ) (answers : List Answer) (closed : List Closed) → IsStarvedRunAtOnce v script counts answers closed f → HasLogged o (blocks ++ tried) f
+      → (slots : Slots) → Tells (OpensFound state (flushed_log o []) slots) before mid → WasStarvedAtOnce before after state names script
+  starved_at_once tell older counts answers closed run has slots found =
       let part = answered_of counts script in
       let unseen = tell.unseen v f script counts answers closed run in
       let told : transactions_of (length names) (places_of part answers closed) ≡ transactions_of v.opening.sessions (places_of part answers closed) =
@@ -263,10 +314,18 @@ module _ (may : MayOpenAll) (state : State) (o : Start) (blocks tried : List Blo
       ∙ ap (λ (n : ℕ). transactions_of n (places_of part answers closed)) (sym many)
       in
       let same : commits_told names part answers closed ≡ all_told v part answers closed = ap (λ (ts : List Transaction). history_of ts) told in
+      let marked : List Mark = all_marks v part answers closed in
+      let same_marks : marks_told names part answers closed ≡ marked =
+      unseen_marks names spare script counts answers closed first unseen ∙ ap (λ (n : ℕ). marks_of n (places_of part answers closed)) (sym many)
+      in
+      let commits : HasCommits has.log (all_told v part answers closed) = tell.commits v f script counts answers closed opening run of has.apart has.log has.of_view has.is in
+      let own : Tells (StaysOwn (all_told v part answers closed) marked state) before after =
+      owned state o t has.log has.is has.opened (all_told v part answers closed) commits marked (tell.marks v f script counts answers closed run has.apart has.log has.of_view has.is)
+      (tell.behind v f script counts answers closed opening run of has.apart has.log has.of_view has.is) older slots blocks tried has.gathered before mid after found did
+      in
       let stand : StandFor (all_told v part answers closed) state (state_at (flushed_log o (blocks ++ tried)) []) (blocks ++ tried) =
       logged_stand (all_told v part answers closed) state o (blocks ++ tried) f t has opening.map starts.map
-      (tell.states v f script counts answers closed opening run of has.apart has.log has.of_view has.is)
-      (tell.commits v f script counts answers closed opening run of has.apart has.log has.of_view has.is)
+      (tell.states v f script counts answers closed opening run of has.apart has.log has.of_view has.is) commits
       in
       was_starved may state o blocks tried before mid after t opens did names script opening starts counts answers closed run.each
       (few_cuts v answers answers cuts refl (tell.few v f script counts answers closed run))
@@ -275,3 +334,8 @@ module _ (may : MayOpenAll) (state : State) (o : Start) (blocks tried : List Blo
       (subst (λ (cs : List Committed). EachFrontRuns cs opening.map) (sym same) (tell.fronts v f script counts answers closed opening run of))
       (subst (λ (cs : List Committed). StandFor cs state (state_at (flushed_log o (blocks ++ tried)) []) (blocks ++ tried)) (sym same) stand)
       (flushed_answers f (place_behind o.tail blocks) answers answers flushed refl (tell.flushed v f script counts answers closed run))
+      (subst (λ (cs : List Committed). Tells (StaysOwn cs (marks_told names part answers closed) state) before after) (sym same)
+      (subst (λ (ks : List Mark). Tells (StaysOwn (all_told v part answers closed) ks state) before after) (sym same_marks) own))
+      (λ k m.
+      subst (λ (ts : List Transaction). TellsStamps ts k) (sym told)
+      (tell.stamps v f script counts answers closed run k (subst (λ (ks : List Mark). k ∈ ks) same_marks m)))

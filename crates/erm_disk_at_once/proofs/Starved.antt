@@ -14,12 +14,12 @@ use Rattle.erm_report.specs.declared.line.Line.TheVariants as line
 use Rattle.erm_script.specs.declared.script.ScriptLine.{ScriptLine}
 use Rattle.erm_good_report.specs.GoodReport.{answer_lines, places_of}
 use Rattle.erm_good_report.specs.Opening.{Opening}
-use Rattle.erm_good_report.specs.Transactions.{Transaction, history_of, transactions_of}
+use Rattle.erm_good_report.specs.Transactions.{Transaction, history_of, marks_of, transactions_of}
 use Rattle.erm_good_at_once.specs.CutReports.{answered_of}
 use Rattle.erm_invariant.specs.Commits.{EachFrontRuns}
 use Rattle.erm_log_run.proofs.Lasting.{TellsFor, cut_tells}
-use Rattle.erm_spare_names.proofs.Seats.{told_without_spare}
-use Rattle.erm_disk_run.specs.Runs.{commits_told}
+use Rattle.erm_spare_names.proofs.Seats.{marks_without_spare, told_without_spare}
+use Rattle.erm_disk_run.specs.Runs.{commits_told, marks_told}
 use Rattle.erm_starved_at_once.specs.Owes.{OwesWhenStarved}
 use Rattle.std.specs.Prelude.{None}
 
@@ -48,6 +48,11 @@ no_transactions sessions = let same : sessions ≡ 0 + sessions = omega arith in
 pub no_commits : (names : List (List ℕ)) (script : List ScriptLine) → commits_told names (answered_of none_counted script) [] [] ≡ []
 no_commits names script =
     ap (λ (ls : List ScriptLine). commits_told names ls [] []) (none_answered script) ∙ ap (λ (ts : List Transaction). history_of ts) (no_transactions (length names))
+
+pub no_marks : (names : List (List ℕ)) (script : List ScriptLine) → marks_told names (answered_of none_counted script) [] [] ≡ []
+no_marks names script =
+    let many : length names ≡ 0 + length names = omega arith in
+    ap (λ (ls : List ScriptLine). marks_told names ls [] []) (none_answered script) ∙ ap (λ (n : ℕ). marks_of n []) many ∙ marks_without_spare 0 (length names) [] tt
 
 -- and nothing is owed
 nothing_owed : (opening : Opening) (whole : List ScriptLine) (told : List Transaction) → told ≡ [] → OwesWhenStarved opening whole [] [] told

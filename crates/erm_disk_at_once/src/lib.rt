@@ -44,6 +44,10 @@ pub fn runs_at_once_end_on_disk()
     erm_spare_names::spare_names_tell_nothing();
     erm_told_log_at_once::runs_at_once_tell_states();
     erm_told_log_at_once::runs_at_once_log_commits();
+    erm_told_log_at_once::runs_at_once_log_marks();
+    erm_told_log_at_once::runs_at_once_stay_behind();
+    erm_told_log::held_disks_meet_older_blocks::<SoundRows>();
+    erm_crash::writes_keep_older_blocks::<SoundRows>();
     erm_told_log_at_once::runs_at_once_run_in_fronts();
     erm_told_log_at_once::runs_at_once_tell_flushed();
     erm_told_log::recovery_meets_the_run::<SoundRows>();
@@ -64,6 +68,10 @@ pub fn cut_runs_at_once_end_on_disk()
     erm_spare_names::spare_names_tell_nothing();
     erm_told_log_at_once::cut_runs_tell_states();
     erm_told_log_at_once::cut_runs_log_commits();
+    erm_told_log_at_once::cut_runs_log_marks();
+    erm_told_log_at_once::cut_runs_stay_behind();
+    erm_told_log::held_disks_meet_older_blocks::<SoundRows>();
+    erm_crash::writes_keep_older_blocks::<SoundRows>();
     erm_told_log_at_once::cut_runs_run_in_fronts();
     erm_told_log_at_once::cut_runs_tell_flushed();
     erm_told_log_at_once::cut_runs_cut_few();
@@ -76,4 +84,6 @@ pub fn starved_runs_at_once_end_on_disk()
 {
     erm_crash::kept_images_may_open::<SoundRows>();
     erm_starved_at_once::starved_runs_tell();
+    erm_told_log::held_disks_meet_older_blocks::<SoundRows>();
+    erm_crash::writes_keep_older_blocks::<SoundRows>();
 }
