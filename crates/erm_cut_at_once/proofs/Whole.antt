@@ -22,7 +22,7 @@ use Rattle.erm_maps.specs.Runs.{IsAnswered}
 use Rattle.erm_good_report.specs.GoodReport.{places_of}
 use Rattle.erm_good_report.specs.Opening.{Opening}
 use Rattle.erm_good_report.specs.Phases.{Closed}
-use Rattle.erm_good_report.specs.Refusals.{total_of, Moment}
+use Rattle.erm_good_report.specs.Refusals.{total_of, Moment, draws_of}
 use Rattle.erm_good_report.specs.Transactions.{Aborts, Progress, Said, Snapshot, Transaction, Unfinished, ended, ended_as, ended_of, nothing, progress_of, transactions_of, with_ending, Mark, marked_as, marks_of, placed_at}
 use Rattle.erm_good_at_once.specs.CutReports.{OwesInPart, answered_of, MarksOweInPart, moment_in}
 use Rattle.erm_lines.specs.Executions.{IsOpeningOf, Move, said_in}
@@ -76,7 +76,7 @@ chosen v (suc n) = elim (cases_lt n v.opening.sessions) as (λ _. Chosen v (suc 
 told_now : (seat : ℕ) (current : Option Transaction) (stand : Stand) → TellsNow seat current stand → phase_of stand ≡ Active → (t : Transaction) × (current ≡ Some t) × (t.ending ≡ Unfinished)
 told_now seat None world.idle tells active = cc
 told_now seat None (world.active w) tells active = absurd tells
-told_now seat None (world.sealed w stamp) tells active = absurd tells
+told_now seat None (world.sealed w stamp) tells active = cc
 told_now seat (Some t) world.idle tells active = absurd tells
 told_now seat (Some t) (world.active w) tells active = (t, refl, tells.0.unfinished)
 told_now seat (Some t) (world.sealed w stamp) tells active = cc
@@ -178,7 +178,7 @@ module _ (laws : Laws) (runs : NoneRuns) (stay : (w u : Work) (steps : List Step
   left_by seat (inl session) its = (left seat session).left
   left_by seat (inr none) its = absurd (none its)
 
-  may_by : (seat : ℕ) (choice : Chosen v seat) → (drawn_by seat choice ≡ 0) ⊎ ((drawn_by seat choice ≡ 1) × ((l : ScriptLine) × (next_of seat counts script ≡ Some l) × (l.command ≡ command.Commit)))
+  may_by : (seat : ℕ) (choice : Chosen v seat) → (drawn_by seat choice ≡ 0) ⊎ ((drawn_by seat choice ≡ 1) × ((l : ScriptLine) × (next_of seat counts script ≡ Some l) × (draws_of l.command ≡ 1)))
   may_by seat (inl session) = (left seat session).left.draws
   may_by seat (inr none) = inl refl
 

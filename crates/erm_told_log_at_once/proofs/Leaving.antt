@@ -54,7 +54,7 @@ pub record Leaving (f : View) (seat : ℕ) (p : Progress) : Type 0 where
 pub told_active : (seat : ℕ) (current : Option Transaction) (stand : Stand) → TellsNow seat current stand → phase_of stand ≡ Active → (t : Transaction) × (current ≡ Some t) × (t.ending ≡ Unfinished)
 told_active seat None world.idle tells active = cc
 told_active seat None (world.active w) tells active = absurd tells
-told_active seat None (world.sealed w stamp) tells active = absurd tells
+told_active seat None (world.sealed w stamp) tells active = cc
 told_active seat (Some t) world.idle tells active = absurd tells
 told_active seat (Some t) (world.active w) tells active = (t, refl, tells.0.unfinished)
 told_active seat (Some t) (world.sealed w stamp) tells active = cc
