@@ -34,7 +34,7 @@ use Rattle.erm_good_report.specs.GoodReport.{Report, answer_lines, close_line, l
 use Rattle.erm_good_report.specs.Opening.{Opening}
 use Rattle.erm_good_report.proofs.Determining.{after_answers, report_lines_by_parts}
 use Rattle.erm_good_report.specs.Phases.{Closed}
-use Rattle.erm_good_report.specs.Transactions.{Exchange, Ending, Commits, Excludes, Aborts, Progress, Said, Snapshot, Transaction, committed_as, committed_of, ended, ended_as, ended_of, exchange_of, goes_on, heard, history_of, next_number, nothing, own_snapshot, placed_at, progress_of, reply_in, said_of, snapshot_after, step_of, transactions_of, with_end, with_ending, with_line, with_look, with_seal, works_on_map}
+use Rattle.erm_good_report.specs.Transactions.{Exchange, Ending, Commits, Excludes, Aborts, Progress, Said, Snapshot, Transaction, committed_as, committed_of, ended, ended_as, ended_of, exchange_of, goes_on, heard, history_of, next_number, nothing, own_snapshot, placed_at, progress_of, reply_in, said_of, snapshot_after, step_of, transactions_of, with_end, with_ending, with_line, with_look, with_mark, with_seal, works_on_map}
 use Rattle.erm_summary.specs.Summary.{Summarizes}
 use Rattle.erm_summary.specs.Tables.{KeysAreInTables}
 
@@ -116,6 +116,10 @@ its_end : (o : Option Snapshot) → IfSome o LooksInRange → IfSome (option_map
 its_end None fine = tt
 its_end (Some x) fine = fine
 
+its_mark : (safe stamp : ℕ) (o : Option Snapshot) → IfSome o LooksInRange → IfSome (option_map (with_mark safe stamp) o) LooksInRange
+its_mark safe stamp None fine = tt
+its_mark safe stamp (Some x) fine = fine
+
 its_looks : (o : Option Snapshot) → IfSome o LooksInRange → AllByRecursion LooksInRange (option_to_list o)
 its_looks None fine = tt
 its_looks (Some x) fine = (fine, tt)
@@ -142,6 +146,8 @@ after_answer session asked (answer.Unsafe seat stamp) p range fine =
     over Aborts (record p { snapshot = Some (own_snapshot p) }) (record { over = fine.over; current = fine.current; snapshots = fine.snapshots; snapshot = looks_of_own p fine })
 after_answer session asked answer.Ended p range fine =
     over Aborts (record p { snapshot = option_map with_end p.snapshot }) (record { over = fine.over; current = fine.current; snapshots = fine.snapshots; snapshot = its_end p.snapshot fine.snapshot })
+after_answer session asked (answer.Marked safe stamp) p range fine =
+    over Aborts (record p { snapshot = option_map (with_mark safe stamp) p.snapshot }) (record { over = fine.over; current = fine.current; snapshots = fine.snapshots; snapshot = its_mark safe stamp p.snapshot fine.snapshot })
 after_answer session asked (answer.Sealed stamp) p range fine = record { over = fine.over; current = its_seal stamp p.current fine.current; snapshots = fine.snapshots; snapshot = fine.snapshot }
 after_answer session asked (answer.Committed stamp succ pred) p range fine = over (Commits stamp succ pred) p fine
 after_answer session asked (answer.Excluded stamp succ pred) p range fine = over (Excludes (Some stamp) succ pred) p fine
