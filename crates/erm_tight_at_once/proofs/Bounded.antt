@@ -24,3 +24,4 @@ module _ (f : View) (ends : IsEnd f) (seat : ℕ) (session : IsSession f seat) w
   bounded w (world.excluded stamp succ pred) over =
       over_below f ends.serializable seat session w (world.excluded stamp succ pred) stamp succ pred over refl (ends.excluded seat w stamp succ pred session over).1
   bounded w world.aborts over = tt
+  bounded w (world.marked stamp safe) over = tt
