@@ -1,5 +1,5 @@
 -- What a session knows by its pass's book, where other sessions go on: its own view, and the worlds in which all may end.
-use Rattle.std.specs.Prelude.{◌≡◌, ℕ, ◌<◌, ◌≤◌, true, ◌==◌, if◌then◌else◌, [], None}
+use Rattle.std.specs.Prelude.{◌≡◌, ℕ, ◌≤◌, true, ◌==◌, if◌then◌else◌, [], None}
 use Rattle.erm_model.specs.declared.limits.TheConstants.{SESSIONS}
 use Rattle.erm_model.specs.RowTransaction.{Law}
 use Rattle.erm_machine.specs.Core.{Core}
