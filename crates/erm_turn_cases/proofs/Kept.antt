@@ -12,12 +12,12 @@ use Rattle.erm_script.specs.declared.script.Command.TheVariants as command
 use Rattle.erm_script.specs.declared.script.ScriptLine.{ScriptLine}
 use Rattle.erm_world.specs.declared.stops.Wait.{Wait}
 use Rattle.erm_world.specs.Calls.{DidSeal, IsDone}
-use Rattle.erm_world.specs.World.{Fate, IsSession, Opening, Session, View, Work, begun, phase_at, phase_of, work_at, work_of}
+use Rattle.erm_world.specs.World.{Fate, IsSession, Opening, Session, View, Work, begun, phase_at, phase_of, work_at, work_of, Snapshot, marking}
 use Rattle.erm_world.specs.World as world
 use Rattle.erm_world.proofs.Txns.{went}
 use Rattle.erm_safe_world.specs.Moves.{MovesOn}
 use Rattle.erm_maps.specs.Runs.{IsRunOf, Kept, kept_at}
-use Rattle.erm_good_report.specs.Phases.{Closes, IsAnswerTo, IsOutcome, need_of}
+use Rattle.erm_good_report.specs.Phases.{Closes, IsAnswerTo, need_of, IsSettled}
 use Rattle.erm_lines.specs.Operations.{AsksOf, FrontOf, Ran}
 use Rattle.erm_lone.specs.Later.{EndsIn, IsLaterWorld}
 use Rattle.erm_lines.specs.Whole.{AreRunsNow}
@@ -27,12 +27,15 @@ use Rattle.erm_beside.specs.Calls.{After, NotSettledBeside, Passes}
 use Rattle.erm_beside.proofs.Txns.{stopped_after}
 use Rattle.erm_lines_at_once.specs.Answers.{DidCommandBeside, DidDecideBeside}
 use Rattle.erm_lines_at_once.specs.Operations.{DidOnce, DidOperationBeside, TriedOnce, WereCutBeside}
-use Rattle.erm_turn_cases.specs.Turns.{HadTurn, IsRunNow, WasRun, WasTried}
+use Rattle.erm_turn_cases.specs.Turns.{HadTurn, IsRunNow, WasRun, WasTried, WasWatched}
+use Rattle.erm_lines.proofs.Watched.{is_marking, seals_no_mark}
+use Rattle.erm_beside.specs.Safe.{DidMarkBeside}
 
--- an answer that closes a sealed session is an outcome
-pub closes_outcome : (a : Answer) → Closes Sealed a → IsOutcome a
+-- an answer that closes a sealed session is one to a settle
+pub closes_outcome : (a : Answer) → Closes Sealed a → IsSettled a
 closes_outcome (answer.Committed stamp succ pred) closes = tt
 closes_outcome (answer.Excluded stamp succ pred) closes = tt
+closes_outcome (answer.Marked safe stamp) closes = tt
 closes_outcome a closes = absurd closes
 
 -- SESSIONS that are idle, or sealed, have none in progress.
@@ -49,6 +52,7 @@ still_runs v u t seat passes is run = subst (λ (x : View). IsRunNow x seat) (sy
 decided_runs : (seat : ℕ) (a : Answer) (v t : View) → DidDecideBeside seat a v t → IsRunNow t seat
 decided_runs seat (answer.Committed stamp succ pred) v t (r, stamp_is, succ_is, pred_is, (u, passes, (w, at, stand, did))) = done_runs u t seat w _ did.0
 decided_runs seat (answer.Excluded stamp succ pred) v t (u, passes, (w, at, stand, did)) = done_runs u t seat w _ did.0
+decided_runs seat (answer.Marked safe stamp) v t (u, passes, (w, at, stand, did)) = done_runs u t seat w _ did.0
 decided_runs seat a v t did = absurd did
 
 -- OPERATIONS.
@@ -127,47 +131,78 @@ pub on_ok_of : {X E : Type 0} (r : Result X E) (P : X → Type 0) (Q : Type 0) �
 on_ok_of (Ok x) P Q gives is = gives x is
 on_ok_of (Err e) P Q gives is = tt
 
--- what answers a sealed session answers a commit
-outcome_commits : (a : Answer) → IsOutcome a → IsAnswerTo command.Commit a
-outcome_commits (answer.Committed stamp succ pred) is = tt
-outcome_commits (answer.Excluded stamp succ pred) is = tt
-outcome_commits (answer.WaitSeat other seen) is = tt
-outcome_commits (answer.WaitRing flushed) is = tt
-outcome_commits a is = absurd is
+-- what answers a sealed session answers a commit, where it isn't sealed with a mark
+outcome_commits : (seat : ℕ) (a : Answer) (v t : View) → (work_at v seat).is_mark ≡ false → IsSettled a → DidDecideBeside seat a v t → IsAnswerTo command.Commit a
+outcome_commits seat (answer.Committed stamp succ pred) v t plain is did = tt
+outcome_commits seat (answer.Excluded stamp succ pred) v t plain is did = tt
+outcome_commits seat (answer.Marked safe stamp) v t plain is (u, passes, (w, at, stand, did)) =
+    absurd (let same : work_at u seat ≡ w = ap work_of stand in let own = ap (λ (s : Session). (work_of s.stand).is_mark) passes.own in let marks = did.1 in cc)
+outcome_commits seat (answer.WaitSeat other seen) v t plain is did = tt
+outcome_commits seat (answer.WaitRing flushed) v t plain is did = tt
+outcome_commits seat a v t plain is did = absurd is
+
+-- or a mark, where it is
+outcome_marks : (seat stamp : ℕ) (a : Answer) (v t : View) (x : Snapshot) → (v.session seat).stand ≡ world.sealed (marking x) stamp → IsSettled a → DidDecideBeside seat a v t → IsAnswerTo command.Mark a
+outcome_marks seat stamp (answer.Committed own succ pred) v t x stand is (r, stamp_is, succ_is, pred_is, (u, passes, (w, at, sealed, did))) =
+    absurd (is_marking (u.session seat).stand (marking x) w stamp at (ap (λ (s : Session). s.stand) passes.own ∙ stand) sealed refl did.1)
+outcome_marks seat stamp (answer.Excluded own succ pred) v t x stand is (u, passes, (w, at, sealed, did)) =
+    absurd (is_marking (u.session seat).stand (marking x) w stamp at (ap (λ (s : Session). s.stand) passes.own ∙ stand) sealed refl did.1)
+outcome_marks seat stamp (answer.Marked safe own) v t x stand is did = tt
+outcome_marks seat stamp (answer.WaitSeat other seen) v t x stand is did = absurd did
+outcome_marks seat stamp (answer.WaitRing flushed) v t x stand is did = tt
+outcome_marks seat stamp a v t x stand is did = absurd is
+
+sealed_plain : (seat stamp : ℕ) (v u : View) → phase_at v seat ≡ Active → After seat (λ x y. DidSeal x seat stamp y) v u → (work_at u seat).is_mark ≡ false
+sealed_plain seat stamp v u active (w, passes, did) = seals_no_mark w u seat stamp (ap (λ (s : Session). phase_of s.stand) passes.own ∙ active) did
 
 -- sealed, and then decided or not
-pub commit_tried : (f : View) (seat mid stamp : ℕ) (tried : Option Answer) (v u t : View) → mid ≡ seat → After seat (λ x y. DidSeal x seat stamp y) v u → WasTried f mid command.Settle tried u t
+pub commit_tried : (f : View) (seat mid stamp : ℕ) (tried : Option Answer) (v u t : View) → mid ≡ seat → phase_at v seat ≡ Active → After seat (λ x y. DidSeal x seat stamp y) v u → WasTried f mid command.Settle tried u t
     → WasTried f seat command.Commit tried v t
-commit_tried f seat mid stamp None v u t is sealed tried = tt
-commit_tried f seat mid stamp (Some a) v u t is sealed tried = record {
-  fits = outcome_commits a tried.fits;
-  did = record { stamp = stamp; between = u; sealed = sealed; decided = subst (λ (n : ℕ). DidDecideBeside n a u t) is tried.did };
-}
+commit_tried f seat mid stamp None v u t is active sealed tried = tt
+commit_tried f seat mid stamp (Some a) v u t is active sealed tried =
+    let decided : DidDecideBeside seat a u t = subst (λ (n : ℕ). DidDecideBeside n a u t) is tried.did in record {
+      fits = outcome_commits seat a u t (sealed_plain seat stamp v u active sealed) tried.fits decided;
+      did = record { stamp = stamp; between = u; sealed = sealed; decided = decided };
+    }
+
+-- so is a mark
+pub mark_phase : (seat mid : ℕ) (is : mid ≡ seat) (v u : View) (stamp : ℕ) → After seat (DidMarkBeside seat stamp) v u → phase_at u mid ≡ Sealed
+mark_phase seat mid is v u stamp (w, passes, did) = ap (λ (n : ℕ). phase_at u n) is ∙ ap (λ (s : Session). phase_of s.stand) did.seals.own
+
+pub mark_tried : (f : View) (seat mid stamp : ℕ) (tried : Option Answer) (v u t : View) → mid ≡ seat → After seat (DidMarkBeside seat stamp) v u → WasTried f mid command.Settle tried u t → IsRunNow t mid
+    → WasWatched f seat command.Mark tried v t
+mark_tried f seat mid stamp None v u t is sealed tried run = subst (λ (n : ℕ). IsRunNow t n) is run
+mark_tried f seat mid stamp (Some a) v u t is sealed tried run =
+    let decided : DidDecideBeside seat a u t = subst (λ (n : ℕ). DidDecideBeside n a u t) is tried.did in record {
+      fits = outcome_marks seat stamp a u t sealed.2.snapshot (ap (λ (s : Session). s.stand) sealed.2.seals.own) tried.fits decided;
+      did = record { stamp = stamp; between = u; sealed = sealed; decided = decided };
+    }
 
 -- an operation in one try
 operation_once : (f : View) (seat : ℕ) (c : Command) (a : Answer) (v t : View) → DidOnce f seat c a v t → DidOperationBeside f seat c a v t
 operation_once f seat c a v t once = record { times = 0; at = v; tried = record { own = refl; opening = refl; tail = omega arith; flushed = omega arith; given_up = refl; saves = refl }; once = once }
 
 pub operation_tried : (f : View) (seat : ℕ) (c : Command) (tried : Option Answer) (v t : View) → IsSome (need_of c) → c ≢ command.Begin → c ≢ command.Safe → c ≢ command.Save → ((n : ℕ) → c ≢ command.Back n) → c ≢ command.Seal → c ≢ command.Settle
-    → c ≢ command.Commit → c ≢ command.Abort → TriedOnce f seat c tried v t → WasTried f seat c tried v t
-operation_tried f seat c None v t asks begin safe save back seal settle commit abort once = tt
-operation_tried f seat (command.Get table key) (Some a) v t asks begin safe save back seal settle commit abort once = record { fits = once.0; did = operation_once f seat (command.Get table key) a v t once.1 }
-operation_tried f seat (command.Put table key value) (Some a) v t asks begin safe save back seal settle commit abort once = record { fits = once.0; did = operation_once f seat (command.Put table key value) a v t once.1 }
-operation_tried f seat (command.Del table key) (Some a) v t asks begin safe save back seal settle commit abort once = record { fits = once.0; did = operation_once f seat (command.Del table key) a v t once.1 }
-operation_tried f seat (command.Next table from) (Some a) v t asks begin safe save back seal settle commit abort once = record { fits = once.0; did = operation_once f seat (command.Next table from) a v t once.1 }
-operation_tried f seat (command.Scan table low high) (Some a) v t asks begin safe save back seal settle commit abort once = record { fits = once.0; did = operation_once f seat (command.Scan table low high) a v t once.1 }
-operation_tried f seat (command.Tidy table key) (Some a) v t asks begin safe save back seal settle commit abort once = record { fits = once.0; did = operation_once f seat (command.Tidy table key) a v t once.1 }
-operation_tried f seat command.Seal (Some a) v t asks begin safe save back seal settle commit abort once = absurd (seal refl)
-operation_tried f seat command.Commit (Some a) v t asks begin safe save back seal settle commit abort once = absurd (commit refl)
-operation_tried f seat command.Abort (Some a) v t asks begin safe save back seal settle commit abort once = absurd (abort refl)
-operation_tried f seat command.Begin (Some a) v t asks begin safe save back seal settle commit abort once = absurd (begin refl)
-operation_tried f seat command.Safe (Some a) v t asks begin safe save back seal settle commit abort once = absurd (safe refl)
-operation_tried f seat command.Save (Some a) v t asks begin safe save back seal settle commit abort once = absurd (save refl)
-operation_tried f seat (command.Back n) (Some a) v t asks begin safe save back seal settle commit abort once = absurd (back n refl)
-operation_tried f seat command.Settle (Some a) v t asks begin safe save back seal settle commit abort once = absurd (settle refl)
-operation_tried f seat command.Durable (Some a) v t asks begin safe save back seal settle commit abort once = absurd (cc)
-operation_tried f seat command.Flush (Some a) v t asks begin safe save back seal settle commit abort once = absurd (cc)
-operation_tried f seat command.Checkpoint (Some a) v t asks begin safe save back seal settle commit abort once = absurd (cc)
+    → c ≢ command.Commit → c ≢ command.Abort → c ≢ command.Mark → TriedOnce f seat c tried v t → WasTried f seat c tried v t
+operation_tried f seat c None v t asks begin safe save back seal settle commit abort mark once = tt
+operation_tried f seat (command.Get table key) (Some a) v t asks begin safe save back seal settle commit abort mark once = record { fits = once.0; did = operation_once f seat (command.Get table key) a v t once.1 }
+operation_tried f seat (command.Put table key value) (Some a) v t asks begin safe save back seal settle commit abort mark once = record { fits = once.0; did = operation_once f seat (command.Put table key value) a v t once.1 }
+operation_tried f seat (command.Del table key) (Some a) v t asks begin safe save back seal settle commit abort mark once = record { fits = once.0; did = operation_once f seat (command.Del table key) a v t once.1 }
+operation_tried f seat (command.Next table from) (Some a) v t asks begin safe save back seal settle commit abort mark once = record { fits = once.0; did = operation_once f seat (command.Next table from) a v t once.1 }
+operation_tried f seat (command.Scan table low high) (Some a) v t asks begin safe save back seal settle commit abort mark once = record { fits = once.0; did = operation_once f seat (command.Scan table low high) a v t once.1 }
+operation_tried f seat (command.Tidy table key) (Some a) v t asks begin safe save back seal settle commit abort mark once = record { fits = once.0; did = operation_once f seat (command.Tidy table key) a v t once.1 }
+operation_tried f seat command.Seal (Some a) v t asks begin safe save back seal settle commit abort mark once = absurd (seal refl)
+operation_tried f seat command.Commit (Some a) v t asks begin safe save back seal settle commit abort mark once = absurd (commit refl)
+operation_tried f seat command.Abort (Some a) v t asks begin safe save back seal settle commit abort mark once = absurd (abort refl)
+operation_tried f seat command.Begin (Some a) v t asks begin safe save back seal settle commit abort mark once = absurd (begin refl)
+operation_tried f seat command.Safe (Some a) v t asks begin safe save back seal settle commit abort mark once = absurd (safe refl)
+operation_tried f seat command.Save (Some a) v t asks begin safe save back seal settle commit abort mark once = absurd (save refl)
+operation_tried f seat (command.Back n) (Some a) v t asks begin safe save back seal settle commit abort mark once = absurd (back n refl)
+operation_tried f seat command.Settle (Some a) v t asks begin safe save back seal settle commit abort mark once = absurd (settle refl)
+operation_tried f seat command.Mark (Some a) v t asks begin safe save back seal settle commit abort mark once = absurd (mark refl)
+operation_tried f seat command.Durable (Some a) v t asks begin safe save back seal settle commit abort mark once = absurd (cc)
+operation_tried f seat command.Flush (Some a) v t asks begin safe save back seal settle commit abort mark once = absurd (cc)
+operation_tried f seat command.Checkpoint (Some a) v t asks begin safe save back seal settle commit abort mark once = absurd (cc)
 
 -- a turn, of what was run
 pub had_turn : (law : Law) (l : ScriptLine) (tried : Option Answer) (v t : View) → IsSession v l.session → ((q : ℕ) → q ≢ l.session → (t.session q ≡ v.session q) × (t.given_up q ≡ v.given_up q) × (t.saves q ≡ v.saves q)) → IsLaterWorld v t

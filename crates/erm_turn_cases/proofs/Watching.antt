@@ -14,7 +14,7 @@ use Rattle.erm_lines.proofs.Keeping.{rests, run_same}
 use Rattle.erm_lines_at_once.specs.Answers.{DidAskSafeBeside, DidAskSnapshotBeside, DidOfSnapshotBeside, TriedSafe, TriedSnapshot, WasAnsweredBeside, WasWatchedBeside}
 use Rattle.erm_lines_at_once.proofs.Watched.{plain_line, refused_line, snapshot_line}
 use Rattle.erm_turn_cases.specs.Turns.{IsRunNow, WasRun, WasTried, WasWatched}
-use Rattle.erm_turn_cases.proofs.Kept.{done_runs, still_runs}
+use Rattle.erm_turn_cases.proofs.Kept.{done_runs, still_runs, settled_now}
 
 snapshot_runs : (v : View) (seat : ℕ) (x : Snapshot) → (v.session seat).stand ≡ world.snapshot x → IsRunNow v seat
 snapshot_runs v seat x is = rests v seat (world.snapshot x) is (λ active. snapshot_not_active x active)
@@ -35,6 +35,7 @@ module _ (f : View) (seat : ℕ) where
   watched_runs (command.Get table key) (answer.Replied reply) v t run did = run_same v t seat did.passes.own did.passes.saves run
   watched_runs (command.Next table from) (answer.Replied reply) v t run did = run_same v t seat did.passes.own did.passes.saves run
   watched_runs (command.Scan table low high) (answer.Replied reply) v t run did = run_same v t seat did.passes.own did.passes.saves run
+  watched_runs command.Mark a v t run did = settled_now seat did.between t a did.decided
   watched_runs command.Commit answer.Ended v t run (u, passes, did) = done_runs u t seat (work_at u seat) world.aborts did
   watched_runs command.Abort answer.Aborted v t run (u, passes, did) = done_runs u t seat (work_at u seat) world.aborts did
   watched_runs command.Durable (answer.Durable stamp) v t run (u, passes, did) = still_runs v u t seat passes did.0 run
@@ -56,6 +57,7 @@ module _ (f : View) (seat : ℕ) where
   safe_watched (Some a) v t was = was
 
   pub watched_now : (c : Command) (tried : Option Answer) (v t : View) → IsRunNow v seat → WasWatched f seat c tried v t → IsRunNow t seat
+  watched_now command.Mark None v t run now = now
   watched_now c None v t run passes = run_same v t seat passes.own passes.saves run
   watched_now c (Some a) v t run was = watched_runs c a v t run was.did
 

@@ -6,6 +6,7 @@ use Rattle.erm_model.specs.Run.{Step}
 use Rattle.erm_node.specs.Sound.{sound_law}
 use Rattle.erm_report.specs.declared.answer.Answer.{Answer}
 use Rattle.erm_script.specs.declared.script.Command.{Command}
+use Rattle.erm_script.specs.declared.script.Command.TheVariants as command
 use Rattle.erm_script.specs.declared.script.ScriptLine.{ScriptLine}
 use Rattle.erm_world.specs.Laws.{IsSerializable}
 use Rattle.erm_world.specs.World.{IsSession, View, phase_at}
@@ -26,9 +27,10 @@ abbrev pub WasTried : View → ℕ → Command → Option Answer → View → Vi
 WasTried f seat c (Some a) v t = WasAnsweredBeside f seat c a v t
 WasTried f seat c None v t = Unit {0}
 
--- and in one with a snapshot, of which no wait leaves anything
+-- and in one with a snapshot, of which no wait leaves anything but a mark that is sealed: no transaction is in progress
 abbrev pub WasWatched : View → ℕ → Command → Option Answer → View → View → Type 0
 WasWatched f seat c (Some a) v t = WasWatchedBeside f seat c a v t
+WasWatched f seat command.Mark None v t = IsRunNow t seat
 WasWatched f seat c None v t = Passes seat v t
 
 -- the line was run so, whichever of these worlds all end in; or it waits

@@ -90,8 +90,8 @@ fn operate<S: SharedSession>(
     operate_on(alloc, &mut txn, command)
 }
 
-// Tries to decide a sealed transaction.
-fn settle<S: SharedSession>(
+// Tries to decide a sealed transaction, or the mark of a snapshot.
+pub fn settle<S: SharedSession>(
     session: &mut S,
     shared: &S::Shared,
     receipt: &mut Option<Receipt>,

@@ -1,10 +1,10 @@
-use Rattle.std.proofs.Common.{Option, sym, ap, subst}
+use Rattle.std.proofs.Common.{Option, sym, ap, subst, ◌≡◌, None}
 use Rattle.std.proofs.lemmas.Result.{IfOk-weaker}
 use Rattle.erm_report.specs.declared.answer.Answer.{Answer}
 use Rattle.erm_script.specs.declared.script.Command.{Command}
 use Rattle.erm_world.specs.World.{View, phase_at}
-use Rattle.erm_good_report.specs.Phases.{NeedsAny, NeedsReader, NeedsWriter, need_of}
-use Rattle.erm_lines.proofs.Watched.{active_in, idle_where, operates, settle_where, start_where}
+use Rattle.erm_good_report.specs.Phases.{NeedsAny, NeedsReader, NeedsWriter, need_of, refusal_of}
+use Rattle.erm_lines.proofs.Watched.{active_in, idle_where, operates, settle_where, start_where, no_mark}
 use Rattle.erm_lines_at_once.specs.Answers.{TriedSnapshot, WasAnsweredBeside}
 use Rattle.erm_lines_at_once.specs.Operations.{TriedOnce}
 use Rattle.erm_turn_cases.specs.Turns.{IsRunNow, WasTried}
@@ -148,5 +148,6 @@ returns-in_default g c =
       tried = IfOk-weaker c.operate.result (λ (tried : Option Answer). (f : View) → g.S.SharedSession.ends after f → TriedOnce f seat c.args.command.now tried before (g.S.SharedSession.own after))
           (λ (tried : Option Answer). (f : View) → g.S.SharedSession.ends after f → WasTried f seat c.args.command.now tried before (g.S.SharedSession.own after))
           (λ tried was f end. operation_tried f seat c.args.command.now tried before (g.S.SharedSession.own after) c.requires.asks
-          c.in_default.not-Begin c.in_default.not-Safe c.in_default.not-Save c.in_default.not-Back c.in_default.not-Seal c.in_default.not-Settle c.in_default.not-Commit c.in_default.not-Abort (was f end)) c.operate.ensures.tried;
+          c.in_default.not-Begin c.in_default.not-Safe c.in_default.not-Save c.in_default.not-Back c.in_default.not-Seal c.in_default.not-Settle c.in_default.not-Commit c.in_default.not-Abort
+          (λ is. no_mark (phase_at before seat) c.requires.plain (subst (λ (x : Command). refusal_of (phase_at before seat) x ≡ None) is c.requires.allowed)) (was f end)) c.operate.ensures.tried;
     }

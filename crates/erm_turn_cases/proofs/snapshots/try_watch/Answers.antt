@@ -3,7 +3,7 @@ use Rattle.erm_model.specs.declared.outcome.Phase.{Phase}
 use Rattle.erm_script.specs.declared.script.Command.{Command}
 use Rattle.erm_world.specs.World.{phase_at}
 use Rattle.erm_good_report.specs.Phases.{refusal_of}
-use Rattle.erm_lines.proofs.Watched.{has_phase, looks_are_safe, pending_where}
+use Rattle.erm_lines.proofs.Watched.{has_phase, looks_are_safe, pending_where, safe_where}
 use Rattle.erm_lines_at_once.specs.Answers.{WasWatchedBeside}
 use Rattle.erm_turn_cases.specs.Turns.{WasWatched}
 use Rattle.erm_turn_cases.proofs.Watching.{safe_watched}
@@ -33,6 +33,18 @@ returns-in-Abort-clause-watched g c = λ f end.
     let seat = g.S.SharedSession.seat c.args.session.now in
     let v = g.S.SharedSession.own c.args.session.now in
     subst (λ (x : Command). WasWatchedBeside f seat x c.give_up_snapshot.result v (g.S.SharedSession.own c.give_up_snapshot.new.session)) (sym c.in-Abort.is) (c.give_up_snapshot.ensures.answered f)
+
+pub mark-requires-clause-safe : goal.mark-requires-clause-safe
+mark-requires-clause-safe g c =
+    let seat = g.S.SharedSession.seat c.args.session.now in
+    let v = g.S.SharedSession.own c.args.session.now in
+    safe_where (phase_at v seat) c.args.command.now (has_phase v seat c.requires.snapshot) c.requires.allowed c.in-Mark.is
+
+pub returns-in-Mark-clause-watched : goal.returns-in-Mark-clause-watched
+returns-in-Mark-clause-watched g c = λ f end.
+    let seat = g.S.SharedSession.seat c.args.session.now in
+    let v = g.S.SharedSession.own c.args.session.now in
+    subst (λ (x : Command). WasWatched f seat x c.mark.result v (g.S.SharedSession.own c.mark.new.session)) (sym c.in-Mark.is) (c.mark.ensures.watched f)
 
 pub look-requires : goal.look-requires
 look-requires g c =
