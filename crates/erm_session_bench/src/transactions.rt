@@ -7,6 +7,7 @@ ghost use Rattle.erm_rule.specs.Steps.{Fits};
 ghost use Rattle.erm_rule.specs.Views.{view};
 ghost use Rattle.erm_session.specs.Opening.{StandsAt};
 
+use erm_block::LEAST_SAFE;
 use erm_machine::{OBJECT_LIMIT, RING_WORDS};
 use erm_model::{AnyRows, Oid, Outcome, ROW_WORDS, Row};
 use erm_ring::{clear, gather};
@@ -92,14 +93,17 @@ fn object(number: u64) -> Oid
     (number % u64::from(OBJECT_LIMIT)) as Oid
 }
 
-// A transaction reads two objects, which its number gives, writes the first of them, and commits.
+// A transaction reads two objects, which its number gives, writes the first of them, and commits. It begins at a stamp of the log.
 fn commit_one(t: &Table, session: &mut Session, pass: &mut Pass, number: u64) -> Option<()>
     requires stands { Fits t.now.words.shared.table_id pass.old × StandsAt session.old (view pass.old) phase.Idle }
     ensures stands { IfSome result (λ _. Fits t.now.words.shared.table_id pass.new × StandsAt session.new (view pass.new) phase.Idle) }
 {
     let first = object(number);
     let second = object(number.wrapping_add(STRIDE));
-    session.begin(t, pass).ok()?;
+    let begin = session.begin(t, pass).ok()?;
+    if begin < LEAST_SAFE {
+        return None;
+    }
     session.read(t, pass, first).ok()?;
     session.read(t, pass, second).ok()?;
     session.write(t, pass, first, &[number; ROW_WORDS]).ok()?;

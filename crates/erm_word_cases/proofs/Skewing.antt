@@ -1,8 +1,9 @@
 -- Two sessions that race to write skew: what each keeps of its transaction up to its end, and the passes joined.
-use Rattle.std.proofs.Common.{◌≡◌, ◌≢◌, ℕ, ◌<◌, Bool, true, false, List, [], ◌∷◌, length, unwrap_or, Option, Some, None, Result, refl, sym, ap, ◌∙◌, subst, arith, eq-eqb}
+use Rattle.std.proofs.Common.{◌≡◌, ◌≢◌, ℕ, ◌<◌, ◌≤◌, Bool, true, false, List, [], ◌∷◌, length, unwrap_or, Option, Some, None, Result, refl, sym, ap, ◌∙◌, subst, arith, eq-eqb}
 use Rattle.std.specs.Prelude.{if◌then◌else◌, Ok, Err, IfOk, IfSome, OnOk}
 use Rattle.std.specs.Result.{result_ok}
 use Rattle.std.proofs.lemmas.Option.{same_Some}
+use Rattle.erm_block.specs.declared.block.TheConstants.{LEAST_SAFE}
 use Rattle.erm_machine.specs.declared.attempt.Attempt.{Attempt}
 use Rattle.erm_machine.specs.declared.attempt.Decision.TheVariants.{Commit}
 use Rattle.erm_machine.specs.declared.part.Part.{Part}
@@ -40,7 +41,7 @@ use Rattle.erm_word_cases.proofs.Racing.{joined_first, joined_second, rest_takes
 use Rattle.erm_word_cases.proofs.Lasting.{claim_kept, held_after, kept_after, lasts_on, lasts_same, over_keeps, over_on, over_view, read_kept, reads_row_bare, reads_row_has, reads_row_lasts, seals_rows_lasts, settles_over, went_on_lasts, writes_row_claims, writes_row_lasts}
 
 -- the one seat of a view, and its part set
-one_part : (who : ℕ) (x : Part) → part_of (one_seat who x) who ≡ x
+pub one_part : (who : ℕ) (x : Part) → part_of (one_seat who x) who ≡ x
 one_part who x = ap (λ (b : Bool). unwrap_or (if b then Some x else None) (fresh_part place.Vacant 0 0)) (eq-eqb who who refl)
 
 one_set : (who : ℕ) (x y : Part) → with_part who y (one_seat who x) ≡ one_seat who y
@@ -114,6 +115,13 @@ module _ (v : View) (who begin : ℕ) (w1 : View) (held : part_in v who ≡ Some
       },
     )
 
+-- WRITE and SEAL. The transaction has its begin stamp still.
+pub seals_begins : (v : View) (who oid : ℕ) → IsKnown v → part_in v who ≡ Some (part_of v who) → (row : List ℕ) (w1 : View) → WritesRow v who oid row w1
+    → (stamp : ℕ) (w2 : View) → SealsRows w1 who stamp w2 → LEAST_SAFE ≤ (part_of v who).current.begin → LEAST_SAFE ≤ (part_of w2 who).current.begin
+seals_begins v who oid known held row w1 writes stamp w2 seals begins =
+    let lasts : Lasts v who w2 = lasts_on v who held w1 w2 (writes_row_lasts v who oid row w1 known held writes) (seals_rows_lasts w1 who stamp w2 seals) in
+    subst (λ (n : ℕ). LEAST_SAFE ≤ n) (sym (kept_after v who held w2 lasts).begin) begins
+
 -- WRITE, SEAL and SETTLE. The transaction has claimed the object.
 module _ (v : View) (who oid : ℕ) (known : IsKnown v) (held : part_in v who ≡ Some (part_of v who)) (alone : IsAlone v who)
     (row : List ℕ) (w1 : View) (writes : WritesRow v who oid row w1) (stamp : ℕ) (w2 : View) (seals : SealsRows w1 who stamp w2)
@@ -149,6 +157,12 @@ pub record IsSettling (s : Session) (v : View) (now : Session) (w : View) : Type
 
 pub begins_settling : (s : Session) (v : View) → IsKnown v → StandsAt s v Sealed → IsSettling s v s v
 begins_settling s v known stands = record { seat_is = refl; stands = stands; lasts = lasts_same v s.seat (session_held v s.seat s stands.0) v known refl }
+
+-- it has its begin stamp still
+pub settling_begins : (s now : Session) (v w : View) → IsSession s (part_of v s.seat) → IsSettling s v now w → LEAST_SAFE ≤ (part_of v s.seat).current.begin → LEAST_SAFE ≤ (part_of w now.seat).current.begin
+settling_begins s now v w from so begins =
+    subst (λ (q : ℕ). LEAST_SAFE ≤ (part_of w q).current.begin) (sym so.seat_is)
+    (subst (λ (n : ℕ). LEAST_SAFE ≤ n) (sym (kept_after v s.seat (session_held v s.seat s from) w so.lasts).begin) begins)
 
 -- one more settle that waits
 pub settles_on : (s now next : Session) (v w u : View) → IsSession s (part_of v s.seat) → IsSettling s v now w → next.seat ≡ now.seat → IsSession next (part_of u now.seat) → phase_of next.stage ≡ Sealed

@@ -1,5 +1,6 @@
 -- Write skew in a race: sessions 1 and 2 have each read two objects with one begin stamp, and then each overwrites one of them.
-use Rattle.std.specs.Prelude.{◌≡◌, ℕ, false}
+use Rattle.std.specs.Prelude.{◌≡◌, ℕ, ◌≤◌, false}
+use Rattle.erm_block.specs.declared.block.TheConstants.{LEAST_SAFE}
 use Rattle.erm_machine.specs.declared.attempt.Attempt.{Attempt}
 use Rattle.erm_machine.specs.declared.attempt.Decision.TheVariants.{Commit}
 use Rattle.erm_machine.specs.declared.part.Part.{Part}
@@ -18,10 +19,11 @@ use Rattle.erm_session.specs.Opening.{StandsAt}
 abbrev pub IsAlone : View → ℕ → Type 0
 IsAlone v who = v ≡ one_seat who (part_of v who)
 
--- the session of this seat may race: it is active, and the view is one of its seat alone
+-- the session of this seat may race: it is active, its transaction began at a stamp of the log, and the view is one of its seat alone
 pub record MayRace (s : Session) (v : View) (who : ℕ) : Type 0 where
   pub seat_is : s.seat ≡ who
   pub stands : StandsAt s v Active
+  pub begins : LEAST_SAFE ≤ (part_of v who).current.begin
   pub known : IsKnown v
   pub alone : IsAlone v who
 

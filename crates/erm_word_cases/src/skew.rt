@@ -1,5 +1,6 @@
 //! Write skew in a race: two sessions with one begin stamp have each read two objects, and each overwrites one of them.
 ghost use Rattle.std.specs.Prelude.{◌≡◌, ◌+◌, ◌<◌, ◌≤◌, true, vec_len, IfOk, IfSome};
+ghost use Rattle.erm_block.specs.declared.block.TheConstants.{LEAST_SAFE};
 ghost use Rattle.erm_machine.specs.declared.limits.TheConstants.{OBJECT_LIMIT};
 ghost use Rattle.erm_machine.specs.Words.{is_session};
 ghost use Rattle.erm_model.specs.declared.outcome.Phase.TheVariants.{Idle, Sealed};
@@ -31,6 +32,7 @@ fn read_both(t: &Table, p: &mut Pass, s: &mut Session) -> Option<Stamp>
     requires fits { Fits t.now.words.shared.table_id p.old }
     requires stands { StandsAt s.old (view p.old) Idle }
     requires alone { IsAlone (view p.old) s.old.seat }
+    requires opened { LEAST_SAFE ≤ (part_of (view p.old) s.old.seat).seen }
     ensures fits { IfSome result (λ begin. Fits t.now.words.shared.table_id p.new) }
     ensures read { IfSome result (λ begin. MayRace s.new (view p.new) s.old.seat × HasReadBoth begin (part_of (view p.new) s.old.seat).current) }
 {
@@ -52,6 +54,7 @@ fn reader(
     requires run { opening.now.run ≤ LAST_RUN }
     requires fits { Fits t.now.words.shared.table_id p.old }
     requires idle { view p.old ≡ one_seat who (idle_part opening.now) }
+    requires opened { LEAST_SAFE ≤ opening.now.tail }
     ensures fits { IfOk result (λ o. IfSome o (λ r. Fits t.now.words.shared.table_id p.new)) }
     ensures read { IfOk result (λ o. IfSome o (λ r. MayRace r.0 (view p.new) who × HasReadBoth r.1 (part_of (view p.new) who).current)) }
 {
@@ -67,6 +70,7 @@ fn settle_within(t: &Table, p: &mut Pass, s: &mut Session) -> Option<Outcome>
     requires fits { Fits t.now.words.shared.table_id p.old }
     requires known { IsKnown (view p.old) }
     requires stands { StandsAt s.old (view p.old) Sealed }
+    requires begins { LEAST_SAFE ≤ (part_of (view p.old) s.old.seat).current.begin }
     ensures fits { Fits t.now.words.shared.table_id p.new }
     ensures over { IfSome result (λ outcome. IsOver (view p.old) s.old.seat outcome (view p.new)) }
 {
@@ -156,7 +160,7 @@ fn skew_race<R: Threads + Sync>(
     opening: &Opening,
 ) -> Result<Option<(Outcome, Outcome)>, AllocError>
     requires none { opening.now.sessions ≡ 0 }
-    requires positive { 0 < opening.now.tail }
+    requires opened { LEAST_SAFE ≤ opening.now.tail }
     requires low { opening.now.tail ≤ STOP + 4 }
     requires run { opening.now.run ≤ LAST_RUN }
     requires first { opening.now.first ≤ OBJECT_LIMIT }

@@ -1,4 +1,4 @@
-use Rattle.std.proofs.Common.{◌≡◌, ℕ, List, sym, ◌∙◌, subst}
+use Rattle.std.proofs.Common.{◌≡◌, ℕ, List, sym, ◌∙◌, subst, arith}
 use Rattle.erm_model.specs.declared.outcome.Phase.TheVariants.{Active}
 use Rattle.erm_rule.specs.declared.view.View.{View}
 use Rattle.erm_rule.specs.Views.{part_of}
@@ -18,13 +18,17 @@ returns-clause-read c =
     let both =
     reads_both v who c.in_ok-begin.begin c.begin.new.p.me.0.view (session_held v who c.args.s.now c.requires.stands.0) c.requires.alone did
     c.in_ok-ok.field-0 c.read.new.p.me.0.view (subst (λ (q : ℕ). ReadsRow c.begin.new.p.me.0.view q 5 c.in_ok-ok.field-0 c.read.new.p.me.0.view) c.begin.ensures.seat first) c.read.ensures.known
-    c.in_ok-ok-2.field-0 c.read-2.new.p.me.0.view (subst (λ (q : ℕ). ReadsRow c.read.new.p.me.0.view q 6 c.in_ok-ok-2.field-0 c.read-2.new.p.me.0.view) (c.read.ensures.seat ∙ c.begin.ensures.seat) second) in (
+    c.in_ok-ok-2.field-0 c.read-2.new.p.me.0.view (subst (λ (q : ℕ). ReadsRow c.read.new.p.me.0.view q 6 c.in_ok-ok-2.field-0 c.read-2.new.p.me.0.view) (c.read.ensures.seat ∙ c.begin.ensures.seat) second) in
+    let low = did.past who (part_of v who) (session_held v who c.args.s.now c.requires.stands.0) in
+    let is = both.1.begin_is in
+    let opened = c.requires.opened in (
       record {
         seat_is = c.read-2.ensures.seat ∙ c.read.ensures.seat ∙ c.begin.ensures.seat;
         stands = (
           subst (λ (q : ℕ). IsSession c.read-2.new.self (part_of c.read-2.new.p.me.0.view q)) (sym c.read-2.ensures.seat) c.read-2.ensures.stands,
           ok_says (λ (row : List ℕ). phase_of c.read-2.new.self.stage ≡ Active) c.read-2.result c.in_ok-ok-2.field-0 c.in_ok-ok-2.ensures.value c.read-2.ensures.active,
         );
+        begins = omega (arith, low, is, opened);
         known = c.read-2.ensures.known;
         alone = both.0;
       },
