@@ -26,6 +26,7 @@ COMMANDS = {
     "abort": (),
     "durable": (),
     "safe": (),
+    "mark": (),
 }
 ALONE = ("flush", "checkpoint")
 SESSIONS = 48

@@ -7,7 +7,7 @@ SCRIPT and REPORT are as for tools/check_report.py. It checks that
 
 - a block that opens the run stands at the place that the report tells, and behind it block after block, with no gap, up to the log's end;
 - these are just the blocks of the transactions that the report tells with a stamp, a commit's for each that committed and a skipped one for each
-  that was excluded, with their stamps, successor stamps, sessions and numbers;
+  that was excluded, with their stamps, successor stamps, sessions and numbers; and those of the marks that it tells, with the safe stamp as successor stamp;
 - behind the log's end nothing reads.
 
 A run that took a checkpoint may have removed blocks of its own: it is looked at from the checkpoint's place on. Of the rows in the blocks nothing
@@ -22,7 +22,7 @@ sys.path.insert(0, os.path.dirname(os.path.abspath(__file__)))
 from check_report import Bad, heard, lines_of, script_of  # noqa: E402
 from log_end import LOG_START, OPEN, WORD, Log, base_of, block_in, finding, may_follow  # noqa: E402
 
-COMMIT, SKIP = 4, 5
+COMMIT, SKIP, MARK = 4, 5, 6
 WORDS = struct.Struct("<4Q")
 
 
@@ -42,9 +42,11 @@ def blocks_from(log, at, run):
 
 
 def owed(told):
-    """By their stamps: the kind, the successor stamp, the session's seat and the number of each transaction that has a block."""
+    """By their stamps: the kind, the successor or safe stamp, the session's seat and the number of each transaction or mark that has a block."""
     kinds = {"committed": COMMIT, "excluded": SKIP}
-    return {it.stamp: (kinds[it.ending], it.succ, told.seats[it.name[0]], it.name[1]) for it in told.over if it.stamp is not None}
+    ends = [(it, kinds[it.ending], it.succ) for it in told.over if it.stamp is not None]
+    marks = [(it, MARK, it.begin) for it in told.watched if it.stamp is not None]
+    return {it.stamp: (kind, succ, told.seats[it.name[0]], it.name[1]) for it, kind, succ in ends + marks}
 
 
 def check(script, report, folder, at_once):

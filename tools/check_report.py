@@ -32,7 +32,12 @@ neither was before the other. It checks, of the answers, the order and the map t
   one can have moved the log's end to; above the begin word of each session that it waits for, which isn't idle, and began there or later; and
   at most the stamp of a commit of that session which makes it unsafe, since the commit has its turn before it;
 - a snapshot that is told safe is so: in turn no transaction that isn't over then began below it, and each commit at its begin stamp or above has
-  its turn there or behind it.
+  its turn there or behind it;
+- `mark` ends a safe snapshot as `commit` does: the mark tells the begin stamp that `safe` told, and the place of its own block at or behind that, which
+  is within reach, as a commit's stamp, and is no other mark's place and no transaction's stamp. It waits for the ring alone, where its block doesn't
+  fit behind what is flushed; its session is sealed till then, and a settle, or the end of the run, tells the mark. Elsewhere it is refused: without a
+  transaction or snapshot, or by one that isn't safe, or is sealed;
+- a flush comes just up to the least stamp, or place of a mark, that is sealed and waits, if one does.
 
 A tree's rows are shared by keys, so that windows and refusals may have causes in rows that no line names: what is said of them here is what
 follows from keys alone. With --exact each key that the script writes or tidies is to have a value in MAP: then no node of a tree is written,
@@ -53,18 +58,20 @@ import sys
 WAITS = ["wait"], ["not", "flushed"]
 REPLIES = "ok", "value", "none", "pair", "pairs", "cut", "saved", "back"
 WRITERS = "put", "del", "tidy"
-DRAWERS = "seal", "commit"
+DRAWERS = "seal", "commit", "mark"
 READERS = "get", "next", "scan"
 # How many savepoints a transaction holds at most.
 SAVES = 8
 # The words of the least block of the log, and of the greatest one.
 LEAST_BLOCK, GREATEST_BLOCK = 5, 2181
+# The words of the log that may be drawn beyond what is flushed.
+RING_WORDS = 32_768
 STOP = 2**60
 LAST_KEY = 2**64 - 1
 NUMBER, DIGITS = "(?:0|[1-9][0-9]*)", "(?:-|(?:[0-9a-f]{2})+)"
 WINDOW = f"succ {NUMBER} pred {NUMBER}"
 ANSWER = re.compile(
-    f"ok|none|value {DIGITS}|pair {NUMBER} {DIGITS}|pairs {NUMBER}(?: {NUMBER} {DIGITS})*|committed {NUMBER} {WINDOW}|excluded (?:at {NUMBER} )?{WINDOW}"
+    f"ok|none|value {DIGITS}|pair {NUMBER} {DIGITS}|pairs {NUMBER}(?: {NUMBER} {DIGITS})*|committed {NUMBER} {WINDOW}|excluded (?:at {NUMBER} )?{WINDOW}|marked {NUMBER} at {NUMBER}"
     f"|(?:begin|safe|cut|saved|back|no save|sealed|newer|durable|flushed|empty|unfilled|checkpoint|not flushed|wait ring|log end|cells full|oids full) {NUMBER}"
     f"|(?:owned|wait|unsafe) {NUMBER} {NUMBER}|aborted|ended|no transaction|is sealed|not sealed|not idle|read only|not safe|no receipt|reads full"
     "|writes full|saves full|numbers end"
@@ -224,7 +231,7 @@ class Transaction:
         self.saves = 0  # how many savepoints it holds
         self.claimed, self.doubts = set(), set()  # the keys that it claimed, and those that it may have claimed
         self.sealed = None
-        self.within = None  # where the block of its stamp ends at the latest
+        self.within = None  # once it is sealed, where the block of its stamp ends at the latest
         self.ending = None  # "committed", "excluded" or "aborted"
         self.stamp = self.succ = self.pred = None
 
@@ -265,6 +272,8 @@ class Watch:
         self.name, self.begin, self.ended = (session, number), None, False
         self.least, self.most = least, None  # where it may have begun: the least stamp, and the greatest where there is one
         self.steps, self.reads, self.claimed = [], set(), set()
+        self.within = self.stamp = None  # once its mark is sealed, where the mark's block ends at the latest; and the block's place, once told
+        self.waits = []  # lines at which its mark waits for the ring, and how far the log was flushed there
 
     def ended_early(self):
         return False
@@ -279,13 +288,21 @@ class Watch:
         """The answer that a line has in its session whatever the map is, or None where it is a reply."""
         if command == "begin":
             return ["not", "idle"]
+        if self.within is not None:
+            return ["is", "sealed"]
         if command == "abort":
             return ["aborted"]
+        if command == "mark":
+            return ["not", "safe"]
         if command in READERS:
             return ["not", "safe"] if self.begin is None else None
         if command == "commit":
             return ["not", "safe"] if self.begin is None else ["ended"]
         return ["read", "only"]
+
+    def takes_mark(self, command):
+        """Whether a line is answered with its mark, or waits for it."""
+        return command == "settle" if self.within is not None else command == "mark" and self.begin is not None
 
     def check(self, least):
         """The least stamp at which it may have begun, behind one that began at this stamp."""
@@ -305,6 +322,7 @@ class Heard:
         self.seats, self.begins, self.met, self.named = {}, {}, {}, []
         self.draws = 0  # how many lines may have drawn a range of the log by then
         self.watched, self.watching, self.fresh, self.unsafe, self.floors = [], {}, {}, [], {}
+        self.stops = []  # lines that flush, how far, and what was sealed there
 
     def log_end(self):
         """How far the log's end may have come by then."""
@@ -315,6 +333,9 @@ class Heard:
         if self.at_once and any(answer[: len(wait)] == wait for wait in WAITS):
             raise Bad(f"line {number} waits")
         if session is None:
+            if answer[0] in ("flushed", "unfilled"):
+                sealed = [it for it in [*self.current.values(), *self.watching.values()] if it.within is not None]
+                self.stops.append((number, int(answer[1]), sealed))
             return
         self.seats.setdefault(session, len(self.seats) + 1)
         if words[0] == "safe":
@@ -323,7 +344,10 @@ class Heard:
         if session in self.watching and words[0] != "durable":
             self.watch(number, session, words, answer)
             return
-        if answer[0] in ("safe", "unsafe", "ended", "read") or answer == ["not", "safe"]:
+        if words[0] == "mark":
+            self.refuse_mark(number, session, answer)
+            return
+        if answer[0] in ("safe", "unsafe", "ended", "read", "marked") or answer == ["not", "safe"]:
             raise Bad(f"line {number} tells of a snapshot that there isn't")
         if words[0] in DRAWERS and answer[0] in ("sealed", "committed", "excluded", "wait"):
             self.in_progress(number, session).within = self.log_end()
@@ -421,6 +445,9 @@ class Heard:
     def watch(self, number, session, words, answer):
         """The answer to another line of a session that has a snapshot."""
         snapshot = self.watching[session]
+        if snapshot.takes_mark(words[0]):
+            self.mark(number, session, words, answer)
+            return
         owed = snapshot.owed(words[0])
         if owed is not None and answer != owed or owed is None and answer[0] not in REPLIES:
             raise Bad(f"line {number} is answered {answer} in a session with a snapshot")
@@ -429,6 +456,37 @@ class Heard:
         elif answer in (["ended"], ["aborted"]):
             snapshot.ended = answer == ["ended"]
             del self.watching[session]
+
+    def refuse_mark(self, number, session, answer):
+        """The answer to a mark in a session that has no snapshot."""
+        transaction = self.current.get(session)
+        if transaction is None:
+            owed = ["no", "transaction"]
+        else:
+            owed = ["not", "safe"] if transaction.within is None else ["is", "sealed"]
+        if answer != owed:
+            raise Bad(f"line {number} marks without a snapshot, and is answered {answer}")
+
+    def mark(self, number, session, words, answer):
+        """The answer to a mark of a safe snapshot, or to the settle of one that waits."""
+        snapshot = self.watching[session]
+        if words[0] == "mark":
+            snapshot.within = self.log_end()
+        if answer[:2] == ["wait", "ring"]:
+            snapshot.waits.append((number, int(answer[2])))
+            return
+        self.marked(number, session, answer)
+        if words[0] == "mark":
+            self.passes(session, snapshot.stamp, snapshot.stamp + LEAST_BLOCK)
+
+    def marked(self, number, session, answer):
+        """A session's snapshot ends with its mark."""
+        snapshot = self.watching.pop(session)
+        if answer[0] != "marked" or snapshot.within is None or int(answer[1]) != snapshot.begin:
+            raise Bad(f"line {number} is answered {answer} where a mark of {snapshot.begin} ends")
+        snapshot.stamp, snapshot.ended = int(answer[3]), True
+        self.check_reach(number, snapshot.within, snapshot.stamp)
+        self.meet(session, snapshot.stamp)
 
     def begin(self, number, session, stamp):
         if session in self.current:
@@ -456,6 +514,9 @@ class Heard:
 
     def end(self, number, session, answer, words=None):
         """The end of a session's transaction, if the answer, to these words, tells one."""
+        if words is None and session in self.watching and self.watching[session].within is not None:
+            self.marked(number, session, answer)
+            return
         if answer[0] not in ("committed", "excluded", "aborted", "owned", "newer"):
             return
         if words is None and answer == ["aborted"] and self.watching.pop(session, None) is not None:
@@ -557,6 +618,7 @@ def check(script, report, opening, at_once, exact):
     check_order(order, placed, told.seats, opening, pairs)
     check_snapshots([*told.over, *(it for it in told.watched if it.begin is not None)], committed.values(), opening, entries)
     check_watched(told)
+    check_marks(told)
     check_windows(told.over)
     if exact:
         check_exactly(told.over)
@@ -635,6 +697,17 @@ def check_watched(told):
         place, succ = commits.get((names.get(seat), stamp), (None, stamp))
         if succ >= stamp or names[seat] == session or not told.at_once and place >= before:
             raise Bad(f"line {number} tells of no commit that comes before its stamp")
+
+
+def check_marks(told):
+    """Whether each mark that waited had no room, and each flush came up to what was sealed."""
+    for snapshot in told.watched:
+        for number, flushed in snapshot.waits:
+            if snapshot.stamp + LEAST_BLOCK <= flushed + RING_WORDS:
+                raise Bad(f"line {number} waits for the ring, which has room for its mark")
+    for number, place, sealed in told.stops:
+        if sealed and place != min(it.stamp for it in sealed):
+            raise Bad(f"line {number} flushes up to {place}, and not to the least place that is sealed")
 
 
 def writers_of(told):
@@ -726,11 +799,11 @@ def check_exactly(told):
 
 
 def check_stamps(told):
-    stamps = [it.stamp for it in told.over if it.stamp is not None]
-    if len(set(stamps)) != len(stamps):
-        raise Bad("two transactions have one stamp")
-    if any(it.stamp is not None and it.stamp < max(it.begin, told.opened + LEAST_BLOCK) for it in told.over):
-        raise Bad("a stamp lies below its transaction's begin")
+    ends = [it for it in [*told.over, *told.watched] if it.stamp is not None]
+    if len({it.stamp for it in ends}) != len(ends):
+        raise Bad("two transactions, or marks, have one stamp")
+    if any(it.stamp < max(it.begin, told.opened + LEAST_BLOCK) for it in ends):
+        raise Bad("a stamp lies below its transaction's begin, or a mark's place below its snapshot's")
     lowest = {}
     for (session, number), begin in sorted(told.begins.items(), reverse=True):
         lowest[session, number] = min(begin, lowest.get((session, number + 1), begin))

@@ -38,7 +38,7 @@ ENTRY_WORDS = 17
 MOST_ROWS = 128
 MOST_WORDS = FRAME_WORDS + ENTRY_WORDS * MOST_ROWS
 OPEN = 3
-KINDS = (1, 2, OPEN, 4, 5)
+KINDS = (1, 2, OPEN, 4, 5, 6)
 HEAD = struct.Struct("<2Q")
 SLOT_HEAD = struct.Struct("<5Q")
 
@@ -97,7 +97,7 @@ def commits_from(data, at, run):
         header, stamp = head(data, offset)
         size = header >> 4 & 0xFFFF
         last = offset + WORD * size - WORD
-        if header >> 20 != run or header & 15 not in (4, 5) or stamp != at or not FRAME_WORDS <= size <= MOST_WORDS or room < last + WORD:
+        if header >> 20 != run or header & 15 not in (4, 5, 6) or stamp != at or not FRAME_WORDS <= size <= MOST_WORDS or room < last + WORD:
             break
         if digest(data[offset:last]).digest()[:WORD] != data[last : last + WORD]:
             break
