@@ -14,7 +14,7 @@ use Rattle.erm_log_run.proofs.Leaving.{SessionLaws, on_itself, on_then, session_
 use Rattle.erm_log_run.proofs.Older.{older_itself, older_later, older_then, stop_removes}
 use Rattle.erm_log_run.proofs.Progress.{all_idle, first_count, idle_after, none_left, same_count, turn_taken}
 use Rattle.erm_log_run.proofs.Starving.{stop_starves}
-use Rattle.erm_log_run.proofs.Stopped.{stop_closes}
+use Rattle.erm_log_run.proofs.Stopped.{stop_closes, stop_keeps}
 use Rattle.erm_log_run.proofs.closes.close_all.Goals as goal
 
 -- none may be removed
@@ -134,6 +134,22 @@ returns-in_err-flush_up-2-clause-older g c =
     (stop_removes (Unit {0}) (Vec (Option Answer) Global) c.in_err-flush_up-2.field-0.0 (λ x. 0) (λ x. 0) 0 0 0 place (g.W.LogWorld.log c.loop.world).flushed (g.W.LogWorld.log c.flush_up-2.new.world).flushed
     (g.D.Disk.told c.args.store.now.disk) (g.D.Disk.told c.loop.store.disk) (g.D.Disk.told c.flush_up-2.new.store.disk) (omega arith) (none_more (g.D.Disk.told c.args.store.now.disk)) kept.keeps.further kept.older
     c.in_err-flush_up-2.ensures.older)
+
+pub returns-in_err-flush_up-clause-keeps : goal.returns-in_err-flush_up-clause-keeps
+returns-in_err-flush_up-clause-keeps g c =
+    let first : Keeper = keeper_of (g.W.LogWorld.log c.args.world.now) c.args.store.now (g.D.Disk.told c.args.store.now.disk) in
+    let was : Keeper = keeper_of (g.W.LogWorld.log c.loop.world) c.loop.store (g.D.Disk.told c.loop.store.disk) in
+    let now : Keeper = keeper_of (g.W.LogWorld.log c.flush_up.new.world) c.flush_up.new.store (g.D.Disk.told c.flush_up.new.store.disk) in
+    let p = err_from_is_err_and c.from_residual-in_err-flush_up.result c.from_residual-in_err-flush_up.ensures.1 in
+    rw (p.1, p.2) (stop_keeps (Unit {0}) (Vec (Option Answer) Global) g.W.LogWorld.rows_law.meets c.in_err-flush_up.field-0.0 first was now c.loop.invariant.keeps c.in_err-flush_up.ensures.keeps)
+
+pub returns-in_err-flush_up-2-clause-keeps : goal.returns-in_err-flush_up-2-clause-keeps
+returns-in_err-flush_up-2-clause-keeps g c =
+    let first : Keeper = keeper_of (g.W.LogWorld.log c.args.world.now) c.args.store.now (g.D.Disk.told c.args.store.now.disk) in
+    let was : Keeper = keeper_of (g.W.LogWorld.log c.loop.world) c.loop.store (g.D.Disk.told c.loop.store.disk) in
+    let now : Keeper = keeper_of (g.W.LogWorld.log c.flush_up-2.new.world) c.flush_up-2.new.store (g.D.Disk.told c.flush_up-2.new.store.disk) in
+    let p = err_from_is_err_and c.from_residual-in_err-flush_up-2.result c.from_residual-in_err-flush_up-2.ensures.1 in
+    rw (p.1, p.2) (stop_keeps (Unit {0}) (Vec (Option Answer) Global) g.W.LogWorld.rows_law.meets c.in_err-flush_up-2.field-0.0 first was now c.loop.invariant.keeps c.in_err-flush_up-2.ensures.keeps)
 
 pub returns-in_err-flush_up-clause-closes : goal.returns-in_err-flush_up-clause-closes
 returns-in_err-flush_up-clause-closes g c =

@@ -280,7 +280,7 @@ returns-in_err-closed-in-Ok-clause-starved g c =
     let stands = c.run_all.ensures.stands in
     let ran = c.in-Ok.ensures.ran in
     memory_so _ (WasStarved sound v script k.log k.slots k.told m.told)
-    (was_starved sound v script k m.told c.requires.opened c.requires.ranges (omega (arith, short)) kept
+    (was_starved sound c.held_disks_meet_older_blocks.ensures v script k m.told c.requires.opened c.requires.ranges (omega (arith, short)) (g.met.W.LogWorld.is_log w (g.met.W.ScriptWorld.may_flush w c.requires.stands)) kept
     (starved_last sound v ran.1.0 (g.W.RowWorld.view new) _ script c.run_all.new.answers.items c.in-Ok.ends.items k m ran.0 ran.1.1 ran.1.2
     (g.met.W.ScriptWorld.one_log new stands) (g.met.W.LogWorld.is_log new (g.met.W.ScriptWorld.may_flush new stands)) c.in-Ok.ensures.keeps.1 c.in-Ok.ensures.older))
 
@@ -301,6 +301,6 @@ returns-in_err-report_of-in-Ok-clause-starved g c =
     let stands = c.run_all.ensures.stands in
     let ran = c.in-Ok.ensures.ran in
     memory_so _ (WasStarved sound v script k.log k.slots k.told m.told)
-    (was_starved sound v script k m.told c.requires.opened c.requires.ranges (omega (arith, short)) kept
+    (was_starved sound c.held_disks_meet_older_blocks.ensures v script k m.told c.requires.opened c.requires.ranges (omega (arith, short)) (g.met.W.LogWorld.is_log w (g.met.W.ScriptWorld.may_flush w c.requires.stands)) kept
     (starved_last sound v ran.1.0 (g.W.RowWorld.view new) _ script c.run_all.new.answers.items c.in-Ok.ends.items k m ran.0 ran.1.1 ran.1.2
     (g.met.W.ScriptWorld.one_log new stands) (g.met.W.LogWorld.is_log new (g.met.W.ScriptWorld.may_flush new stands)) c.in-Ok.ensures.keeps.1 c.in-Ok.ensures.older))
