@@ -127,6 +127,7 @@ module _ (Kind : List Step → Type 0) where
       let now = option_map (with_line asked (answer.Newer stamp)) p.current in over_ended dealt.Aborts p.over now all (aborted now)
   all_heard session asked answer.Aborted p all kind = over_ended dealt.Aborts p.over p.current all (aborted p.current)
   all_heard session asked answer.Ended p all kind = over_ended dealt.Aborts p.over p.current all (aborted p.current)
+  all_heard session asked (answer.Marked safe stamp) p all kind = over_ended dealt.Aborts p.over p.current all (aborted p.current)
   all_heard session asked (answer.Unsafe seat stamp) p all kind = over_ended dealt.Aborts p.over p.current all (aborted p.current)
   all_heard session asked a p all kind = all
 

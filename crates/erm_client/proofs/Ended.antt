@@ -35,6 +35,7 @@ unplaced q asked (answer.Safe begin) p so = own p so
 unplaced q asked (answer.Sealed stamp) p so = so
 unplaced q asked (answer.Unsafe seat stamp) p so = tt
 unplaced q asked answer.Ended p so = tt
+unplaced q asked (answer.Marked safe stamp) p so = tt
 unplaced q asked (answer.Committed stamp succ pred) p so = tt
 unplaced q asked (answer.Excluded stamp succ pred) p so = tt
 unplaced q asked (answer.ExcludedEarly succ pred) p so = tt
@@ -75,21 +76,23 @@ over_still : (q : ℕ) (over : List Snapshot) (now : Option Snapshot) → IsUnpl
 over_still q over None so = ap (filter_map (ended_as q)) (append-nil over)
 over_still q over (Some s) so = over_left q over s so
 
--- so of a line that doesn't tell that one ended, or where none is in progress
+-- so of a line that doesn't tell that one ended, or where none is in progress; no line of a client is answered by a mark
 pub none_ended : (q : ℕ) (asked : Option Command) (a : Answer) (p : Progress) → IsUnplaced p.snapshot → (a ≡ answer.Ended → p.snapshot ≡ None)
+    → ((safe stamp : ℕ) → a ≡ answer.Marked safe stamp → ⊥)
     → filter_map (ended_as q) (heard q asked a p).snapshots ≡ filter_map (ended_as q) p.snapshots
-none_ended q asked answer.Ended p so none =
+none_ended q asked answer.Ended p so none unmarked =
     ap (λ (now : Option Snapshot). filter_map (ended_as q) (p.snapshots ++ option_to_list (option_map with_end now))) (none refl) ∙ ap (filter_map (ended_as q)) (append-nil p.snapshots)
-none_ended q asked (answer.Unsafe seat stamp) p so none = over_left q p.snapshots (own_snapshot p) (own p so)
-none_ended q asked (answer.Committed stamp succ pred) p so none = over_still q p.snapshots p.snapshot so
-none_ended q asked (answer.Excluded stamp succ pred) p so none = over_still q p.snapshots p.snapshot so
-none_ended q asked (answer.ExcludedEarly succ pred) p so none =
+none_ended q asked (answer.Marked safe stamp) p so none unmarked = absurd (unmarked safe stamp refl)
+none_ended q asked (answer.Unsafe seat stamp) p so none unmarked = over_left q p.snapshots (own_snapshot p) (own p so)
+none_ended q asked (answer.Committed stamp succ pred) p so none unmarked = over_still q p.snapshots p.snapshot so
+none_ended q asked (answer.Excluded stamp succ pred) p so none unmarked = over_still q p.snapshots p.snapshot so
+none_ended q asked (answer.ExcludedEarly succ pred) p so none unmarked =
     over_still q p.snapshots (option_map (with_look asked (answer.ExcludedEarly succ pred)) p.snapshot) (looked asked (answer.ExcludedEarly succ pred) p.snapshot so)
-none_ended q asked (answer.Owned seat number) p so none =
+none_ended q asked (answer.Owned seat number) p so none unmarked =
     over_still q p.snapshots (option_map (with_look asked (answer.Owned seat number)) p.snapshot) (looked asked (answer.Owned seat number) p.snapshot so)
-none_ended q asked (answer.Newer stamp) p so none = over_still q p.snapshots (option_map (with_look asked (answer.Newer stamp)) p.snapshot) (looked asked (answer.Newer stamp) p.snapshot so)
-none_ended q asked answer.Aborted p so none = over_still q p.snapshots p.snapshot so
-none_ended q asked a p so none = refl
+none_ended q asked (answer.Newer stamp) p so none unmarked = over_still q p.snapshots (option_map (with_look asked (answer.Newer stamp)) p.snapshot) (looked asked (answer.Newer stamp) p.snapshot so)
+none_ended q asked answer.Aborted p so none unmarked = over_still q p.snapshots p.snapshot so
+none_ended q asked a p so none unmarked = refl
 
 -- ONE THAT ENDED
 pub ended_more : (q : ℕ) (p : Progress) (s : Snapshot) (begin : ℕ) → p.snapshot ≡ Some s → s.begin ≡ Some begin

@@ -166,6 +166,7 @@ heard_still session asked (answer.Owned seat number) p plain = ended_still dealt
 heard_still session asked (answer.Newer stamp) p plain = ended_still dealt.Aborts p.over (option_map (with_line asked (answer.Newer stamp)) p.current) (λ t. refl)
 heard_still session asked answer.Aborted p plain = ended_still dealt.Aborts p.over p.current (λ t. refl)
 heard_still session asked answer.Ended p plain = ended_still dealt.Aborts p.over p.current (λ t. refl)
+heard_still session asked (answer.Marked safe stamp) p plain = ended_still dealt.Aborts p.over p.current (λ t. refl)
 heard_still session asked (answer.Unsafe seat stamp) p plain = ended_still dealt.Aborts p.over p.current (λ t. refl)
 heard_still session asked a p plain = refl
 
@@ -196,6 +197,20 @@ ends_otherwise c asked why other = λ a tells told is.
     let so : Some refusal.Ended ≡ Some why = sym (ap refusal_told is) ∙ told in
     absurd (other (cc))
 
+-- no line is answered by a mark
+never_marks : (c : Command) (safe stamp : ℕ) → MayTell c (answer.Marked safe stamp) → ⊥
+never_marks command.Begin safe stamp tells = cc
+never_marks command.Safe safe stamp tells = cc
+never_marks (command.Get table key) safe stamp tells = cc
+never_marks (command.Put table key value) safe stamp tells = cc
+never_marks (command.Del table key) safe stamp tells = cc
+never_marks (command.Next table from) safe stamp tells = cc
+never_marks (command.Scan table low high) safe stamp tells = cc
+never_marks command.Commit safe stamp tells = cc
+never_marks command.Abort safe stamp tells = cc
+never_marks command.Durable safe stamp tells = cc
+never_marks c safe stamp tells = tells
+
 module _ (c d : Transcript) (ok : IsTranscript c) where
   -- an answer that is no commit, and no end of a snapshot
   pub went_answered : (asked : Command) (a : Answer) → ((stamp succ pred : ℕ) → a ≡ answer.Committed stamp succ pred → ⊥) → (a ≡ answer.Ended → HasNone c) → IsAnswered c asked a d
@@ -208,7 +223,8 @@ module _ (c d : Transcript) (ok : IsTranscript c) where
         begins_are = omega (arith, begins_more c d line answered.more.lines);
         commits_are = ap (λ (p : Progress). history_of p.over) dealt ∙ heard_still c.seat (Some asked) a (dealings_of c) plain ∙ sym (append-nil (commits_told c));
         snapshots_are = snapshots_still c d answered.more.seat (heard c.seat (Some asked) a (dealings_of c)) dealt
-            (none_ended c.seat (Some asked) a (dealings_of c) (are_unplaced c.seat (said_of c.lines.items c.answers.items)) none);
+            (none_ended c.seat (Some asked) a (dealings_of c) (are_unplaced c.seat (said_of c.lines.items c.answers.items)) none
+            (λ safe stamp is. never_marks asked safe stamp (subst (λ (x : Answer). MayTell asked x) is answered.tells)));
       }
 
   unrefused : (a : Answer) (stamp succ pred : ℕ) (why : Refusal) → a ≡ answer.Committed stamp succ pred → refusal_told a ≡ Some why → ⊥
@@ -269,12 +285,15 @@ module _ (c d : Transcript) (ok : IsTranscript c) where
               ∙ filter_map-append committed_of (dealings_of c).over (with_ending (Commits stamp succ pred) t ∷ []);
           snapshots_are = snapshots_still c d answered.more.seat (heard c.seat (Some command.Commit) (answer.Committed stamp succ pred) (dealings_of c))
               (dealt_answered c d command.Commit (answer.Committed stamp succ pred) ok answered)
-              (none_ended c.seat (Some command.Commit) (answer.Committed stamp succ pred) (dealings_of c) (are_unplaced c.seat (said_of c.lines.items c.answers.items)) (λ is. absurd (apart is)));
+              (none_ended c.seat (Some command.Commit) (answer.Committed stamp succ pred) (dealings_of c) (are_unplaced c.seat (said_of c.lines.items c.answers.items)) (λ is. absurd (apart is)) unmarked);
         },
       )
     where
       apart : answer.Committed stamp succ pred ≡ answer.Ended → ⊥
       apart is = cc
+
+      unmarked : (safe at : ℕ) → answer.Committed stamp succ pred ≡ answer.Marked safe at → ⊥
+      unmarked safe at is = cc
 
   -- an end of a snapshot
   pub went_ended : (begin : ℕ) (steps : List Step) → IsSafeAt c begin steps → IsAnswered c command.Commit answer.Ended d

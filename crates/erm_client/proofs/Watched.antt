@@ -172,6 +172,7 @@ module _ (seat : ℕ) (c : Command) (phase next : Phase) (p : Progress) where
   after (answer.WaitRing flushed) of tells fits is so = absurd (never_waits_ring c flushed of tells)
   after (answer.Unsafe other stamp) of tells fits is so = at_rest next (heard seat (Some c) (answer.Unsafe other stamp) p) refl refl is
   after answer.Ended of tells fits is so = at_rest next (heard seat (Some c) answer.Ended p) refl refl is
+  after (answer.Marked safe stamp) of tells fits is so = at_rest next (heard seat (Some c) (answer.Marked safe stamp) p) refl refl is
   after (answer.Committed stamp succ pred) of tells fits is so = at_rest next (heard seat (Some c) (answer.Committed stamp succ pred) p) refl refl is
   after (answer.Excluded stamp succ pred) of tells fits is so = at_rest next (heard seat (Some c) (answer.Excluded stamp succ pred) p) refl refl is
   after (answer.ExcludedEarly succ pred) of tells fits is so = at_rest next (heard seat (Some c) (answer.ExcludedEarly succ pred) p) refl refl is

@@ -87,7 +87,7 @@ abbrev pub TellsDurable : Answer → Type 0
 TellsDurable (answer.Durable stamp) = Unit {0}
 TellsDurable a = IsRefusal a
 
--- what a client's line may be answered, by its command
+-- what a client's line may be answered, by its command: it is never answered by a mark
 abbrev pub MayTell : Command → Answer → Type 0
 MayTell command.Begin a = TellsBegin a
 MayTell command.Safe a = TellsSafe a
@@ -99,6 +99,7 @@ MayTell (command.Scan table low high) a = TellsFound a
 MayTell command.Commit a = TellsCommit a
 MayTell command.Abort a = TellsAbort a
 MayTell command.Durable a = TellsDurable a
+MayTell c (answer.Marked safe stamp) = ⊥
 MayTell c a = Unit {0}
 
 -- keys were found, and there was no memory for a copy of them, with their values

@@ -70,6 +70,7 @@ unfinished q asked (answer.Began stamp) p so = begins (begun q stamp p) refl
 unfinished q asked (answer.Safe stamp) p so = so
 unfinished q asked (answer.Unsafe seat stamp) p so = none_now
 unfinished q asked answer.Ended p so = none_now
+unfinished q asked (answer.Marked safe stamp) p so = none_now
 unfinished q asked (answer.Sealed stamp) p so = mapped (with_seal stamp) p.current (λ t. refl) so
 unfinished q asked (answer.Committed stamp succ pred) p so = none_now
 unfinished q asked (answer.Excluded stamp succ pred) p so = none_now

@@ -14,7 +14,7 @@ use Rattle.erm_client_invariant.proofs.Alone.{hears, others, said_append}
 use Rattle.erm_client_invariant.specs.Laws.{ToldCommitsAreThere, ToldSnapshotsAreThere}
 use Rattle.erm_good_report.specs.GoodReport.{places_of}
 use Rattle.erm_good_report.specs.Phases.{Closed}
-use Rattle.erm_good_report.specs.Transactions.{Commits, Ending, Progress, Said, Snapshot, Transaction, ended_as, heard, history_of, nothing, own_snapshot, progress_of, said_of, transactions_of, with_end, with_ending, with_line, with_look}
+use Rattle.erm_good_report.specs.Transactions.{Commits, Ending, Progress, Said, Snapshot, Transaction, ended_as, heard, history_of, nothing, own_snapshot, progress_of, said_of, transactions_of, with_end, with_ending, with_line, with_look, with_mark}
 use Rattle.erm_good_report.specs.Transactions as dealt
 use Rattle.erm_machine.proofs.Listed.{∈-first, ∈-second}
 use Rattle.erm_model.proofs.Members.{none_in_nil, ∈-behind}
@@ -88,6 +88,7 @@ module _ (t : Transaction) where
   over_stays q asked (answer.Newer stamp) p there = stays dealt.Aborts p.over (option_map (with_line asked (answer.Newer stamp)) p.current) there
   over_stays q asked (answer.Unsafe seat stamp) p there = stays dealt.Aborts p.over p.current there
   over_stays q asked answer.Ended p there = stays dealt.Aborts p.over p.current there
+  over_stays q asked (answer.Marked safe stamp) p there = stays dealt.Aborts p.over p.current there
   over_stays q asked answer.Aborted p there = stays dealt.Aborts p.over p.current there
   over_stays q asked a p there = there
 
@@ -100,6 +101,7 @@ module _ (s : Snapshot) where
   snapshot_stays q asked (answer.Newer stamp) p there = ∈-first p.snapshots (option_to_list (option_map (with_look asked (answer.Newer stamp)) p.snapshot)) s there
   snapshot_stays q asked (answer.Unsafe seat stamp) p there = ∈-first p.snapshots (own_snapshot p ∷ []) s there
   snapshot_stays q asked answer.Ended p there = ∈-first p.snapshots (option_to_list (option_map with_end p.snapshot)) s there
+  snapshot_stays q asked (answer.Marked safe stamp) p there = ∈-first p.snapshots (option_to_list (option_map (with_mark safe stamp) p.snapshot)) s there
   snapshot_stays q asked answer.Aborted p there = ∈-first p.snapshots (option_to_list p.snapshot) s there
   snapshot_stays q asked a p there = there
 

@@ -33,6 +33,7 @@ unsealed c (answer.Began stamp) p of tells not is = cc
 unsealed c (answer.Safe stamp) p of tells not is = cc
 unsealed c (answer.Unsafe seat stamp) p of tells not is = cc
 unsealed c answer.Ended p of tells not is = cc
+unsealed c (answer.Marked safe stamp) p of tells not is = cc
 unsealed c (answer.Sealed stamp) p of tells not is = never_seals c stamp of tells
 unsealed c (answer.WaitSeat other seen) p of tells not is = never_waits_seat c other seen of tells
 unsealed c (answer.WaitRing flushed) p of tells not is = waits_ring c flushed of tells

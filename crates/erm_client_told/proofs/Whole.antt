@@ -45,6 +45,7 @@ heard_still session asked (answer.Owned seat number) p plain = ended_still dealt
 heard_still session asked (answer.Newer stamp) p plain = ended_still dealt.Aborts p.over (option_map (with_line asked (answer.Newer stamp)) p.current) (λ t. refl)
 heard_still session asked answer.Aborted p plain = ended_still dealt.Aborts p.over p.current (λ t. refl)
 heard_still session asked answer.Ended p plain = ended_still dealt.Aborts p.over p.current (λ t. refl)
+heard_still session asked (answer.Marked safe stamp) p plain = ended_still dealt.Aborts p.over p.current (λ t. refl)
 heard_still session asked (answer.Unsafe seat stamp) p plain = ended_still dealt.Aborts p.over p.current (λ t. refl)
 heard_still session asked a p plain = refl
 
