@@ -110,7 +110,7 @@ def sessions_of(script):
 
 def disk(name):
     """Makes the calls of an example one after another in one folder."""
-    words, script, report = [], b"", b""
+    words, script, report, said = [], b"", b"", b""
     for line in text(f"{name}.steps").decode().splitlines():
         mark, _, rest = line.partition(" ")
         if mark == "$":
@@ -119,6 +119,12 @@ def disk(name):
             script += rest.encode() + b"\n"
         elif mark == ">":
             report += rest.encode() + b"\n"
+        elif mark == "<x":
+            script += bytes.fromhex(rest)
+        elif mark == ">x":
+            report += bytes.fromhex(rest)
+        elif mark == "<<":
+            script += said
         elif mark == "!":
             change(*rest.split(" "))
         elif mark == "?" and not stands(*rest.split(" ")):
@@ -360,6 +366,24 @@ def ring_used_up(_):
     return status == 0 and told[-3:] == [b"wait ring 13", b"flushed 32778", b"committed 32778 succ 32778 pred 0"] and b"committed 32773 succ 32773 pred 0" in told
 
 
+def ring_used_up_before_a_mark(_):
+    """So it is with a mark, which waits until the log is flushed, or to the end."""
+    front = [b"a begin\na commit\n"] * 6553 + [b"c safe\nc mark\n"]
+    status, told = answers([*front, b"flush\nc settle\n"])
+    waits = status == 0 and told[-4:] == [b"safe 32778", b"wait ring 13", b"flushed 32778", b"marked 32778 at 32778"]
+    shutil.rmtree("erm-data")
+    status, report = call(["run"], b"".join(front))
+    return waits and status == 0 and b"\nclose c marked 32778 at 32778\norder 6554\n" in report and is_good(b"".join(front), report)
+
+
+def marks_at_once(_):
+    """On threads of their own sessions mark their snapshots while others write."""
+    writes = b"".join(b"a begin\na put 0 1 %02x\na commit\nb begin\nb get 0 1\nb put 0 2 %02x\nb commit\n" % (at, at) for at in range(200))
+    script = writes + b"c safe\nc get 0 1\nc mark\n" * 100 + b"d safe\nd get 0 2\nd mark\n" * 100
+    status, report = call(["threads"], script)
+    return status == 0 and report.count(b" marked ") > 0 and is_good(script, report, "--at-once")
+
+
 def ring_used_up_at_once(_):
     """On a thread of its own a session flushes the log itself where that has no room for its block."""
     status, told = answers([b"a begin\na commit\n"] * 20000, "threads")
@@ -384,11 +408,11 @@ def cells_used_up(_):
     return status == 0 and told[:taken].count(b"ok") > 49152 and told[-3:-1] == [b"ok", b"value cc"]
 
 
-FAULTS = input_that_fails, output_that_fails, longest_script, disk_full_at_a_byte, ring_used_up, ring_used_up_at_once, objects_used_up, cells_used_up
+FAULTS = input_that_fails, output_that_fails, longest_script, disk_full_at_a_byte, ring_used_up, ring_used_up_before_a_mark, marks_at_once, ring_used_up_at_once, objects_used_up, cells_used_up
 
 
 # Streams, spelled and read here once more.
-OPEN, COMMIT = 3, 4
+OPEN, COMMIT, MARK = 3, 4, 6
 RACE = text("audit_by_serial_order.steps").split(b"\n>")[0]
 RACE = b"".join(line[2:] + b"\n" for line in RACE.splitlines() if line.startswith(b"<"))
 
@@ -421,16 +445,17 @@ def items(stream):
 
 def followed(stream, count):
     """The lines that are due in the front of a stream that has so many bytes, and those of its end."""
-    lines, waiting, left = [], [], count
+    lines, waiting, left, safe = [], [], count, 0
     for begin, end, kind, stamp, succ, name in items(stream):
         if end > count:
             break
         left = count - end
         if kind == COMMIT:
             waiting.append((succ, -stamp, name))
-        elif kind == OPEN:
-            lines += sorted(it for it in waiting if -it[1] < stamp)
-            waiting = [it for it in waiting if -it[1] >= stamp]
+        elif kind in (OPEN, MARK):
+            safe = max(safe, stamp if kind == OPEN else succ)
+            lines += sorted(it for it in waiting if -it[1] < safe)
+            waiting = [it for it in waiting if -it[1] >= safe]
     lines = [f"commit {name & 255} {name >> 24} stamp {-stamp} succ {succ}" for succ, stamp, name in lines]
     return lines, [f"pending {len(waiting)}"] + [f"rest {left}"] * (left > 0) + ["end"]
 
@@ -445,8 +470,8 @@ def empty_stream(_):
 
 
 def shipped():
-    """The stream of a run of three commits and a run without any."""
-    if call(["run"], RACE)[0] != 0 or call(["run"], b"")[0] != 0:
+    """The stream of a run of three commits and a mark, and a run without any."""
+    if call(["run"], RACE + b"c safe\nc mark\n")[0] != 0 or call(["run"], b"")[0] != 0:
         return b""
     return call(["ship"], b"")[1]
 

@@ -97,13 +97,14 @@ const RING_COMMITS: u32 = 6553;
 
 /// The words of a call, and lines behind these commits with what is answered: the next commit waits until they are flushed. On a thread of
 /// its own the session flushes them itself.
-const BEHIND_COMMITS: [(&str, (&str, &str)); 2] = [
+const BEHIND_COMMITS: [(&str, (&str, &str), &str); 5] = [
     (
         "erm run",
         (
             "a begin\na commit\nflush\na settle\n",
             "13107 begin 32778\n13108 wait ring 13\n13109 flushed 32778\n13110 committed 32778 succ 32778 pred 0\norder 6554\n",
         ),
+        LAST_COMMIT,
     ),
     (
         "erm threads",
@@ -111,11 +112,39 @@ const BEHIND_COMMITS: [(&str, (&str, &str)); 2] = [
             "a begin\na commit\n",
             "13107 begin 32778\n13108 committed 32778 succ 32778 pred 0\norder 6554\n",
         ),
+        LAST_COMMIT,
+    ),
+    (
+        "erm run",
+        (
+            "c safe\nc mark\nc mark\nc get 0 1\nc abort\nc settle\nflush\nc settle\nc settle\n",
+            "13107 safe 32778\n13108 wait ring 13\n13109 is sealed\n13110 is sealed\n13111 is sealed\n13112 wait ring 13\n13113 flushed 32778\n13114 marked 32778 at 32778\n13115 not sealed\norder 6554\n",
+        ),
+        "safe c 1 at 32778\n",
+    ),
+    (
+        "erm run",
+        (
+            "c safe\nc mark\n",
+            "13107 safe 32778\n13108 wait ring 13\nclose c marked 32778 at 32778\norder 6554\n",
+        ),
+        "safe c 1 at 32778\n",
+    ),
+    (
+        "erm threads",
+        (
+            "a safe\na mark\n",
+            "13107 safe 32778\n13108 marked 32778 at 32778\norder 6554\n",
+        ),
+        "safe a 6554 at 32778\n",
     ),
 ];
 
+/// The line of the last commit of the order.
+const LAST_COMMIT: &str = "commit a 6554 stamp 32778 succ 32778 pred 0\n";
+
 /// The rest of the report.
-const BEHIND_ORDER: &str = "commit a 6554 stamp 32778 succ 32778 pred 0\nmap 0\nend\n";
+const BEHIND_ORDER: &str = "map 0\nend\n";
 
 /// A script that grows, with what it is to print.
 #[derive(Drop)]
@@ -138,8 +167,8 @@ pub fn check<R: Threads + Wait + Sync>(rt: &R, alloc: Global) -> Result<()> {
     check_comment(rt, alloc, SCRIPT_BYTES + 1, 9, "too long\n")?;
     check_words(rt, alloc)?;
     check_row(rt, alloc, "erm run", "objects used up", objects(alloc)?)?;
-    for (line, behind) in BEHIND_COMMITS {
-        check_row(rt, alloc, line, "ring used up", ring(alloc, behind)?)?;
+    for (line, behind, last) in BEHIND_COMMITS {
+        check_row(rt, alloc, line, "ring used up", ring(alloc, behind, last)?)?;
     }
     Ok(())
 }
@@ -227,8 +256,8 @@ fn objects(alloc: Global) -> Result<Row, AllocError> {
     Ok(row)
 }
 
-// Commits without a flush fill the ring, before other lines with what they are answered.
-fn ring(alloc: Global, behind: (&str, &str)) -> Result<Row, AllocError> {
+// Commits without a flush fill the ring, before other lines with what they are answered, and what comes last in the order.
+fn ring(alloc: Global, behind: (&str, &str), last: &str) -> Result<Row, AllocError> {
     let mut order = String::new(alloc);
     let mut row = Row {
         script: String::new(alloc),
@@ -242,6 +271,7 @@ fn ring(alloc: Global, behind: (&str, &str)) -> Result<Row, AllocError> {
     }
     row.push(behind.0, behind.1)?;
     row.push("", &order)?;
+    row.push("", last)?;
     row.push("", BEHIND_ORDER)?;
     Ok(row)
 }

@@ -66,7 +66,7 @@ fn fail_each<R: Threads + Wait + Sync>(
 ) -> Result<()> {
     for number in 1..MOST_CALLS {
         let failing = device.failing_at(alloc, number)?;
-        let script = call.script.as_bytes();
+        let script = call.script.as_slice();
         let ended = call_over(rt, alloc, &call.words, script, PER_CALL, failing)?;
         if ended.status != DISK_FAULT {
             return Ok(());
@@ -132,7 +132,7 @@ fn stop<R: Threads + Wait + Sync>(
     calls: u64,
 ) -> Result<Outcome, AllocError> {
     let stopped = device.stopped_at(calls)?;
-    let script = call.script.as_bytes();
+    let script = call.script.as_slice();
     call_over(rt, alloc, &call.words, script, PER_CALL, stopped)
 }
 
