@@ -11,7 +11,7 @@ use std::alloc::Global;
 use std::test::*;
 
 // What stands in the log, block after block: a letter with a run. 'o' is an open; 't' a commit of a tree of one key; 'v' a commit of
-// its record alone; 'x' a commit after which no tree stands; 'b' a commit of a tree whose digest is another; 's' a greatest skip.
+// its record alone; 'x' a commit after which no tree stands; 'b' a commit of a tree whose digest is another; 's' a greatest skip; 'm' a mark.
 struct Log {
     blocks: &'static [(u8, u64)],
     // How many skips follow, of run 1.
@@ -23,7 +23,7 @@ struct Log {
     record: u64,
 }
 
-const LOGS: [Log; 9] = [
+const LOGS: [Log; 11] = [
     Log {
         blocks: &[],
         skips: 0,
@@ -90,6 +90,23 @@ const LOGS: [Log; 9] = [
         commits: 1,
         record: 1,
     },
+    // A mark leaves the rows as they are, and ends the list where it is of another run.
+    Log {
+        blocks: &[(b'o', 1), (b't', 1), (b'm', 1), (b'v', 1)],
+        skips: 0,
+        stamp: 79,
+        run: 1,
+        commits: 2,
+        record: 2,
+    },
+    Log {
+        blocks: &[(b'o', 1), (b't', 1), (b'm', 2), (b'v', 1)],
+        skips: 0,
+        stamp: 52,
+        run: 1,
+        commits: 1,
+        record: 1,
+    },
     // Over the ends of two segments.
     Log {
         blocks: &[(b'o', 1)],
@@ -123,6 +140,7 @@ fn block_of(letter: u8, run: u64, at: u64) -> Block {
     let rows = rows_of(letter);
     let (kind, seat, number, succ, n, size) = match letter {
         b'o' => (Kind::Open, 0, 0, 0, 0, 5),
+        b'm' => (Kind::Mark, 1, 1, 8, 0, 5),
         b's' => (Kind::OldSkip, 1, 1, 1, 128, 2181),
         b't' | b'b' => (Kind::OldCommit, 1, 1, 1, 2, 39),
         _ => (Kind::OldCommit, 1, 1, 1, 1, 22),
