@@ -1,5 +1,5 @@
 -- What an errand of a teller came to.
-use Rattle.std.proofs.Common.{◌≡◌, ℕ, zero, suc, ◌+◌, ◌<◌, ◌^◌, List, [], ◌∷◌, ◌++◌, length, Some, Result, Ok, Err, inl, inr, refl, sym, ap, ◌∙◌, subst, arith}
+use Rattle.std.proofs.Common.{◌≡◌, ℕ, zero, suc, ◌+◌, ◌<◌, ◌^◌, List, [], ◌∷◌, ◌++◌, length, Some, Result, Ok, Err, IfErr, IfOk, inl, inr, refl, sym, ap, ◌∙◌, subst, arith}
 use Rattle.std.proofs.lemmas.List.{length-append}
 use Rattle.std.specs.List.{slice_get}
 use Rattle.erm_accounts.specs.Totals.{AddUpTo}
@@ -7,22 +7,27 @@ use Rattle.erm_bank.specs.declared.teller.Errand.{Errand}
 use Rattle.erm_bank.specs.declared.teller.Errand.TheVariants as errand
 use Rattle.erm_bank.specs.declared.teller.Told.{Told}
 use Rattle.erm_bank.specs.declared.teller.Told.TheVariants as told
-use Rattle.erm_bank.specs.Tellers.{CameTo, DidAll, DidErrand, IsServing, IsShown}
+use Rattle.erm_bank.specs.Tellers.{CameTo, DidAll, DidErrand, IsServing, IsShown, Waits}
 use Rattle.erm_client.proofs.Commits.{all_went}
 use Rattle.erm_client.proofs.Stretched.{went_itself, went_then}
 use Rattle.erm_client.specs.Dealings.{AllCommitted, snapshots_told}
 use Rattle.erm_client.specs.declared.refusal.Refusal.{Refusal}
 use Rattle.erm_client.specs.declared.transcript.Transcript.{Transcript}
 use Rattle.erm_client.specs.Stretches.{Went}
+use Rattle.erm_client.specs.Transcripts.{IsAnswered, IsRefused}
 use Rattle.erm_machine.proofs.Listed.{∈-first, ∈-second}
 use Rattle.erm_model.proofs.Members.{none_in_nil, ∈-push}
 use Rattle.erm_model.specs.Committed.{Committed}
 use Rattle.erm_model.specs.Member.{◌∈◌}
 use Rattle.erm_model.specs.Run.{Step}
+use Rattle.erm_report.specs.declared.answer.Answer.TheVariants as answer
+use Rattle.erm_script.specs.declared.script.Command.{Command}
+use Rattle.erm_script.specs.declared.script.Command.TheVariants as command
 use Rattle.erm_tellers.specs.declared.tellers.Outcome.{Outcome}
 use Rattle.erm_tellers.specs.declared.tellers.Outcome.TheVariants.{Done, Short}
 use Rattle.erm_tellers.specs.declared.tellers.Task.{Task}
 use Rattle.erm_tellers.specs.declared.tellers.Task.TheVariants as task
+use Rattle.erm_tellers.specs.Plans.{IsAuditPlan, IsPlan}
 use Rattle.erm_tellers.specs.Served.{Audited, AuditedOnce, ServedOnce}
 use Rattle.erm_tellers.specs.Tellers.{IsOfTellers, Serves}
 use Rattle.erm_tellers.specs.Tries.{IsPassing, IsUnsafe, Tried, TriedInVain}
@@ -33,9 +38,9 @@ only x y (zero, at) = cc
 only x y (suc k, at) = absurd (none_in_nil y (k, at))
 
 -- by tries in vain nothing committed or ended
-vain_went : (Passing : Refusal → Type 0) (n : ℕ) (c d : Transcript) → TriedInVain Passing n c d → (begins : ℕ) × Went begins [] [] c d
-vain_went Passing zero c d vain = (0, subst (λ (x : Transcript). Went 0 [] [] c x) (sym vain) (went_itself c))
-vain_went Passing (suc n) c d (mid, why, vain, passing, gave) = let before = vain_went Passing n c mid vain in (before.0 + 1, went_then before.1 gave.went)
+vain_went : (Planned : List Command → Type 0) (Passing : Refusal → Type 0) (n : ℕ) (c d : Transcript) → TriedInVain Planned Passing n c d → (begins : ℕ) × Went begins [] [] c d
+vain_went Planned Passing zero c d vain = (0, subst (λ (x : Transcript). Went 0 [] [] c x) (sym vain) (went_itself c))
+vain_went Planned Passing (suc n) c d (mid, why, vain, passing, gave) = let before = vain_went Planned Passing n c mid vain in (before.0 + 1, went_then before.1 gave.went)
 
 -- TASKS
 task_once : (most : ℕ) (wanted : Task) (tells : Told) → ((low high total : ℕ) → tells ≡ told.Total low high total → ⊥) → (result : Result Outcome Refusal) (n : ℕ) (b c d : Transcript) → Went n [] [] b c
@@ -69,9 +74,9 @@ task_once most wanted tells none (Err why) n b c d went did came = record {
 }
 
 pub did_task : {InVain : Type 0} (wanted : Task) (tells : Told) → ((low high total : ℕ) → tells ≡ told.Total low high total → ⊥) → (result : Result Outcome Refusal) (most : ℕ) (c d : Transcript)
-    → Tried IsPassing (ServedOnce wanted result) InVain most c d → CameTo most (errand.Serve wanted) tells c d → DidErrand most (errand.Serve wanted) tells c d
+    → Tried (IsPlan wanted) IsPassing (ServedOnce wanted result) InVain most c d → CameTo most (errand.Serve wanted) tells c d → DidErrand most (errand.Serve wanted) tells c d
 did_task wanted tells none result most c d tried came =
-    let vain = vain_went IsPassing tried.vain c tried.before tried.in_vain in
+    let vain = vain_went (IsPlan wanted) IsPassing tried.vain c tried.before tried.in_vain in
     task_once most wanted tells none result vain.0 c tried.before d vain.1 tried.came_to came
 
 -- AUDITS
@@ -91,7 +96,7 @@ Found = List (ℕ × List ℕ)
 pub did_audit : (low high total : ℕ) (both : Found × Found) (most : ℕ) (c d : Transcript) → high < 2 ^ 64 → AddUpTo both.0 both.1 total
     → Audited low high most (Ok both) c d → DidErrand most (errand.Audit low high) (told.Total low high total) c d
 did_audit low high total both most c d below adds tried =
-    let vain = vain_went IsUnsafe tried.vain c tried.before tried.in_vain in
+    let vain = vain_went (IsAuditPlan low high) IsUnsafe tried.vain c tried.before tried.in_vain in
     let did = tried.came_to in
     record {
       begins = vain.0 + 1;
@@ -113,9 +118,9 @@ audit_went low high (Ok both) c d did = (did.snapshot ∷ [], did.went)
 audit_went low high (Err why) c d did = ([], did.went)
 
 pub did_look : {InVain : Type 0} (low high : ℕ) (tells : Told) → ((l h t : ℕ) → tells ≡ told.Total l h t → ⊥) → (result : Result (Found × Found) Refusal) (most : ℕ) (c d : Transcript)
-    → Tried IsUnsafe (AuditedOnce low high result) InVain most c d → CameTo most (errand.Audit low high) tells c d → DidErrand most (errand.Audit low high) tells c d
+    → Tried (IsAuditPlan low high) IsUnsafe (AuditedOnce low high result) InVain most c d → CameTo most (errand.Audit low high) tells c d → DidErrand most (errand.Audit low high) tells c d
 did_look low high tells none result most c d tried came =
-    let vain = vain_went IsUnsafe tried.vain c tried.before tried.in_vain in
+    let vain = vain_went (IsAuditPlan low high) IsUnsafe tried.vain c tried.before tried.in_vain in
     let did = audit_went low high result tried.before d tried.came_to in
     record {
       begins = vain.0 + 1;
@@ -176,6 +181,12 @@ module _ (most : ℕ) (errands : List Errand) (asked : Errand) (among : asked �
         | inl earlier ↦ shown_still low high total (snapshots_told c) did.snapshots (snapshots_told d) did.went.snapshots_are (all low high total earlier)
         | inr now ↦ shown_now low high total (snapshots_told c) did.snapshots (snapshots_told d) did.went.snapshots_are (did.shown low high total (sym now))
       ]
+
+-- a wait for the disk, by what it is answered
+pub waits_by : (c d : Transcript) (result : Result ℕ Refusal) → IfOk result (λ stamp. IsAnswered c command.Durable (answer.Durable stamp) d)
+    → IfErr result (λ why. IsRefused c command.Durable why d) → Waits c d
+waits_by c d (Ok stamp) ok err = inl (stamp, ok)
+waits_by c d (Err why) ok err = inr (why, err)
 
 -- Where nothing committed or ended, all stays.
 pub shows_still : (c d : Transcript) (n : ℕ) → Went n [] [] c d → (low high total : ℕ) → IsShown low high total (snapshots_told c) → IsShown low high total (snapshots_told d)

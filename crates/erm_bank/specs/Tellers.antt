@@ -1,5 +1,5 @@
 -- What tellers promise of what they do, and of what they tell.
-use Rattle.std.specs.Prelude.{◌≡◌, ℕ, ◌<◌, ◌≤◌, ◌^◌, List, [], ◌∷◌, Ok, Err, length, max, vec_capacity, vec_len}
+use Rattle.std.specs.Prelude.{◌≡◌, ℕ, ◌<◌, ◌≤◌, ◌^◌, ◌⊎◌, List, [], ◌∷◌, Ok, Err, length, max, min, vec_capacity, vec_len}
 use Rattle.erm_accounts.specs.Totals.{AddUpTo}
 use Rattle.erm_bank.specs.declared.teller.Errand.{Errand}
 use Rattle.erm_bank.specs.declared.teller.Errand.TheVariants as errand
@@ -10,10 +10,12 @@ use Rattle.erm_client.specs.Dealings.{AllCommitted, snapshots_told}
 use Rattle.erm_client.specs.declared.refusal.Refusal.{Refusal}
 use Rattle.erm_client.specs.declared.transcript.Transcript.{Transcript}
 use Rattle.erm_client.specs.Stretches.{Went}
-use Rattle.erm_client.specs.Transcripts.{IsNew}
+use Rattle.erm_client.specs.Transcripts.{IsAnswered, IsNew, IsRefused}
 use Rattle.erm_model.specs.Committed.{Committed}
 use Rattle.erm_model.specs.Member.{◌∈◌}
 use Rattle.erm_model.specs.Run.{Step}
+use Rattle.erm_report.specs.declared.answer.Answer.TheVariants as answer
+use Rattle.erm_script.specs.declared.script.Command.TheVariants as command
 use Rattle.erm_tellers.specs.declared.tellers.Task.{Task}
 use Rattle.erm_tellers.specs.declared.tellers.Task.TheVariants as task
 use Rattle.erm_tellers.specs.Denials.{HasNoTotal}
@@ -61,22 +63,27 @@ DidAll most [] errands c d = d ≡ c
 DidAll most (tells ∷ more) [] c d = ⊥
 DidAll most (tells ∷ more) (asked ∷ others) c d = (mid : Transcript) × CameTo most asked tells c mid × DidAll most more others mid d
 
--- So it was from where nothing had been asked up to a wait, in which nothing begins, commits or ends.
+-- It was asked whether the last commit is on the disk, which waits until it is, whatever was answered; and nothing else was asked.
+abbrev pub Waits : Transcript → Transcript → Type 0
+Waits c d = ((stamp : ℕ) × IsAnswered c command.Durable (answer.Durable stamp) d) ⊎ ((why : Refusal) × IsRefused c command.Durable why d)
+
+-- So it was from where nothing had been asked up to a wait for the disk.
 pub record DidInTurn (most : ℕ) (told : List Told) (errands : List Errand) (c : Transcript) : Type 0 where
   pub start : Transcript
   pub until : Transcript
   pub fresh : IsNew start.seat start
   pub did : DidAll most told errands start until
-  pub waited : Went 0 [] [] until c
+  pub waited : Waits until c
 
 -- THE PROMISE. The teller does his errands in turn, each in so many tries at most, and tells in its place what it came to: all of them, where there was room
--- for what he tells of them. Each transaction that his client committed served a task that he was asked for; and each total that he tells one of the client's
+-- for what he tells of them, and else as many as there was room for, at least. Then he waits for the disk. Each transaction that his client committed served a task that he was asked for; and each total that he tells one of the client's
 -- snapshots shows, which ended.
 pub record Promises (before after : Teller) (c : Transcript) : Type 0 where
   pub errands : after.errands ≡ before.errands
   pub tries : after.tries ≡ before.tries
   pub did : DidInTurn (max before.tries 1) after.told.items before.errands.items c
   pub all : vec_len before.errands ≤ vec_capacity before.told → length after.told.items ≡ length before.errands.items
+  pub least : min (vec_len before.errands) (vec_capacity before.told) ≤ length after.told.items
   pub serves : AllCommitted (IsServing before.errands.items) c
   pub shown : (low high total : ℕ) → told.Total low high total ∈ after.told.items → IsShown low high total (snapshots_told c)
 

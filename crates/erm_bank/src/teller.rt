@@ -1,6 +1,6 @@
 //! A teller as a program: what it is asked for, in turn, and what it tells of it.
-ghost use Rattle.std.specs.Prelude.{◌≡◌, ◌≤◌, [], IfOk, max, vec_capacity, vec_len};
-ghost use Rattle.erm_bank.specs.Tellers.{DidErrand, Promises};
+ghost use Rattle.std.specs.Prelude.{◌≡◌, ◌≤◌, [], IfOk, max, min, vec_capacity, vec_len};
+ghost use Rattle.erm_bank.specs.Tellers.{DidErrand, Promises, Waits};
 ghost use Rattle.erm_client.specs.Clients.{GoesOn, IsClient};
 ghost use Rattle.erm_client.specs.Dealings.{AllCommitted};
 ghost use Rattle.erm_client.specs.Stretches.{Went};
@@ -35,7 +35,7 @@ pub enum Told {
     Total { low: u64, high: u64, total: u128 },
     /// What was found of the customers has no total.
     NoTotal,
-    /// It was given up: memory ran out, or the client was told to stop, or one of its calls was refused. Where others were in its way, or the snapshot of an
+    /// It was given up: memory ran out, or the client was told to stop, or a call that it needs was refused. Where others were in its way, or the snapshot of an
     /// audit wasn't safe, it was tried as often as the teller tries.
     Refused,
 }
@@ -47,7 +47,8 @@ pub struct Teller {
     pub errands: Vec<Errand>,
     /// How often it tries what others are in the way of.
     pub tries: u32,
-    /// What it tells of its errands, in their order: of all, where there is room for it at first, and else of the first ones, and then it does no other.
+    /// What it tells of its errands, in their order: of all, where there is room for it at first, and else of the first ones, as many as there is room for at
+    /// least, and then it does no other.
     pub told: Vec<Told>,
 }
 
@@ -79,6 +80,7 @@ impl Teller {
         ensures few { result ≤ vec_len self.old.errands }
         ensures room { result ≤ vec_capacity self.new.told }
         ensures all { vec_len self.old.errands ≤ vec_capacity self.old.told → result ≡ vec_len self.old.errands }
+        ensures least { min (vec_len self.old.errands) (vec_capacity self.old.told) ≤ result }
     {
         self.told.clear();
         let many = self.errands.len();
@@ -154,6 +156,7 @@ fn wait_for_disk<'a, S: SafeSession, T: Turns, R: Wait>(rt: &R, client: &mut Cli
     requires client { IsClient S.stands S.seat S.own client.old }
     ensures on { GoesOn S.stands S.seat S.own S.ends T.told client.old client.new }
     ensures went { Went 0 [] [] client.old.transcript client.new.transcript }
+    ensures waited { Waits client.old.transcript client.new.transcript }
 {
     let _ = client.durable(rt);
 }

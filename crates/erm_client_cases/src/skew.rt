@@ -1,245 +1,192 @@
-//! Two withdrawals of which each finds enough, and that together leave too little: played on the engine, and on snapshots without exclusion.
-ghost use Rattle.erm_client.specs.Clients.{IsClient};
-ghost use Rattle.erm_node.specs.Sound.{sound_law};
-ghost use Rattle.erm_shared_session.specs.Stands.{Stands, own_of, seat_of};
+//! Two tellers of whom each finds enough to withdraw, and who together leave too little: the same transactions on the engine, and on snapshots without
+//! exclusion.
+ghost use Rattle.std.specs.Prelude.{◌≡◌};
+ghost use Rattle.erm_client.specs.Dealings.{AllCommitted};
+ghost use Rattle.erm_tellers.specs.Tellers.{IsOfTellers};
 
-use crate::calls::{number, value};
+use crate::calls::number;
 use crate::clients::{TableClient, finish, opened, two};
-use crate::planted::Snapshots;
-use erm_client::Refusal;
+use crate::planted::{CUSTOMER, Kept, Planted};
+use erm_client::{Commit, Refusal};
 use erm_engine::Opened;
-use erm_model::{Seat, TABLES, Value};
-use erm_tellers::{Side, taken};
+use erm_model::{Pairs, Stamp, Value};
+use erm_tellers::{
+    Holder, Outcome, Side, Task, Transactions, audit_in_transaction, serve, total_of,
+};
 use std::alloc::{AllocError, Global};
+use std::cell::Cell;
 use std::process::Abort;
 use std::sync::Wait;
 
-// The customer whose accounts they are.
-const CUSTOMER: u64 = 7;
-
-// What is kept of an account whose balance is zero: 2 ^ 63 is added to each balance.
+// What an account holds with nothing in it: 2 ^ 63 is added to each balance.
 const ZERO: u64 = 1 << 63;
 
 // What two accounts with nothing in them hold. A customer who has less than this in all owes more than he has.
 const NOTHING: u128 = 2 << 63;
 
-/// What is answered.
-#[derive(Clone, Copy, PartialEq, Eq)]
-pub enum Told {
+// What is deposited to both accounts of a customer, 100 in all.
+const DEPOSITS: [(Side, u64); 2] = [(Side::Current, 40), (Side::Savings, 60)];
+
+// What each of two tellers withdraws, from one of them.
+const AMOUNT: u64 = 100;
+
+// An account of the customer.
+fn account(side: Side) -> Holder {
+    Holder {
+        customer: CUSTOMER,
+        side,
+    }
+}
+
+// What a teller withdraws from it.
+fn withdrawal(side: Side) -> Task {
+    Task::Withdraw {
+        holder: account(side),
+        amount: AMOUNT,
+    }
+}
+
+// What a task came to.
+#[derive(Clone, Copy, Debug, PartialEq, Eq)]
+enum CameTo {
     Done,
     /// What was read doesn't cover the amount.
     Short,
     /// The transaction is excluded.
     Excluded,
-    /// Another one that committed since has written there.
-    Newer,
     /// It is refused otherwise.
     Refused,
 }
 
-/// Who keeps the accounts of a customer, for transactions of two sessions.
-pub trait Bank {
-    /// It may be asked.
-    ghost stands: { Self → Type 0 };
-
-    /// Begins a transaction of a session.
-    fn begin(&mut self, seat: Seat) -> Told
-        requires stands { stands self.old }
-        ensures stands { stands self.new };
-
-    /// What is kept of an account, as the session's transaction sees it.
-    fn read(&mut self, seat: Seat, side: Side) -> Result<Option<Value>, Told>
-        requires stands { stands self.old }
-        ensures stands { stands self.new };
-
-    /// Sets what is kept of it.
-    fn write(&mut self, seat: Seat, side: Side, value: Value) -> Told
-        requires stands { stands self.old }
-        ensures stands { stands self.new };
-
-    /// Commits the transaction.
-    fn commit(&mut self, seat: Seat) -> Told
-        requires stands { stands self.old }
-        ensures stands { stands self.new };
-}
-
-// What a bank is asked, by the transaction of a session.
-#[derive(Clone, Copy)]
-enum Ask {
-    Begin,
-    // To set an account to a balance.
-    Set(Side, u64),
-    // To take an amount from an account, as a teller does by what it reads of both.
-    Take(Side, u64),
-    Commit,
-}
-
-// A step: whose, what is asked, and what is to be answered.
-type Step = (Seat, Ask, Told);
-
-// Two accounts that have 100 in all. Each of two transactions takes 100 from one of them, which both accounts cover by what it reads. The first one commits,
-// and the second one is excluded.
-const STEPS: [Step; 10] = [
-    (1, Ask::Begin, Told::Done),
-    (1, Ask::Set(Side::Current, 40), Told::Done),
-    (1, Ask::Set(Side::Savings, 60), Told::Done),
-    (1, Ask::Commit, Told::Done),
-    (1, Ask::Begin, Told::Done),
-    (2, Ask::Begin, Told::Done),
-    (1, Ask::Take(Side::Current, 100), Told::Done),
-    (2, Ask::Take(Side::Savings, 100), Told::Done),
-    (1, Ask::Commit, Told::Done),
-    (2, Ask::Commit, Told::Excluded),
-];
-
-// Takes an amount from an account where what is read of both covers it.
-fn take<B: Bank>(bank: &mut B, seat: Seat, side: Side, amount: u64) -> Result<Told, Told>
-    requires stands { B.stands bank.old }
-    ensures stands { B.stands bank.new }
-{
-    let own = bank.read(seat, side)?;
-    let other = bank.read(seat, side.beside())?;
-    match taken(&own, &other, amount) {
-        Some(left) => Ok(bank.write(seat, side, left)),
-        None => Ok(Told::Short),
+fn came_to(outcome: Result<Outcome, Refusal>) -> CameTo {
+    match outcome {
+        Ok(Outcome::Done) => CameTo::Done,
+        Ok(Outcome::Short) => CameTo::Short,
+        Err(Refusal::Excluded { .. }) => CameTo::Excluded,
+        Err(_) => CameTo::Refused,
     }
 }
 
-// What a bank answers.
-fn answer<B: Bank>(bank: &mut B, seat: Seat, ask: Ask) -> Told
-    requires stands { B.stands bank.old }
-    ensures stands { B.stands bank.new }
-{
-    match ask {
-        Ask::Begin => bank.begin(seat),
-        Ask::Set(side, balance) => bank.write(seat, side, value(ZERO | balance)),
-        Ask::Take(side, amount) => match take(bank, seat, side, amount) {
-            Ok(told) => told,
-            Err(told) => told,
-        },
-        Ask::Commit => bank.commit(seat),
-    }
+// Two tellers: before the first one's next commit the second one does a task, if there is one.
+struct Beside<X: Transactions> {
+    first: X,
+    second: X,
+    task: Option<Task>,
+    // What the task of the second one came to.
+    other: Option<CameTo>,
 }
 
-// Takes all steps, whatever is answered: the place of the first one that is answered otherwise.
-fn first_other<B: Bank>(bank: &mut B) -> Option<usize>
-    requires stands { B.stands bank.old }
-    ensures stands { B.stands bank.new }
-{
-    let mut first = None;
-    for place in 0..STEPS.len() {
-        let (seat, ask, want) = STEPS[place];
-        if answer(bank, seat, ask) != want && first.is_none() {
-            first = Some(place);
+impl<X: Transactions> Beside<X> {
+    // Lets the second one do its task.
+    fn pass<R: Wait>(&mut self, rt: &R)
+        requires stands { X.stands self.old.second }
+        requires kept { AllCommitted IsOfTellers (X.transcript self.old.second) }
+        ensures stands { X.stands self.new.second }
+        ensures kept { AllCommitted IsOfTellers (X.transcript self.new.second) }
+        ensures same { self.new.first ≡ self.old.first }
+    {
+        if let Some(task) = self.task {
+            self.task = None;
+            self.other = Some(came_to(serve(rt, &mut self.second, task, 1)));
         }
     }
-    first
 }
 
-// What an account holds, with 2 ^ 63 added.
-fn held(kept: &Option<Value>) -> u64 {
-    match kept {
-        Some(value) => number(value),
+impl<X: Transactions> Transactions for Beside<X> {
+    ghost use Rattle.erm_client.specs.Dealings.{AllCommitted};
+    ghost use Rattle.erm_tellers.specs.Tellers.{IsOfTellers};
+
+    ghost stands = { λ both. X.stands both.first × X.stands both.second × AllCommitted IsOfTellers (X.transcript both.second) };
+
+    ghost transcript = { λ both. X.transcript both.first };
+
+    ghost rests = { λ both. X.rests both.first };
+
+    ghost goes = { λ before after. X.goes before.first after.first };
+
+    fn begin<R: Wait>(&mut self, rt: &R) -> Result<Stamp, Refusal> {
+        self.first.begin(rt)
+    }
+
+    fn get<R: Wait>(&mut self, rt: &R, table: u8, key: u64) -> Result<Option<Value>, Refusal> {
+        self.first.get(rt, table, key)
+    }
+
+    fn put<R: Wait>(&mut self, rt: &R, table: u8, key: u64, value: Value) -> Result<(), Refusal> {
+        self.first.put(rt, table, key, value)
+    }
+
+    fn scan<R: Wait>(&mut self, rt: &R, table: u8, low: u64, high: u64) -> Result<Pairs, Refusal> {
+        self.first.scan(rt, table, low, high)
+    }
+
+    fn commit<R: Wait>(&mut self, rt: &R) -> Result<Commit, Refusal> {
+        self.pass(rt);
+        self.first.commit(rt)
+    }
+
+    fn abort<R: Wait>(&mut self, rt: &R) -> Result<(), Refusal> {
+        self.first.abort(rt)
+    }
+
+    ghost told = { λ both stands. X.told both.first stands.0 };
+
+    ghost goes_on = { λ x y z first second. X.goes_on x.first y.first z.first first second };
+}
+
+// What was seen: what both withdrawals came to, the total that an audit of the customer shows then, and what both accounts hold, with 2 ^ 63 added for each.
+#[derive(Clone, Copy, Debug, PartialEq, Eq)]
+struct Seen {
+    first: CameTo,
+    second: Option<CameTo>,
+    total: Option<u128>,
+    held: u128,
+}
+
+// What an account holds, with 2 ^ 63 added, by what an audit found of it.
+fn held(found: &Pairs) -> u64 {
+    match found.as_slice().first() {
+        Some(pair) => number(&pair.1),
         None => ZERO,
     }
 }
 
-// What both accounts hold in all, with 2 ^ 63 added for each, as a new transaction reads them.
-fn sum<B: Bank>(bank: &mut B) -> Option<u128>
-    requires stands { B.stands bank.old }
-    ensures stands { B.stands bank.new }
+// Both withdraw, the second one just before the first one commits, which tries so often.
+fn withdraw<X: Transactions, R: Wait>(rt: &R, both: &mut Beside<X>, tries: u32) -> Option<Seen>
+    requires first { X.stands both.old.first }
+    requires first_kept { AllCommitted IsOfTellers (X.transcript both.old.first) }
+    requires second { X.stands both.old.second }
+    requires second_kept { AllCommitted IsOfTellers (X.transcript both.old.second) }
+    ensures first { X.stands both.new.first }
+    ensures second { X.stands both.new.second }
 {
-    if bank.begin(1) != Told::Done {
-        return None;
-    }
-    let current = bank.read(1, Side::Current).ok()?;
-    let savings = bank.read(1, Side::Savings).ok()?;
-    let _ = bank.commit(1);
-    Some(u128::from(held(&current)) + u128::from(held(&savings)))
-}
-
-// What a call tells that gives nothing more.
-fn done<X: Drop>(answer: Result<X, Refusal>) -> Told {
-    match answer {
-        Ok(_) => Told::Done,
-        Err(Refusal::Excluded { .. }) => Told::Excluded,
-        Err(Refusal::Newer { .. }) => Told::Newer,
-        Err(_) => Told::Refused,
-    }
-}
-
-// Reads an account of the customer by a client.
-fn read_by<'a, R: Wait>(
-    rt: &R,
-    client: &mut TableClient<'a>,
-    side: Side,
-) -> Result<Option<Value>, Told>
-    requires client { IsClient (λ x s. Stands sound_law x s) seat_of own_of client.old }
-    ensures client { IsClient (λ x s. Stands sound_law x s) seat_of own_of client.new }
-{
-    let table = side.table();
-    if table >= TABLES {
-        return Err(Told::Refused);
-    }
-    client.get(rt, table, CUSTOMER).map_err(|_| Told::Refused)
-}
-
-// Sets it.
-fn write_by<'a, R: Wait>(rt: &R, client: &mut TableClient<'a>, side: Side, value: Value) -> Told
-    requires client { IsClient (λ x s. Stands sound_law x s) seat_of own_of client.old }
-    ensures client { IsClient (λ x s. Stands sound_law x s) seat_of own_of client.new }
-{
-    let table = side.table();
-    if table >= TABLES {
-        return Told::Refused;
-    }
-    done(client.put(rt, table, CUSTOMER, value))
-}
-
-// The engine: a client for each session.
-struct Clients<'r, 'a, R: Wait> {
-    rt: &'r R,
-    first: TableClient<'a>,
-    second: TableClient<'a>,
-}
-
-impl<'r, 'a, R: Wait> Bank for Clients<'r, 'a, R> {
-    ghost stands = { λ bank. IsClient (λ x s. Stands sound_law x s) seat_of own_of bank.first × IsClient (λ x s. Stands sound_law x s) seat_of own_of bank.second };
-
-    fn begin(&mut self, seat: Seat) -> Told {
-        match seat {
-            1 => done(self.first.begin(self.rt)),
-            _ => done(self.second.begin(self.rt)),
+    for place in 0..DEPOSITS.len() {
+        let (side, amount) = DEPOSITS[place];
+        let deposit = Task::Deposit {
+            holder: account(side),
+            amount,
+        };
+        if came_to(serve(rt, both, deposit, 1)) != CameTo::Done {
+            return None;
         }
     }
-
-    fn read(&mut self, seat: Seat, side: Side) -> Result<Option<Value>, Told> {
-        match seat {
-            1 => read_by(self.rt, &mut self.first, side),
-            _ => read_by(self.rt, &mut self.second, side),
-        }
-    }
-
-    fn write(&mut self, seat: Seat, side: Side, value: Value) -> Told {
-        match seat {
-            1 => write_by(self.rt, &mut self.first, side, value),
-            _ => write_by(self.rt, &mut self.second, side, value),
-        }
-    }
-
-    fn commit(&mut self, seat: Seat) -> Told {
-        match seat {
-            1 => done(self.first.commit(self.rt)),
-            _ => done(self.second.commit(self.rt)),
-        }
-    }
+    both.task = Some(withdrawal(Side::Savings));
+    let first = came_to(serve(rt, both, withdrawal(Side::Current), tries));
+    let (current, savings) = audit_in_transaction(rt, both, CUSTOMER, CUSTOMER).ok()?;
+    Some(Seen {
+        first,
+        second: both.other,
+        total: total_of(&current, &savings),
+        held: u128::from(held(&current)) + u128::from(held(&savings)),
+    })
 }
 
-// Plays the steps on the engine: the first one that is answered otherwise, and what both accounts hold then.
+// On the engine.
 fn on_engine<R: Wait + Abort>(
     rt: &R,
     alloc: Global,
-) -> Result<(Option<usize>, Option<u128>), AllocError> {
+    tries: u32,
+) -> Result<Option<Seen>, AllocError> {
     let Opened {
         table,
         sessions,
@@ -247,27 +194,61 @@ fn on_engine<R: Wait + Abort>(
         flush: _,
     } = opened(rt, alloc)?;
     let (first, second) = two(alloc, &table, sessions);
-    let mut bank = Clients { rt, first, second };
-    let other = first_other(&mut bank);
-    let sum = sum(&mut bank);
-    let Clients {
-        rt: _,
+    let mut both = Beside {
         first,
         second,
-    } = bank;
+        task: None,
+        other: None,
+    };
+    let seen = withdraw(rt, &mut both, tries);
+    let Beside {
+        first,
+        second,
+        task: _,
+        other: _,
+    } = both;
     let _ = finish(rt, first);
     let _ = finish(rt, second);
-    Ok((other, sum))
+    Ok(seen)
 }
 
-// The engine excludes the second one, and leaves the customer with nothing. Snapshots alone let it commit, and he owes 100.
+// On snapshots without exclusion.
+fn on_snapshots<R: Wait>(rt: &R, alloc: Global, tries: u32) -> Option<Seen> {
+    let kept = Cell::new(Kept::nothing());
+    let mut both = Beside {
+        first: Planted::new(alloc, &kept, 1),
+        second: Planted::new(alloc, &kept, 2),
+        task: None,
+        other: None,
+    };
+    let seen = withdraw(rt, &mut both, tries);
+    let Beside {
+        first: _,
+        second: _,
+        task: _,
+        other: _,
+    } = both;
+    seen
+}
+
+// The engine excludes the first one, which tried again finds too little: the customer is left with nothing. Snapshots alone let both commit, and he owes 100.
 #[test]
 fn the_engine_excludes_one_of_two_skewed_withdrawals(rt: HostRuntime) -> Result<(), AllocError> {
-    let (other, sum_there) = on_engine(&rt, rt.alloc())?;
-    assert_eq!(rt; other, None);
-    assert_eq!(rt; sum_there, Some(NOTHING));
-    let mut bank = Snapshots::new();
-    assert_eq!(rt; first_other(&mut bank), Some(STEPS.len() - 1));
-    assert_eq!(rt; sum(&mut bank), Some(NOTHING - 100));
+    for (tries, first) in [(1, CameTo::Excluded), (2, CameTo::Short)] {
+        let solvent = Seen {
+            first,
+            second: Some(CameTo::Done),
+            total: Some(0),
+            held: NOTHING,
+        };
+        assert_eq!(rt; on_engine(&rt, rt.alloc(), tries)?, Some(solvent));
+        let owing = Seen {
+            first: CameTo::Done,
+            second: Some(CameTo::Done),
+            total: None,
+            held: NOTHING - 100,
+        };
+        assert_eq!(rt; on_snapshots(&rt, rt.alloc(), tries), Some(owing));
+    }
     Ok(())
 }

@@ -1,5 +1,5 @@
 -- What a client's calls say of the transaction in progress, and of the stretch of its transcript.
-use Rattle.std.proofs.Common.{◌≡◌, ℕ, ◌+◌, List, [], ◌∷◌, ◌++◌, Option, Some, None, Result, Ok, Err, IfErr, IfOk, OnOk, refl, sym, ap, ◌∙◌, subst}
+use Rattle.std.proofs.Common.{◌≡◌, ℕ, ◌+◌, List, [], ◌∷◌, ◌++◌, Option, Some, None, Result, Ok, Err, IfErr, IfOk, OnOk, inl, inr, refl, sym, ap, ◌∙◌, subst}
 use Rattle.std.specs.Option.{option_map, option_to_list}
 use Rattle.erm_accounts.specs.Accounts.{Account, reads, table_of, writes}
 use Rattle.erm_client.proofs.Dealt.{at_begun, at_replied, dealt_answered, safe_begun, safe_replied}
@@ -9,8 +9,8 @@ use Rattle.erm_client.specs.Dealings.{HasNone, IsAt, IsSafeAt, begins_by, begins
 use Rattle.erm_client.specs.declared.refusal.Refusal.{Refusal}
 use Rattle.erm_client.specs.declared.replies.Commit.{Commit}
 use Rattle.erm_client.specs.declared.transcript.Transcript.{Transcript}
-use Rattle.erm_client.specs.Refusals.{MayTell}
-use Rattle.erm_client.specs.Stretches.{WasRefused, Went}
+use Rattle.erm_client.specs.Refusals.{IsRefusal, MayTell}
+use Rattle.erm_client.specs.Stretches.{Went}
 use Rattle.erm_client.specs.Transcripts.{IsAnswered, IsRefused, IsTranscript, IsUnended}
 use Rattle.erm_client.specs.Transcripts as transcripts
 use Rattle.erm_good_report.specs.Transactions.{Commits, Progress, Transaction, with_ending}
@@ -21,9 +21,10 @@ use Rattle.erm_report.specs.declared.answer.Answer.{Answer}
 use Rattle.erm_report.specs.declared.answer.Answer.TheVariants as answer
 use Rattle.erm_script.specs.declared.script.Command.{Command}
 use Rattle.erm_script.specs.declared.script.Command.TheVariants as command
+use Rattle.erm_tellers.specs.Plans.{Aborts, IsDone}
 use Rattle.erm_tellers.specs.Served as served
 use Rattle.erm_tellers.specs.Tellers.{CommittedAt, finds}
-use Rattle.erm_tellers.specs.Tries.{Begun, GaveUp}
+use Rattle.erm_tellers.specs.Tries.{IsUnderWay, Refuses}
 
 -- an answer that tells neither a commit nor that a snapshot has ended
 abbrev pub IsPlain : Answer → Type 0
@@ -49,27 +50,43 @@ module _ (c d : Transcript) (ok : IsTranscript c) where
   done_by P asked (Ok y) plain never answered refused = went_answered c d ok asked P (plain_commit P plain) (plain_end c P plain) answered
   done_by P asked (Err why) plain never answered refused = went_refused c d ok asked why (never_ends c asked why never) refused
 
-  pub refused_by : {Y : Type 0} (asked : Command) (result : Result Y Refusal) → IfErr result (λ why. IsRefused c asked why d) → IfErr result (λ why. WasRefused why c d)
-  refused_by asked (Ok y) refused = tt
-  refused_by asked (Err why) refused = refused_now c d ok asked why refused
+  -- how it is refused, whatever the command is called
+  refuses : (asked : Command) (why : Refusal) → IsRefused c asked why d → Refuses asked why c d
+  refuses asked why it = record {
+    refused = it;
+    counted = λ by. let answered = answers_refuse c d asked why by it in begins_answered c d asked answered.0 answered.1;
+    standing_so = (refused_now c d ok asked why it).standing_so;
+  }
 
-  -- a begin that was answered was asked once, and so was one that was refused by an answer
-  pub begun_by : {Y : Type 0} (P : Y → Answer) (asked : Command) (result : Result Y Refusal) → ((y : Y) → IsPlain (P y)) → begins_by asked ≡ 1
-      → IfOk result (λ y. IsAnswered c asked (P y) d) → OnOk result (Begun c d)
-  begun_by P asked (Ok y) plain one answered = record {
+  pub refused_by : {Y : Type 0} (asked named : Command) (result : Result Y Refusal) → asked ≡ named → IfErr result (λ why. IsRefused c asked why d) → IfErr result (λ why. Refuses named why c d)
+  refused_by asked named (Ok y) is refused = tt
+  refused_by asked named (Err why) is refused = subst (λ (x : Command). Refuses x why c d) is (refuses asked why refused)
+
+  -- and how it is done, by an answer that is no refusal
+  pub granted_by : {Y : Type 0} (P : Y → Answer) (asked named : Command) (result : Result Y Refusal) → ((y : Y) → IsRefusal (P y) → ⊥) → asked ≡ named
+      → IfOk result (λ y. IsAnswered c asked (P y) d) → OnOk result (IsDone named c d)
+  granted_by P asked named (Ok y) granted is answered = subst (λ (x : Command). IsDone x c d) is (record { answer = P y; answered = answered; granted = granted y })
+  granted_by P asked named (Err why) granted is answered = tt
+
+  pub granted_so : (P : Answer) (asked named : Command) (result : Result (Unit {0}) Refusal) → (IsRefusal P → ⊥) → asked ≡ named → OnOk result (IsAnswered c asked P d)
+      → OnOk result (IsDone named c d)
+  granted_so P asked named (Ok y) granted is answered = subst (λ (x : Command). IsDone x c d) is (record { answer = P; answered = answered; granted = granted })
+  granted_so P asked named (Err why) granted is answered = tt
+
+  -- a begin that was answered was asked once
+  pub begun_by : {Y : Type 0} (P : Y → Answer) (asked : Command) (result : Result Y Refusal) → ((y : Y) → IsPlain (P y)) → ((y : Y) → IsRefusal (P y) → ⊥) → begins_by asked ≡ 1
+      → IfOk result (λ y. IsAnswered c asked (P y) d) → OnOk result (IsUnderWay (asked ∷ []) c d)
+  begun_by P asked (Ok y) plain granted one answered = record {
+    did = (d, record { answer = P y; answered = answered; granted = granted y }, refl);
     went = subst (λ (n : ℕ). Went n [] [] c d) one (went_answered c d ok asked (P y) (plain_commit (P y) (plain y)) (plain_end c (P y) (plain y)) answered);
     once = begins_answered c d asked (P y) answered ∙ ap (λ (n : ℕ). begins_in c + n) one;
   }
-  begun_by P asked (Err why) plain one answered = tt
+  begun_by P asked (Err why) plain granted one answered = tt
 
-  pub gave_by : {Y : Type 0} (asked : Command) (result : Result Y Refusal) → (MayTell asked answer.Ended → ⊥) → begins_by asked ≡ 1
-      → IfErr result (λ why. IsRefused c asked why d) → IfErr result (λ why. GaveUp why c d)
-  gave_by asked (Ok y) never one refused = tt
-  gave_by asked (Err why) never one refused = record {
-    refused = refused_now c d ok asked why refused;
-    went = subst (λ (n : ℕ). Went n [] [] c d) one (went_refused c d ok asked why (never_ends c asked why never) refused);
-    begun = λ by. let it = answers_refuse c d asked why by refused in begins_answered c d asked it.0 it.1 ∙ ap (λ (n : ℕ). begins_in c + n) one;
-  }
+  -- an abort
+  pub aborted_by : (result : Result (Unit {0}) Refusal) → OnOk result (IsAnswered c command.Abort answer.Aborted d) → IfErr result (λ why. IsRefused c command.Abort why d) → Aborts c d
+  aborted_by (Ok y) answered refused = inl answered
+  aborted_by (Err why) answered refused = inr (why, refused)
 
   -- a commit that is refused in a transaction
   pub undone_by : {Y : Type 0} (result : Result Y Refusal) → IfErr result (λ why. IsRefused c command.Commit why d) → IfErr result (λ _. (steps : List Step) → IsAt c steps → Went 0 [] [] c d)
@@ -82,12 +99,12 @@ module _ (c d : Transcript) (ok : IsTranscript c) where
   unended_by (Err why) unended = went_unended c d ok why unended
 
   pub why_unended : {Y : Type 0} (result : Result Y Refusal) → IfErr result (λ why. IsUnended c why d)
-      → IfErr result (λ why. (begin : ℕ) (steps : List Step) → IsSafeAt c begin steps → WasRefused why c d)
+      → IfErr result (λ why. (begin : ℕ) (steps : List Step) → IsSafeAt c begin steps → Refuses command.Commit why c d)
   why_unended (Ok y) unended = tt
   why_unended (Err why) unended = λ begin steps at. of at unended
     where
-      of : {begin : ℕ} {steps : List Step} → IsSafeAt c begin steps → IsUnended c why d → WasRefused why c d
-      of at (transcripts.refused it other) = refused_now c d ok command.Commit why it
+      of : {begin : ℕ} {steps : List Step} → IsSafeAt c begin steps → IsUnended c why d → Refuses command.Commit why c d
+      of at (transcripts.refused it other) = refuses command.Commit why it
       of at (transcripts.none is none same) = absurd (let so : Some at.current ≡ None = sym at.is ∙ none in cc)
 
 module _ (c d : Transcript) (ok : IsTranscript c) where

@@ -7,6 +7,7 @@ mod laws;
 mod shown;
 mod side;
 mod tellers;
+mod transactions;
 
 pub use audits::{audit, audit_in_transaction};
 pub use laws::{
@@ -18,3 +19,4 @@ pub use laws::{
 pub use shown::total_of;
 pub use side::{Side, taken};
 pub use tellers::{Holder, Outcome, Task, serve};
+pub use transactions::Transactions;

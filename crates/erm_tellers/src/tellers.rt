@@ -1,22 +1,17 @@
 //! What a teller is asked for.
 ghost use Rattle.std.specs.Prelude.{◌≡◌, ◌≢◌, ◌+◌, ◌≤◌, ◌^◌, ◌⊎◌, IfNone, IfSome, IsErrAnd, Some, false, max, true};
 ghost use Rattle.erm_accounts.specs.Accounts.{IsBalance, raised};
-ghost use Rattle.erm_client.specs.Clients.{GoesOn, IsClient, Rests};
 ghost use Rattle.erm_client.specs.Dealings.{AllCommitted};
-ghost use Rattle.erm_model.specs.RowTransaction.{SameLaw};
-ghost use Rattle.erm_node.specs.Sound.{sound_law};
 ghost use Rattle.erm_tellers.specs.Denials.{MayNotAdd, MayNotTake};
-ghost use Rattle.erm_tellers.specs.Served.{Served, ServedOnce};
+ghost use Rattle.erm_tellers.specs.Served.{Attempted, Served, ServedOnce};
 ghost use Rattle.erm_tellers.specs.Tellers.{IsOfTellers, Serves, WasDone};
 ghost use Rattle.erm_tellers.specs.Tries.{IsPassing};
 
-use crate::Side;
-use crate::dealing::{begin, commit, give_up, read, write};
+use crate::dealing::{begin, commit, give_up, read, read_beside, write};
 use crate::side::{added, taken};
-use erm_beside::SafeSession;
-use erm_client::{Client, Refusal};
+use crate::{Side, Transactions};
+use erm_client::Refusal;
 use erm_model::Value;
-use erm_worker::Turns;
 use std::sync::Wait;
 
 /// An account: whose, and which of the two.
@@ -53,7 +48,7 @@ pub enum Task {
 pub enum Outcome {
     /// It was done, and committed.
     Done,
-    /// What is kept of the accounts doesn't allow it. Nothing was done.
+    /// What was read of the accounts doesn't allow it. Nothing was done.
     Short,
 }
 
@@ -77,21 +72,21 @@ fn is_passing(outcome: &Result<Outcome, Refusal>) -> bool
 }
 
 // Lowers an account where both of the customer cover the amount.
-fn take<'a, S: SafeSession, T: Turns, R: Wait>(
+fn take<X: Transactions, R: Wait>(
     rt: &R,
-    client: &mut Client<'a, S, T>,
+    client: &mut X,
     holder: Holder,
     amount: u64,
 ) -> Result<Outcome, Refusal>
-    requires law { SameLaw S.law sound_law }
-    requires client { IsClient S.stands S.seat S.own client.old }
-    ensures on { GoesOn S.stands S.seat S.own S.ends T.told client.old client.new }
-    ensures ended { ServedOnce (Task.Withdraw holder amount) result client.old.transcript client.new.transcript }
-    ensures rests { result ≡ Ok Outcome.Done → Rests S.seat S.own client.new }
+    requires stands { X.stands client.old }
+    ensures stands { X.stands client.new }
+    ensures on { X.goes client.old client.new }
+    ensures came_to { Attempted (Task.Withdraw holder amount) result (X.transcript client.old) (X.transcript client.new) }
+    ensures rests { result ≡ Ok Outcome.Done → X.rests client.new }
 {
     begin(rt, client)?;
     let own = read(rt, client, holder.side, holder.customer)?;
-    let other = read(rt, client, holder.side.beside(), holder.customer)?;
+    let other = read_beside(rt, client, holder.side, holder.customer)?;
     let Some(left) = taken(&own, &other, amount) else {
         return Ok(Outcome::Short);
     };
@@ -101,17 +96,17 @@ fn take<'a, S: SafeSession, T: Turns, R: Wait>(
 }
 
 // Raises an account.
-fn add<'a, S: SafeSession, T: Turns, R: Wait>(
+fn add<X: Transactions, R: Wait>(
     rt: &R,
-    client: &mut Client<'a, S, T>,
+    client: &mut X,
     holder: Holder,
     amount: u64,
 ) -> Result<Outcome, Refusal>
-    requires law { SameLaw S.law sound_law }
-    requires client { IsClient S.stands S.seat S.own client.old }
-    ensures on { GoesOn S.stands S.seat S.own S.ends T.told client.old client.new }
-    ensures ended { ServedOnce (Task.Deposit holder amount) result client.old.transcript client.new.transcript }
-    ensures rests { result ≡ Ok Outcome.Done → Rests S.seat S.own client.new }
+    requires stands { X.stands client.old }
+    ensures stands { X.stands client.new }
+    ensures on { X.goes client.old client.new }
+    ensures came_to { Attempted (Task.Deposit holder amount) result (X.transcript client.old) (X.transcript client.new) }
+    ensures rests { result ≡ Ok Outcome.Done → X.rests client.new }
 {
     begin(rt, client)?;
     let own = read(rt, client, holder.side, holder.customer)?;
@@ -149,22 +144,22 @@ fn moved(
 }
 
 // Lowers an account of the one customer, where both of his cover the amount, and raises one of another.
-fn transfer<'a, S: SafeSession, T: Turns, R: Wait>(
+fn transfer<X: Transactions, R: Wait>(
     rt: &R,
-    client: &mut Client<'a, S, T>,
+    client: &mut X,
     payer: Holder,
     payee: Holder,
     amount: u64,
 ) -> Result<Outcome, Refusal>
-    requires law { SameLaw S.law sound_law }
-    requires client { IsClient S.stands S.seat S.own client.old }
-    ensures on { GoesOn S.stands S.seat S.own S.ends T.told client.old client.new }
-    ensures ended { ServedOnce (Task.Transfer payer payee amount) result client.old.transcript client.new.transcript }
-    ensures rests { result ≡ Ok Outcome.Done → Rests S.seat S.own client.new }
+    requires stands { X.stands client.old }
+    ensures stands { X.stands client.new }
+    ensures on { X.goes client.old client.new }
+    ensures came_to { Attempted (Task.Transfer payer payee amount) result (X.transcript client.old) (X.transcript client.new) }
+    ensures rests { result ≡ Ok Outcome.Done → X.rests client.new }
 {
     begin(rt, client)?;
     let own = read(rt, client, payer.side, payer.customer)?;
-    let other = read(rt, client, payer.side.beside(), payer.customer)?;
+    let other = read_beside(rt, client, payer.side, payer.customer)?;
     let there = read(rt, client, payee.side, payee.customer)?;
     let Some(both) = moved(payer, payee, amount, &own, &other, &there) else {
         return Ok(Outcome::Short);
@@ -177,16 +172,12 @@ fn transfer<'a, S: SafeSession, T: Turns, R: Wait>(
 }
 
 // Does what is asked for, once.
-fn attempt<'a, S: SafeSession, T: Turns, R: Wait>(
-    rt: &R,
-    client: &mut Client<'a, S, T>,
-    task: Task,
-) -> Result<Outcome, Refusal>
-    requires law { SameLaw S.law sound_law }
-    requires client { IsClient S.stands S.seat S.own client.old }
-    ensures on { GoesOn S.stands S.seat S.own S.ends T.told client.old client.new }
-    ensures ended { ServedOnce task result client.old.transcript client.new.transcript }
-    ensures rests { result ≡ Ok Outcome.Done → Rests S.seat S.own client.new }
+fn attempt<X: Transactions, R: Wait>(rt: &R, client: &mut X, task: Task) -> Result<Outcome, Refusal>
+    requires stands { X.stands client.old }
+    ensures stands { X.stands client.new }
+    ensures on { X.goes client.old client.new }
+    ensures came_to { Attempted task result (X.transcript client.old) (X.transcript client.new) }
+    ensures rests { result ≡ Ok Outcome.Done → X.rests client.new }
 {
     match task {
         Task::Withdraw { holder, amount } => take(rt, client, holder, amount),
@@ -200,16 +191,16 @@ fn attempt<'a, S: SafeSession, T: Turns, R: Wait>(
 }
 
 // The same, which leaves no transaction in progress.
-fn try_once<'a, S: SafeSession, T: Turns, R: Wait>(
+fn try_once<X: Transactions, R: Wait>(
     rt: &R,
-    client: &mut Client<'a, S, T>,
+    client: &mut X,
     task: Task,
 ) -> Result<Outcome, Refusal>
-    requires law { SameLaw S.law sound_law }
-    requires client { IsClient S.stands S.seat S.own client.old }
-    ensures on { GoesOn S.stands S.seat S.own S.ends T.told client.old client.new }
-    ensures ended { ServedOnce task result client.old.transcript client.new.transcript }
-    ensures rests { Rests S.seat S.own client.new }
+    requires stands { X.stands client.old }
+    ensures stands { X.stands client.new }
+    ensures on { X.goes client.old client.new }
+    ensures ended { ServedOnce task result (X.transcript client.old) (X.transcript client.new) }
+    ensures rests { X.rests client.new }
 {
     let outcome = attempt(rt, client, task);
     if is_done(&outcome) {
@@ -220,8 +211,9 @@ fn try_once<'a, S: SafeSession, T: Turns, R: Wait>(
 }
 
 /// Does what is asked for. It is tried again while another session is in its way, so often in all, and once at least: what is given up because of another
-/// session was tried as often as that. Whatever it answers, it leaves nothing in progress, unless memory ran out within a line; and a transaction that the
-/// client had in progress before is given up.
+/// session was tried as often as that. A try begins, reads what the task needs, and where that allows it writes what changes, and commits; it goes on until
+/// one of these calls is refused, and asks for nothing else, but that what isn't done is aborted. Whatever it answers, it leaves nothing in progress, unless
+/// memory ran out within a line; and a transaction that the client had in progress before is given up.
 ///
 /// ```text
 /// match serve(rt, client, Task::Deposit { holder, amount: 100 }, 3) {
@@ -230,20 +222,20 @@ fn try_once<'a, S: SafeSession, T: Turns, R: Wait>(
 ///     Err(why) => return Err(why),
 /// }
 /// ```
-pub fn serve<'a, S: SafeSession, T: Turns, R: Wait>(
+pub fn serve<X: Transactions, R: Wait>(
     rt: &R,
-    client: &mut Client<'a, S, T>,
+    client: &mut X,
     task: Task,
     tries: u32,
 ) -> Result<Outcome, Refusal>
-    requires law { SameLaw S.law sound_law }
-    requires client { IsClient S.stands S.seat S.own client.old }
-    requires kept { AllCommitted IsOfTellers client.old.transcript }
-    ensures on { GoesOn S.stands S.seat S.own S.ends T.told client.old client.new }
-    ensures kept { AllCommitted IsOfTellers client.new.transcript }
-    ensures ended { Served task (max tries 1) result client.old.transcript client.new.transcript }
-    ensures done { result ≡ Ok Outcome.Done → WasDone (Serves task) client.new.transcript }
-    ensures rests { Rests S.seat S.own client.new }
+    requires stands { X.stands client.old }
+    requires kept { AllCommitted IsOfTellers (X.transcript client.old) }
+    ensures stands { X.stands client.new }
+    ensures on { X.goes client.old client.new }
+    ensures kept { AllCommitted IsOfTellers (X.transcript client.new) }
+    ensures ended { Served task (max tries 1) result (X.transcript client.old) (X.transcript client.new) }
+    ensures done { result ≡ Ok Outcome.Done → WasDone (Serves task) (X.transcript client.new) }
+    ensures rests { X.rests client.new }
 {
     let mut outcome = try_once(rt, client, task);
     'tries: for _tried in 1..tries {

@@ -1,43 +1,36 @@
 use Rattle.std.proofs.Common.{[], ◌∷◌, refl}
 use Rattle.erm_accounts.specs.Accounts.{Current, Savings}
-use Rattle.erm_tellers.proofs.Behind.{begun_then, did_audit_in_transaction, gave_up, goes, tracked_no}
+use Rattle.erm_script.specs.declared.script.Command.TheVariants as command
+use Rattle.erm_tellers.proofs.Behind.{did_audit_in_transaction, found_no, held_at_once, held_up, way_on}
 use Rattle.erm_tellers.proofs.audits.track.Goals as goal
+use Rattle.erm_tellers.specs.Plans.{IsPlanInTransaction, scans}
 use Rattle.erm_tellers.specs.Tellers.{finds}
 
-pub returns-in_err-begin-clause-ended : goal.returns-in_err-begin-clause-ended
-returns-in_err-begin-clause-ended g c = tracked_no c.args.low c.args.high c.from_residual.result c.from_residual.ensures c.in_err-begin.ensures.err
+pub returns-in_err-begin-clause-held_up : goal.returns-in_err-begin-clause-held_up
+returns-in_err-begin-clause-held_up g c =
+    found_no (IsPlanInTransaction c.args.low c.args.high) c.from_residual.result c.from_residual.ensures (held_at_once (scans Current c.args.low c.args.high ∷ scans Savings c.args.low c.args.high ∷ command.Commit ∷ []) c.in_err-begin.ensures.err refl c.begin.ensures.went refl)
 
-pub returns-in_err-current-clause-on : goal.returns-in_err-current-clause-on
-returns-in_err-current-clause-on g c = goes c.begin.ensures.on c.find.ensures.on
+pub returns-in_err-current-clause-held_up : goal.returns-in_err-current-clause-held_up
+returns-in_err-current-clause-held_up g c =
+    found_no (IsPlanInTransaction c.args.low c.args.high) c.from_residual-in_err-current.result c.from_residual-in_err-current.ensures
+    (held_up (scans Savings c.args.low c.args.high ∷ command.Commit ∷ []) c.in_ok-begin.ensures.under_way c.find.ensures.went c.in_err-current.ensures.err refl)
 
-pub returns-in_err-current-clause-ended : goal.returns-in_err-current-clause-ended
-returns-in_err-current-clause-ended g c = tracked_no c.args.low c.args.high c.from_residual-in_err-current.result c.from_residual-in_err-current.ensures (gave_up c.in_ok-begin.ensures.begun c.find.ensures.went c.in_err-current.ensures.err)
+pub returns-in_err-savings-clause-held_up : goal.returns-in_err-savings-clause-held_up
+returns-in_err-savings-clause-held_up g c =
+    found_no (IsPlanInTransaction c.args.low c.args.high) c.from_residual-in_err-savings.result c.from_residual-in_err-savings.ensures
+    (held_up (command.Commit ∷ []) (way_on c.in_ok-begin.ensures.under_way c.find.ensures.went c.in_ok-current.ensures.done) c.find-2.ensures.went c.in_err-savings.ensures.err refl)
 
-pub returns-in_err-savings-clause-on : goal.returns-in_err-savings-clause-on
-returns-in_err-savings-clause-on g c = goes (goes c.begin.ensures.on c.find.ensures.on) c.find-2.ensures.on
-
-pub returns-in_err-savings-clause-ended : goal.returns-in_err-savings-clause-ended
-returns-in_err-savings-clause-ended g c = tracked_no c.args.low c.args.high c.from_residual-in_err-savings.result c.from_residual-in_err-savings.ensures (gave_up (begun_then c.in_ok-begin.ensures.begun c.find.ensures.went) c.find-2.ensures.went c.in_err-savings.ensures.err)
-
-pub returns-in_err-commit-clause-on : goal.returns-in_err-commit-clause-on
-returns-in_err-commit-clause-on g c = goes (goes (goes c.begin.ensures.on c.find.ensures.on) c.find-2.ensures.on) c.commit.ensures.on
-
-pub returns-in_err-commit-clause-ended : goal.returns-in_err-commit-clause-ended
-returns-in_err-commit-clause-ended g c =
+pub returns-in_err-commit-clause-held_up : goal.returns-in_err-commit-clause-held_up
+returns-in_err-commit-clause-held_up g c =
     let one = finds Current c.args.low c.args.high c.in_ok-current.current in
-    let two = finds Savings c.args.low c.args.high c.in_ok-savings.savings in
     let second = c.in_ok-current.ensures.at [] c.in_ok-begin.ensures.at in
     let third = c.in_ok-savings.ensures.at (one ∷ []) second in
-    tracked_no c.args.low c.args.high c.from_residual-in_err-commit.result c.from_residual-in_err-commit.ensures
-    (gave_up (begun_then (begun_then c.in_ok-begin.ensures.begun c.find.ensures.went) c.find-2.ensures.went) (c.in_err-commit.ensures.undone (one ∷ two ∷ []) third) c.in_err-commit.ensures.err)
+    found_no (IsPlanInTransaction c.args.low c.args.high) c.from_residual-in_err-commit.result c.from_residual-in_err-commit.ensures
+    (held_up [] (way_on (way_on c.in_ok-begin.ensures.under_way c.find.ensures.went c.in_ok-current.ensures.done) c.find-2.ensures.went c.in_ok-savings.ensures.done) (c.in_err-commit.ensures.undone _ third) c.in_err-commit.ensures.err refl)
 
-pub returns-clause-on : goal.returns-clause-on
-returns-clause-on g c = goes (goes (goes c.begin.ensures.on c.find.ensures.on) c.find-2.ensures.on) c.commit.ensures.on
-
-pub returns-clause-ended : goal.returns-clause-ended
-returns-clause-ended g c =
+pub returns-clause-did : goal.returns-clause-did
+returns-clause-did g c =
     let one = finds Current c.args.low c.args.high c.in_ok-current.current in
-    let two = finds Savings c.args.low c.args.high c.in_ok-savings.savings in
     let second = c.in_ok-current.ensures.at [] c.in_ok-begin.ensures.at in
     let third = c.in_ok-savings.ensures.at (one ∷ []) second in
-    did_audit_in_transaction (begun_then (begun_then c.in_ok-begin.ensures.begun c.find.ensures.went) c.find-2.ensures.went) (c.in_ok-commit.ensures.done (one ∷ two ∷ []) third) refl
+    did_audit_in_transaction (way_on (way_on c.in_ok-begin.ensures.under_way c.find.ensures.went c.in_ok-current.ensures.done) c.find-2.ensures.went c.in_ok-savings.ensures.done) c.in_ok-commit.ensures.done (c.in_ok-commit.ensures.commits _ third) refl refl

@@ -1,74 +1,60 @@
-use Rattle.std.proofs.Common.{[], ◌∷◌, ap}
-use Rattle.erm_accounts.specs.Accounts.{Account, reads, writes}
-use Rattle.erm_tellers.proofs.Behind.{begun_then, did_serve, fell_short, gave_up, goes, served_no}
+use Rattle.std.proofs.Common.{[], ◌∷◌, refl}
+use Rattle.erm_accounts.specs.Accounts.{beside, reads}
+use Rattle.erm_script.specs.declared.script.Command.TheVariants as command
+use Rattle.erm_tellers.proofs.Behind.{attempted_no, did_serve, finds_short, held_at_once, held_up, way_on}
 use Rattle.erm_tellers.proofs.Asked.{withdraws}
 use Rattle.erm_tellers.proofs.tellers.take.Goals as goal
 use Rattle.erm_tellers.specs.declared.tellers.Task.TheVariants as task
+use Rattle.erm_tellers.specs.Plans.{gets_other, gets_own, puts_own}
 use Rattle.erm_tellers.specs.Tellers.{account_of}
 
-pub returns-in_err-begin-clause-ended : goal.returns-in_err-begin-clause-ended
-returns-in_err-begin-clause-ended g c = served_no (task.Withdraw c.args.holder c.args.amount) c.from_residual.result c.from_residual.ensures c.in_err-begin.ensures.err
+pub returns-in_err-begin-clause-came_to : goal.returns-in_err-begin-clause-came_to
+returns-in_err-begin-clause-came_to g c =
+    attempted_no (task.Withdraw c.args.holder c.args.amount) c.from_residual.result c.from_residual.ensures
+    (held_at_once (gets_own c.args.holder ∷ gets_other c.args.holder ∷ puts_own c.args.holder [] ∷ command.Commit ∷ []) c.in_err-begin.ensures.err refl c.begin.ensures.went ([], refl))
 
-pub returns-in_err-own-clause-on : goal.returns-in_err-own-clause-on
-returns-in_err-own-clause-on g c = goes c.begin.ensures.on c.read.ensures.on
+pub returns-in_err-own-clause-came_to : goal.returns-in_err-own-clause-came_to
+returns-in_err-own-clause-came_to g c =
+    attempted_no (task.Withdraw c.args.holder c.args.amount) c.from_residual-in_err-own.result c.from_residual-in_err-own.ensures
+    (held_up (gets_other c.args.holder ∷ puts_own c.args.holder [] ∷ command.Commit ∷ []) c.in_ok-begin.ensures.under_way c.read.ensures.went c.in_err-own.ensures.err ([], refl))
 
-pub returns-in_err-own-clause-ended : goal.returns-in_err-own-clause-ended
-returns-in_err-own-clause-ended g c = served_no (task.Withdraw c.args.holder c.args.amount) c.from_residual-in_err-own.result c.from_residual-in_err-own.ensures (gave_up c.in_ok-begin.ensures.begun c.read.ensures.went c.in_err-own.ensures.err)
+pub returns-in_err-other-clause-came_to : goal.returns-in_err-other-clause-came_to
+returns-in_err-other-clause-came_to g c =
+    attempted_no (task.Withdraw c.args.holder c.args.amount) c.from_residual-in_err-other.result c.from_residual-in_err-other.ensures
+    (held_up (puts_own c.args.holder [] ∷ command.Commit ∷ []) (way_on c.in_ok-begin.ensures.under_way c.read.ensures.went c.in_ok-own.ensures.done) c.read_beside.ensures.went c.in_err-other.ensures.err ([], refl))
 
-pub returns-in_err-other-clause-on : goal.returns-in_err-other-clause-on
-returns-in_err-other-clause-on g c = goes (goes c.begin.ensures.on c.read.ensures.on) c.read-2.ensures.on
+pub returns-in_err-write-clause-came_to : goal.returns-in_err-write-clause-came_to
+returns-in_err-write-clause-came_to g c =
+    attempted_no (task.Withdraw c.args.holder c.args.amount) c.from_residual-in_err-write.result c.from_residual-in_err-write.ensures
+    (held_up (command.Commit ∷ []) (way_on (way_on c.in_ok-begin.ensures.under_way c.read.ensures.went c.in_ok-own.ensures.done) c.read_beside.ensures.went c.in_ok-other.ensures.done) c.write.ensures.went c.in_err-write.ensures.err (c.in-Some.left, refl))
 
-pub returns-in_err-other-clause-ended : goal.returns-in_err-other-clause-ended
-returns-in_err-other-clause-ended g c = served_no (task.Withdraw c.args.holder c.args.amount) c.from_residual-in_err-other.result c.from_residual-in_err-other.ensures (gave_up (begun_then c.in_ok-begin.ensures.begun c.read.ensures.went) c.read-2.ensures.went c.in_err-other.ensures.err)
+pub returns-in_err-commit-clause-came_to : goal.returns-in_err-commit-clause-came_to
+returns-in_err-commit-clause-came_to g c =
+    let second = c.in_ok-own.ensures.at [] c.in_ok-begin.ensures.at in
+    let third = c.in_ok-other.ensures.at (reads (account_of c.args.holder.side) c.args.holder.customer c.in_ok-own.own ∷ []) second in
+    let fourth = c.in_ok-write.ensures.at (reads (account_of c.args.holder.side) c.args.holder.customer c.in_ok-own.own ∷ reads (beside (account_of c.args.holder.side)) c.args.holder.customer c.in_ok-other.other ∷ []) third in
+    attempted_no (task.Withdraw c.args.holder c.args.amount) c.from_residual-in_err-commit.result c.from_residual-in_err-commit.ensures
+    (held_up [] (way_on (way_on (way_on c.in_ok-begin.ensures.under_way c.read.ensures.went c.in_ok-own.ensures.done) c.read_beside.ensures.went c.in_ok-other.ensures.done) c.write.ensures.went c.in_ok-write.ensures.done) (c.in_err-commit.ensures.undone _ fourth) c.in_err-commit.ensures.err (c.in-Some.left, refl))
+
+pub returns-in_default-clause-came_to : goal.returns-in_default-clause-came_to
+returns-in_default-clause-came_to g c =
+    let second = c.in_ok-own.ensures.at [] c.in_ok-begin.ensures.at in
+    let third = c.in_ok-other.ensures.at (reads (account_of c.args.holder.side) c.args.holder.customer c.in_ok-own.own ∷ []) second in
+    finds_short (way_on (way_on c.in_ok-begin.ensures.under_way c.read.ensures.went c.in_ok-own.ensures.done) c.read_beside.ensures.went c.in_ok-other.ensures.done) third (c.in_ok-own.own, c.in_ok-other.other, refl, c.in_default.ensures.none)
+
+pub returns-clause-came_to : goal.returns-clause-came_to
+returns-clause-came_to g c =
+    let second = c.in_ok-own.ensures.at [] c.in_ok-begin.ensures.at in
+    let third = c.in_ok-other.ensures.at (reads (account_of c.args.holder.side) c.args.holder.customer c.in_ok-own.own ∷ []) second in
+    let fourth = c.in_ok-write.ensures.at (reads (account_of c.args.holder.side) c.args.holder.customer c.in_ok-own.own ∷ reads (beside (account_of c.args.holder.side)) c.args.holder.customer c.in_ok-other.other ∷ []) third in
+    did_serve (way_on (way_on (way_on c.in_ok-begin.ensures.under_way c.read.ensures.went c.in_ok-own.ensures.done) c.read_beside.ensures.went c.in_ok-other.ensures.done) c.write.ensures.went c.in_ok-write.ensures.done) c.in_ok-commit.ensures.done (c.in_ok-commit.ensures.commits _ fourth)
+    (withdraws c.args.holder c.args.amount (beside (account_of c.args.holder.side)) c.in_ok-own.own c.in_ok-other.other c.in-Some.left refl c.in-Some.ensures.left c.in-Some.ensures.covered c.in-Some.ensures.readable) (c.in-Some.left, refl)
 
 pub returns-in_err-write-clause-on : goal.returns-in_err-write-clause-on
-returns-in_err-write-clause-on g c = goes (goes (goes c.begin.ensures.on c.read.ensures.on) c.read-2.ensures.on) c.write.ensures.on
-
-pub returns-in_err-write-clause-ended : goal.returns-in_err-write-clause-ended
-returns-in_err-write-clause-ended g c = served_no (task.Withdraw c.args.holder c.args.amount) c.from_residual-in_err-write.result c.from_residual-in_err-write.ensures (gave_up (begun_then (begun_then c.in_ok-begin.ensures.begun c.read.ensures.went) c.read-2.ensures.went) c.write.ensures.went c.in_err-write.ensures.err)
+returns-in_err-write-clause-on g c = let goes = g.met.X.Transactions.goes_on in goes _ _ _ (goes _ _ _ (goes _ _ _ c.begin.ensures.on c.read.ensures.on) c.read_beside.ensures.on) c.write.ensures.on
 
 pub returns-in_err-commit-clause-on : goal.returns-in_err-commit-clause-on
-returns-in_err-commit-clause-on g c = goes (goes (goes (goes c.begin.ensures.on c.read.ensures.on) c.read-2.ensures.on) c.write.ensures.on) c.commit.ensures.on
-
-pub returns-in_err-commit-clause-ended : goal.returns-in_err-commit-clause-ended
-returns-in_err-commit-clause-ended g c =
-    let holder = c.args.holder in
-    let account = account_of holder.side in
-    let one = reads account holder.customer c.in_ok-own.own in
-    let two = reads (account_of c.beside.result) holder.customer c.in_ok-other.other in
-    let three = writes account holder.customer c.in-Some.left in
-    let second = c.in_ok-own.ensures.at [] c.in_ok-begin.ensures.at in
-    let third = c.in_ok-other.ensures.at (one ∷ []) second in
-    let fourth = c.in_ok-write.ensures.at (one ∷ two ∷ []) third in
-    served_no (task.Withdraw c.args.holder c.args.amount) c.from_residual-in_err-commit.result c.from_residual-in_err-commit.ensures
-    (gave_up (begun_then (begun_then (begun_then c.in_ok-begin.ensures.begun c.read.ensures.went) c.read-2.ensures.went) c.write.ensures.went) (c.in_err-commit.ensures.undone (one ∷ two ∷ three ∷ []) fourth) c.in_err-commit.ensures.err)
-
-pub returns-in_default-clause-on : goal.returns-in_default-clause-on
-returns-in_default-clause-on g c = goes (goes c.begin.ensures.on c.read.ensures.on) c.read-2.ensures.on
-
-pub returns-in_default-clause-ended : goal.returns-in_default-clause-ended
-returns-in_default-clause-ended g c =
-    let holder = c.args.holder in
-    let account = account_of holder.side in
-    let one = reads account holder.customer c.in_ok-own.own in
-    let second = c.in_ok-own.ensures.at [] c.in_ok-begin.ensures.at in
-    let third = c.in_ok-other.ensures.at (one ∷ []) second in
-    let two = reads (account_of c.beside.result) holder.customer c.in_ok-other.other in
-    let steps_are = ap (λ (x : Account). one ∷ reads x holder.customer c.in_ok-other.other ∷ []) c.beside.ensures in
-    fell_short {steps = one ∷ two ∷ []} (begun_then (begun_then c.in_ok-begin.ensures.begun c.read.ensures.went) c.read-2.ensures.went) third (c.in_ok-own.own, c.in_ok-other.other, steps_are, c.in_default.ensures.none)
+returns-in_err-commit-clause-on g c = let goes = g.met.X.Transactions.goes_on in goes _ _ _ (goes _ _ _ (goes _ _ _ (goes _ _ _ c.begin.ensures.on c.read.ensures.on) c.read_beside.ensures.on) c.write.ensures.on) c.commit.ensures.on
 
 pub returns-clause-on : goal.returns-clause-on
-returns-clause-on g c = goes (goes (goes (goes c.begin.ensures.on c.read.ensures.on) c.read-2.ensures.on) c.write.ensures.on) c.commit.ensures.on
-
-pub returns-clause-ended : goal.returns-clause-ended
-returns-clause-ended g c =
-    let holder = c.args.holder in
-    let account = account_of holder.side in
-    let one = reads account holder.customer c.in_ok-own.own in
-    let two = reads (account_of c.beside.result) holder.customer c.in_ok-other.other in
-    let three = writes account holder.customer c.in-Some.left in
-    let second = c.in_ok-own.ensures.at [] c.in_ok-begin.ensures.at in
-    let third = c.in_ok-other.ensures.at (one ∷ []) second in
-    let fourth = c.in_ok-write.ensures.at (one ∷ two ∷ []) third in
-    did_serve (begun_then (begun_then (begun_then c.in_ok-begin.ensures.begun c.read.ensures.went) c.read-2.ensures.went) c.write.ensures.went) (c.in_ok-commit.ensures.done (one ∷ two ∷ three ∷ []) fourth)
-    (withdraws holder c.args.amount (account_of c.beside.result) c.in_ok-own.own c.in_ok-other.other c.in-Some.left c.beside.ensures c.in-Some.ensures.left c.in-Some.ensures.covered c.in-Some.ensures.readable)
+returns-clause-on g c = let goes = g.met.X.Transactions.goes_on in goes _ _ _ (goes _ _ _ (goes _ _ _ (goes _ _ _ c.begin.ensures.on c.read.ensures.on) c.read_beside.ensures.on) c.write.ensures.on) c.commit.ensures.on

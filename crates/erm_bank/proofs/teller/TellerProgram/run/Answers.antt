@@ -36,6 +36,7 @@ errands-preserved g c =
       few = few;
       room = (let room = at.room in let kept = c.push_reserved.ensures.capacity in omega (arith, room, kept));
       all = at.all;
+      least = at.least;
       long = longer_told c.errands.self.told.items tells c.push_reserved.new.self.items c.errands.place pushed at.long;
       did = subst (λ ts. DidAll most ts errands c.args.client.now.transcript after) (sym pushed)
           (did_more most c.errands.self.told.items errands asked tells c.args.client.now.transcript before after (subst (λ k. slice_get errands k ≡ Some asked) (sym at.long) there) at.did did.came_to);
@@ -57,9 +58,10 @@ returns-clause-promised g c =
         until = c.errands.client.transcript;
         fresh = (let new = c.requires.new in record { seat_is = refl; lines = new.lines; answers = new.answers; opened = new.opened });
         did = at.did;
-        waited = c.wait_for_disk.ensures.went;
+        waited = c.wait_for_disk.ensures.waited;
       };
       all = λ enough. (let all = at.all enough in let done = c.errands-test.false in let told = at.long in let few = at.few in omega (arith, all, done, told, few));
+      least = (let least = at.least in let done = c.errands-test.false in let told = at.long in let few = at.few in omega (arith, least, done, told, few));
       serves = all_still (IsServing c.args.self.now.errands.items) c.wait_for_disk.ensures.went at.serves;
       shown = λ low high total there. shows_still c.errands.client.transcript c.wait_for_disk.new.client.transcript 0 c.wait_for_disk.ensures.went low high total (at.shown low high total there);
     }

@@ -1,5 +1,5 @@
 use Rattle.std.proofs.Common.{◌≡◌, ℕ, ◌≤◌, length}
-use Rattle.std.specs.Prelude.{max, vec_capacity, vec_len}
+use Rattle.std.specs.Prelude.{max, min, vec_capacity, vec_len}
 use Rattle.erm_bank.proofs.teller.TellerProgram.run.Given as goal
 use Rattle.erm_bank.specs.declared.teller.Told.TheVariants as told
 use Rattle.erm_bank.specs.Tellers.{DidAll, IsServing, IsShown}
@@ -16,6 +16,7 @@ invariant-errands g l = record {
   few : l.many ≤ vec_len l.fn.self.errands;
   room : l.many ≤ vec_capacity l.self.told;
   all : vec_len l.fn.self.errands ≤ vec_capacity l.fn.self.told → l.many ≡ vec_len l.fn.self.errands;
+  least : min (vec_len l.fn.self.errands) (vec_capacity l.fn.self.told) ≤ l.many;
   long : length l.self.told.items ≡ l.place;
   did : DidAll (max l.fn.self.tries 1) l.self.told.items l.fn.self.errands.items l.fn.client.transcript l.client.transcript;
   serves : AllCommitted (IsServing l.fn.self.errands.items) l.client.transcript;

@@ -1,0 +1,7 @@
+use Rattle.std.proofs.Common.{refl}
+use Rattle.erm_client.specs.Transcripts.{answered}
+use Rattle.erm_client_cases.proofs.planted.PlantedTransactions.begin.Goals as goal
+use Rattle.erm_report.specs.declared.answer.Answer.TheVariants as answer
+
+pub returns-then-is_some-clause-err : goal.returns-then-is_some-clause-err
+returns-then-is_some-clause-err g c = answered answer.NotIdle c.in_ok-note.ensures.ok refl
