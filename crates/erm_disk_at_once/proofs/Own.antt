@@ -88,7 +88,7 @@ module _ (state : State) (o : Start) (t : OpensTable state o) (blocks : List Blo
       tells_join (MeetsFound state (flushed_log o []) slots) (MeetsMore sound_law o blocks) (LeavesOwn commits marks state) before mid after
       (λ a b c found goes.
       let later = goes (found.blocks ++ open_block state.at state.run ∷ []) slots found.tail in
-      left_own state (flushed_log o blocks) is commits has marks are stay t.tail slots a c (record { pair = found.pair; blocks = found.blocks; recovers = found.recovers; at = found.at; tail = later.1 }))
+      left_own state (flushed_log o blocks) is commits has marks are stay t.tail later.0 a c (record { pair = found.pair; blocks = found.blocks; recovers = found.recovers; at = found.at; tail = later.1 }))
       met more
 
 -- and where nothing was run behind the opening

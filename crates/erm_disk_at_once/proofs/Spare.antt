@@ -19,7 +19,7 @@ use Rattle.erm_spare_names.specs.Spare.{NamesOnlyFirst}
 use Rattle.erm_spare_names.proofs.Seats.{IsSaidOfFirst, each_before, each_either, each_joined, each_mapped, each_member, filter_within, marks_without_spare, spare_is_idle}
 
 -- places of lines and of sessions that were closed, all of which are among the first ones
-close_said : Closed → Said
+abbrev close_said : Closed → Said
 close_said c = record { session = c.session; asked = None; answer = c.answer }
 
 said_first : (sessions : ℕ) (script : List ScriptLine) (answers : List Answer) → AllByRecursion (λ l. l.session ≤ sessions) script → IsSaidOfFirst sessions (said_of script answers)
